@@ -1,0 +1,3 @@
+-- What the contracts of `exact` cite.
+pub mod Nearest
+pub mod Next

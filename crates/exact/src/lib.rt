@@ -1,0 +1,57 @@
+// Exact whole-number arithmetic: "nearest", halves away from zero, and one step of an index.
+//
+// These functions serve the crates above. What a user of the index calls stands in the crates above
+// this one.
+
+ghost use mathlib.Core.Path.{_≡_};
+ghost use Prim.Native.Nat.{ℕ, _≤_};
+ghost use lib.IntN.{pos, natAbs};
+ghost use Rattle.exact.specs.Nearest.{nearestℕ, nearest, clip};
+ghost use Rattle.exact.specs.Next.{nextOf, mostX, mostZ};
+
+// The weights of one step of an index: (2691 x + 1000 Z) / 3000.
+const OF_X: i64 = 2691;
+
+const OF_Z: i64 = 1000;
+
+const OVER: i64 = 3000;
+
+// The whole number nearest to n / d, halves up, and 0 where d is 0.
+pub fn nearest_unsigned(n: u64, d: u64) -> u64
+    ensures { λ r. ⌜ r ≡ nearestℕ n d ⌝ }
+{
+    if d == 0 {
+        return 0;
+    }
+    let q = n / d;
+    let r = n % d;
+    if r >= d - r { q + 1 } else { q }
+}
+
+// The whole number nearest to n / d, halves away from zero, and 0 where d is not above 0.
+pub fn nearest_signed(n: i64, d: i64) -> i64
+    ensures { λ r. ⌜ r ≡ nearest n (clip d) ⌝ }
+{
+    if d <= 0 {
+        return 0;
+    }
+    let q = n / d;
+    let r = n % d;
+    if r < 0 {
+        if d + r <= 0 - r { q - 1 } else { q }
+    } else {
+        if d - r <= r { q + 1 } else { q }
+    }
+}
+
+// next(x) = nearest to (2691 x + 1000 Z) / 3000. For the crates above, which hold x and Z in range.
+pub fn next(x: i32, z: i32) -> i32
+    requires { ⌜ natAbs x ≤ mostX ⌝ }
+    requires { ⌜ natAbs z ≤ mostZ ⌝ }
+    ensures { λ r. ⌜ r ≡ nextOf x z ⌝ }
+    ensures { λ r. ⌜ natAbs r ≤ mostX ⌝ }
+{
+    let a = x as i64;
+    let b = z as i64;
+    nearest_signed(OF_X * a + OF_Z * b, OVER) as i32
+}
