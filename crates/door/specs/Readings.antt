@@ -1,0 +1,43 @@
+-- Document 01, "Readings at the door": a reading is one of four, and the answer is the nearest thousandth of an inch to the exact value of
+-- the number. Assumes nothing.
+use Prim.Native.Nat.{ℕ}
+use mathlib.Core.Bool.{Bool, cond}
+use lib.IntN.{ℤ, pos, negsuc}
+use lib.Dec.{leb}
+use lib.Ieee.{Float}
+use Rattle.door.specs.Exact.{within, nearestTo}
+use Rattle.door.specs.Outcome.{Outcome, MonthOutcomes, accepted, refused, missing, notAcceptable}
+use Rattle.door.specs.declared.Reading.{Reading}
+use Rattle.door.specs.declared.Reading.the-variants.{Whole, Inches, Millimetres, Missing}
+use Rattle.door.specs.declared.MonthInches.{MonthInches}
+
+-- 100 inches: the most that a reading gives, in thousandths
+abbrev pub mostReading : ℕ
+mostReading = 100000
+
+-- "whole thousandths (0 to 100,000)"
+unfoldable pub whole : ℤ → Outcome
+whole (pos n) = cond (leb n mostReading) (accepted n) (refused notAcceptable)
+whole (negsuc n) = refused notAcceptable
+
+-- a binary32 number from 0 to `most`, of which one is per / of thousandths
+unfoldable pub converted : ℕ → ℕ → ℕ → Float → Outcome
+converted most per of x = cond (within most x) (accepted (nearestTo per of x)) (refused notAcceptable)
+
+-- "inches as an IEEE 754 binary32 number (0 to 100)"
+unfoldable pub inches : Float → Outcome
+inches x = converted 100 1000 1 x
+
+-- "millimetres as binary32 (0 to 2,540)", "for millimetres that is value x 5000/127"
+unfoldable pub millimetres : Float → Outcome
+millimetres x = converted 2540 5000 127 x
+
+unfoldable pub reading : Reading → Outcome
+reading (Whole n) = whole n
+reading (Inches x) = inches x
+reading (Millimetres x) = millimetres x
+reading Missing = refused missing
+
+-- "One month's precipitation and PE may arrive together as two binary32 inches."
+unfoldable pub month : MonthInches → MonthOutcomes
+month q = record { p = inches (q .p); pe = inches (q .pe) }

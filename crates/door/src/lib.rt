@@ -1,0 +1,163 @@
+// Readings at the door: what a gauge says, as whole thousandths of an inch or a refusal.
+//
+// A binary32 number is judged by comparisons and by the bits of its pattern alone; no float is added,
+// multiplied or rounded.
+
+ghost use mathlib.Core.Path.{_≡_};
+ghost use Prim.Native.Nat.{ℕ, _*_, _/_, _^_, _<_, _≤_};
+ghost use lib.Dec.{T};
+ghost use Rattle.exact.specs.Nearest.{nearestℕ};
+ghost use Rattle.door.specs.Exact.{within, nearestTo};
+ghost use Rattle.door.specs.Readings.{whole, inches, millimetres, reading, month};
+ghost use Rattle.door.specs.Outcome.{outcome, outcomes};
+
+// A reading is one of four.
+pub enum Reading {
+    // Whole thousandths of an inch, 0 to 100,000.
+    Whole(i32),
+    // Inches, 0 to 100.
+    Inches(f32),
+    // Millimetres, 0 to 2,540.
+    Millimetres(f32),
+    Missing,
+}
+
+// What a reading answers. `outcome` gives each case the paper's number and thousandths.
+pub enum Answer {
+    // 0: thousandths of an inch.
+    Water(u32),
+    // 8: reading missing.
+    NoReading,
+    // 9: reading not acceptable.
+    NotAcceptable,
+}
+
+// One month's precipitation and PE, in inches.
+pub struct MonthInches {
+    pub p: f32,
+    pub pe: f32,
+}
+
+pub struct MonthAnswers {
+    pub p: Answer,
+    pub pe: Answer,
+}
+
+// The ends of the three ranges.
+const MOST_WHOLE: i32 = 100_000;
+
+const MOST_INCHES: f32 = 100.0;
+
+const MOST_MILLIMETRES: f32 = 2540.0;
+
+// num without its lowest `places` binary places. One place goes per pass.
+fn stripped(num: u64, places: u32) -> u64
+    ensures { λ r. ⌜ r ≡ num / 2 ^ places ⌝ }
+{
+    let mut n = num;
+    let mut i: u32 = 0;
+    while i < places {
+        n = n / 2;
+        i += 1;
+    }
+    n
+}
+
+// The whole number nearest to num / (of * 2 ^ places). All places but one are stripped first: the one
+// that is left, with `of`, still tells a half and what is above it from what is below.
+fn part(num: u64, of: u64, places: u32) -> u32
+    requires { ⌜ (num < 2 ^ 37) × (0 < of) × (of ≤ 5000) × (12 ≤ places) ⌝ }
+    ensures { λ r. ⌜ r ≡ nearestℕ num (of * 2 ^ places) ⌝ }
+{
+    exact::nearest_unsigned(stripped(num, places - 1), 2 * of) as u32
+}
+
+// The whole number nearest to x * per / of, from the exponent and the fraction of x: x is the fraction
+// times 2 ^ -149 where the exponent's field is 0, and otherwise the fraction with its hidden digit
+// times 2 ^ (field - 150).
+fn nearest_to(x: f32, per: u64, of: u64) -> u32
+    requires { ⌜ T (within 2540 x) × (per ≤ 5000) × (0 < of) × (of ≤ 5000) ⌝ }
+    ensures { λ r. ⌜ r ≡ nearestTo per of x ⌝ }
+{
+    let bits: u32 = f32::to_bits(x);
+    let exponent: u32 = bits % 0x8000_0000 / 0x80_0000;
+    let fraction: u32 = bits % 0x80_0000;
+    if exponent == 0 {
+        part((fraction as u64) * per, of, 149)
+    } else {
+        part(((fraction + 0x80_0000) as u64) * per, of, 150 - exponent)
+    }
+}
+
+// A number of inches. A NaN passes no comparison, so both tests must pass.
+pub fn read_inches(x: f32) -> Answer
+    ensures { λ r. ⌜ outcome r ≡ inches x ⌝ }
+{
+    if x >= 0.0 && x <= MOST_INCHES {
+        return Answer::Water(nearest_to(x, 1000, 1));
+    }
+    Answer::NotAcceptable
+}
+
+// A number of millimetres, of which 127 are 5,000 thousandths of an inch.
+pub fn read_millimetres(x: f32) -> Answer
+    ensures { λ r. ⌜ outcome r ≡ millimetres x ⌝ }
+{
+    if x >= 0.0 && x <= MOST_MILLIMETRES {
+        return Answer::Water(nearest_to(x, 5000, 127));
+    }
+    Answer::NotAcceptable
+}
+
+// A whole number of thousandths.
+pub fn read_whole(n: i32) -> Answer
+    ensures { λ r. ⌜ outcome r ≡ whole n ⌝ }
+{
+    if n >= 0 && n <= MOST_WHOLE {
+        return Answer::Water(n as u32);
+    }
+    Answer::NotAcceptable
+}
+
+// A reading.
+pub fn read(r: Reading) -> Answer
+    ensures { λ a. ⌜ outcome a ≡ reading r ⌝ }
+{
+    match r {
+        Reading::Whole(n) => read_whole(n),
+        Reading::Inches(x) => read_inches(x),
+        Reading::Millimetres(x) => read_millimetres(x),
+        Reading::Missing => Answer::NoReading,
+    }
+}
+
+// One month's precipitation and PE that arrive together, each by itself.
+pub fn read_month(q: MonthInches) -> MonthAnswers
+    ensures { λ r. ⌜ outcomes r ≡ month q ⌝ }
+{
+    let p = read_inches(q.p);
+    let pe = read_inches(q.pe);
+    MonthAnswers { p, pe }
+}
+
+// The paper's number of an answer: 0, 8 or 9.
+pub fn number(a: Answer) -> u8
+    ensures { λ r. ⌜ r ≡ outcome a .number ⌝ }
+{
+    match a {
+        Answer::Water(_) => 0,
+        Answer::NoReading => 8,
+        Answer::NotAcceptable => 9,
+    }
+}
+
+// The thousandths of an answer, 0 where it is a refusal.
+pub fn water(a: Answer) -> u32
+    ensures { λ r. ⌜ r ≡ outcome a .water ⌝ }
+{
+    match a {
+        Answer::Water(n) => n,
+        Answer::NoReading => 0,
+        Answer::NotAcceptable => 0,
+    }
+}
