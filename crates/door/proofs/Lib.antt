@@ -4,3 +4,4 @@ pub mod Range
 pub mod Fields
 pub mod Answers
 pub mod OneAnswer
+pub mod Bounds

@@ -1,0 +1,4 @@
+-- What the proofs of `drought` share.
+pub mod Taken
+pub mod Refused
+pub mod Readiness

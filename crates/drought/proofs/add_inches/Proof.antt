@@ -1,0 +1,61 @@
+-- `drought::add_inches` meets its contract: the month's two answers, and then `add_answers`. Assumes nothing.
+use mathlib.Core.Path.{_≡_, sym, ap, _∙_}
+use borrow.Author.Needs.{needs}
+use Rattle.door.specs.Outcome.{Outcome, MonthOutcomes, outcome}
+use Rattle.door.specs.Readings.{inches, month}
+use Rattle.door.proofs.Bounds.{inches-most}
+use Rattle.drought.specs.Asked.{addInches}
+use Rattle.drought.proofs.add_inches.Statement.{statement}
+use Rattle.drought.proofs.add_inches.Tie as tie
+
+read-month-requires : tie.Need-read-month-requires
+read-month-requires c κs = search needs
+
+-- each of the two
+first : (c : tie.After-read-month) → outcome (c .read-month .result .p) ≡ month (c .before .before .args .q) .p
+first c = ap (λ (m : MonthOutcomes). m .p) (c .read-month .ensures)
+
+second : (c : tie.After-read-month) → outcome (c .read-month .result .pe) ≡ month (c .before .before .args .q) .pe
+second c = ap (λ (m : MonthOutcomes). m .pe) (c .read-month .ensures)
+
+add-answers-requires : tie.Need-add-answers-requires
+unfolding month
+add-answers-requires c κs =
+    let d = c .before .before .before .before .before in
+    let q = d .before .before .args .q in
+    rw (first d, second d) (inches-most (q .p), inches-most (q .pe))
+
+same-length : tie.Need-same-length
+same-length c = search needs
+
+same-length-2 : tie.Need-same-length-2
+same-length-2 c = search needs
+
+same-length-3 : tie.Need-same-length-3
+same-length-3 c = search needs
+
+same-length-4 : tie.Need-same-length-4
+same-length-4 c = search needs
+
+same-length-5 : tie.Need-same-length-5
+same-length-5 c = search needs
+
+returns : tie.Need-returns
+unfolding addInches
+returns c =
+    let t = c .before .before .before .before .before .before in
+    let d = t .before .before .before .before .before .before in
+    rw (first d, second d) at (t .add-answers .ensures)
+
+pub add-inches-spec : {M : Type 1} → statement M
+add-inches-spec =
+    tie.close
+    (tie.spec
+    read-month-requires
+    add-answers-requires
+    same-length
+    same-length-2
+    same-length-3
+    same-length-4
+    same-length-5
+    returns)

@@ -1,0 +1,55 @@
+-- `drought::add_water` meets its contract: the two readings' answers, and then `add_answers`. Assumes nothing.
+use mathlib.Core.Path.{_≡_, sym, ap, _∙_}
+use borrow.Author.Needs.{needs}
+use Rattle.door.proofs.Bounds.{reading-most}
+use Rattle.drought.specs.Asked.{addWater}
+use Rattle.drought.proofs.add_water.Statement.{statement}
+use Rattle.drought.proofs.add_water.Tie as tie
+
+read-requires : tie.Need-read-requires
+read-requires c κs = search needs
+
+read-requires-2 : tie.Need-read-requires-2
+read-requires-2 c κs = search needs
+
+add-answers-requires : tie.Need-add-answers-requires
+add-answers-requires c κs =
+    let d = c .before .before .before .before .before in
+    let a = d .before .before .before .args in
+    rw (d .before .read .ensures, d .read2 .ensures) (reading-most (a .p), reading-most (a .pe))
+
+same-length : tie.Need-same-length
+same-length c = search needs
+
+same-length-2 : tie.Need-same-length-2
+same-length-2 c = search needs
+
+same-length-3 : tie.Need-same-length-3
+same-length-3 c = search needs
+
+same-length-4 : tie.Need-same-length-4
+same-length-4 c = search needs
+
+same-length-5 : tie.Need-same-length-5
+same-length-5 c = search needs
+
+returns : tie.Need-returns
+unfolding addWater
+returns c =
+    let t = c .before .before .before .before .before .before in
+    let d = t .before .before .before .before .before .before in
+    rw (d .before .read .ensures, d .read2 .ensures) at (t .add-answers .ensures)
+
+pub add-water-spec : {M : Type 1} → statement M
+add-water-spec =
+    tie.close
+    (tie.spec
+    read-requires
+    read-requires-2
+    add-answers-requires
+    same-length
+    same-length-2
+    same-length-3
+    same-length-4
+    same-length-5
+    returns)

@@ -1,0 +1,101 @@
+-- `drought::add_z` meets its contract: its number is the definition's, and then it refuses or adds. Assumes nothing.
+use mathlib.Core.Path.{_≡_, sym, ap, _∙_}
+use Prim.Native.Nat.{ℕ, _≤_, _<_}
+use borrow.Author.Needs.{needs}
+use lib.IntN.{natAbs}
+use mathlib.Core.Bool.{true}
+use mir.Facts.{toZ-ofZ}
+use denote.Ref.{now}
+use Rattle.exact.specs.Next.{mostZ}
+use Rattle.runs.specs.Runs.{isRun}
+use Rattle.drought.specs.Columns.{Columns, columns, long, columnsFit}
+use Rattle.drought.specs.Refusals.{zRefusal}
+use Rattle.drought.specs.Asked.{addZ, takenZ}
+use Rattle.drought.proofs.Refused.{z-passes, refuses, accepts}
+use Rattle.drought.proofs.Readiness.{ready}
+use Rattle.drought.proofs.add_z.Statement.{statement}
+use Rattle.drought.proofs.add_z.Tie as tie
+
+abbrev lent : tie.Start → Columns
+lent s = let a = s .args in columns (now (a .x1)) (now (a .x2)) (now (a .x3)) (now (a .index)) (now (a .mark))
+
+lengths-fit-requires : tie.Need-lengths-fit-requires
+lengths-fit-requires c κs = search needs
+
+z-refusal-requires : tie.Need-z-refusal-requires
+z-refusal-requires c κs = search needs
+
+refuse-requires : tie.Need-refuse-requires
+refuse-requires c κs = search needs
+
+-- its number is the definition's
+number-is : (c : tie.After-z-refusal) → c .z-refusal .result ≡ zRefusal (columnsFit (lent (c .before .before .before))) (long (lent (c .before .before .before))) (c .before .before .before .args .run) (c .before .before .before .args .z)
+number-is c =
+    let f = c .before .before .before .fits .z in
+    rw (c .before .lengths-fit .ensures, toZ-ofZ f) at (c .z-refusal .ensures)
+
+passes : (c : tie.Else1) → ((columnsFit (lent (c .before .before .before .before)) ≡ true) × (isRun (long (lent (c .before .before .before .before))) (c .before .before .before .before .args .run) ≡ true)) × (c .before .before .before .before .args .run .months < long (lent (c .before .before .before .before))) × (natAbs (c .before .before .before .before .args .z) ≤ mostZ)
+passes c =
+    let s = c .before .before .before .before in
+    z-passes (columnsFit (lent s)) (long (lent s)) (s .args .run) (s .args .z) (sym (number-is (c .before)) ∙ c .if1 .left)
+
+returns : tie.Need-returns
+unfolding addZ
+returns c =
+    let d = c .before .before in
+    let s = d .before .before .before in
+    refuses (d .z-refusal .result) _ (s .args .run) (lent s) (takenZ (s .args .run) (s .args .z) (lent s)) (number-is d) (c .refuse .result) (c .before .if1 .taken) (c .refuse .ensures)
+
+no-water-requires : tie.Need-no-water-requires
+no-water-requires c κs = search needs
+
+add-month-requires : tie.Need-add-month-requires
+add-month-requires c κs =
+    let e = c .before .before .before .before .before .before .before in
+    let s = e .before .before .before .before in
+    let f = s .fits .z in
+    let p = passes e in
+    (ready (s .args .run) (lent s) (p .0 .0) (p .0 .1) (p .1), simp toZ-ofZ (p .2))
+
+same-length : tie.Need-same-length
+same-length c = search needs
+
+same-length-2 : tie.Need-same-length-2
+same-length-2 c = search needs
+
+same-length-3 : tie.Need-same-length-3
+same-length-3 c = search needs
+
+same-length-4 : tie.Need-same-length-4
+same-length-4 c = search needs
+
+same-length-5 : tie.Need-same-length-5
+same-length-5 c = search needs
+
+returns-2 : tie.Need-returns-2
+unfolding addZ
+returns-2 c =
+    let t = c .before .before .before .before .before .before in
+    let w = t .before .before .before .before .before .before in
+    let e = w .before .before in
+    let s = e .before .before .before .before in
+    let f = s .fits .z in
+    accepts (e .before .z-refusal .result) _ (s .args .run) (lent s) (takenZ (s .args .run) (s .args .z) (lent s)) (number-is (e .before)) _ (e .if1 .left)
+    (rw (w .no-water .ensures, toZ-ofZ f) at (t .add-month .ensures))
+
+pub add-z-spec : {M : Type 1} → statement M
+add-z-spec =
+    tie.close
+    (tie.spec
+    lengths-fit-requires
+    z-refusal-requires
+    refuse-requires
+    returns
+    no-water-requires
+    add-month-requires
+    same-length
+    same-length-2
+    same-length-3
+    same-length-4
+    same-length-5
+    returns-2)

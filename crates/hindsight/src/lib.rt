@@ -1,0 +1,201 @@
+// Hindsight: what an add writes in the columns, and the whole series by nested scans.
+//
+// `add` and `look_forward` are for the crate above, which holds the lengths that they require. A decision comes
+// as a number: 0 nothing, 1 by X1, 2 by X2, 3 by X3. A side is 1 for X1's and 2 for X2's.
+use spells::Decision;
+use spells::With;
+
+ghost use mathlib.Core.Path.{_≡_};
+ghost use mathlib.Core.List.{_++_};
+ghost use Prim.Native.Nat.{ℕ, _-_, _≤_, _<_};
+ghost use lib.ListN.{length, take, drop, set, replicate};
+ghost use Rattle.hindsight.specs.Rule.{nonzero, forwardIndexes, forwardMarks};
+ghost use Rattle.hindsight.specs.Adding.{settledAll};
+ghost use Rattle.hindsight.specs.Months.{withNumber, decisionNumber, markFor};
+ghost use Rattle.hindsight.specs.Columns.{xAt, xsFrom, withOf, sideOf, toldNo, valueBy, rowAt, rowsFrom, runFrom, rowOf, Adds};
+
+fn with_number(w: With) -> u8
+    ensures { λ r. ⌜ r ≡ withNumber w ⌝ }
+{
+    match w {
+        With::X1 => 1,
+        With::X2 => 2,
+        With::X3 => 3,
+    }
+}
+
+// A decision's number.
+pub fn decision_number(d: Decision) -> u8
+    ensures { λ r. ⌜ r ≡ decisionNumber d ⌝ }
+{
+    match d {
+        Decision::Nothing => 0,
+        Decision::Decides(w) => with_number(w),
+    }
+}
+
+// The mark of the month that decides so: 1 open, 2 settled.
+pub fn mark_for(d: Decision) -> u8
+    ensures { λ r. ⌜ r ≡ markFor d ⌝ }
+{
+    match d {
+        Decision::Nothing => 1,
+        Decision::Decides(_) => 2,
+    }
+}
+
+// The side that a month gives, if exactly one of its X1 and X2 is not 0, else the side that is passed.
+fn told(a: i32, b: i32, side: u8) -> u8
+    ensures { λ r. ⌜ r ≡ toldNo (nonzero a) (nonzero b) side ⌝ }
+{
+    if a == 0 {
+        if b == 0 { side } else { 2 }
+    } else {
+        if b == 0 { 1 } else { side }
+    }
+}
+
+// A month's X3, or its value on the side.
+fn value(a: i32, b: i32, c: i32, by: u8, side: u8) -> i32
+    ensures { λ r. ⌜ r ≡ valueBy (withOf by) (sideOf side) (record { x1 = a; x2 = b; x3 = c }) ⌝ }
+{
+    if by == 1 {
+        if side == 1 { a } else { b }
+    } else {
+        if by == 2 {
+            if side == 1 { a } else { b }
+        } else {
+            c
+        }
+    }
+}
+
+// Settles the open months from .. at, which stand before a month that decides. It goes back from that month,
+// and the side that it holds is the one that the first month from there on with exactly one of X1, X2 nonzero
+// gives.
+fn settle(
+    x1: &[i32],
+    x2: &[i32],
+    x3: &[i32],
+    index: &mut [i32],
+    mark: &mut [u8],
+    from: usize,
+    at: usize,
+    by: u8,
+)
+    requires { ⌜ (from ≤ at) × (at ≤ length (now x1)) × (at ≤ length (now x2)) × (at ≤ length (now x3)) × (at ≤ length (now index)) × (at ≤ length (now mark)) ⌝ }
+    ensures indexes { λ _. ⌜ now (index .exit) ≡ take from (now (index .entry)) ++ (settledAll (withOf by) (xsFrom (xAt (now (x1 .entry)) (now (x2 .entry)) (now (x3 .entry))) from (at - from)) ++ drop at (now (index .entry))) ⌝ }
+    ensures marks { λ _. ⌜ now (mark .exit) ≡ take from (now (mark .entry)) ++ (replicate (at - from) 2 ++ drop at (now (mark .entry))) ⌝ }
+{
+    let mut side = by;
+    let mut j = at;
+    while from < j {
+        let i = j - 1;
+        let a = x1[i];
+        let b = x2[i];
+        let c = x3[i];
+        side = told(a, b, side);
+        let v = value(a, b, c, by, side);
+        index[i] = v;
+        mark[i] = 2;
+        j = i;
+    }
+}
+
+// What an add answers: how many months are open now, and how many it settled.
+pub struct Added {
+    pub opens: usize,
+    pub settled: usize,
+}
+
+// Adds a month: it writes the month's place in the five columns, and index and mark of the open months if it decides.
+pub fn add(
+    x1: &mut [i32],
+    x2: &mut [i32],
+    x3: &mut [i32],
+    index: &mut [i32],
+    mark: &mut [u8],
+    months: usize,
+    opens: usize,
+    a: i32,
+    b: i32,
+    c: i32,
+    by: u8,
+    shown: i32,
+) -> Added
+    requires { ⌜ (opens ≤ months) × (months < length (now x1)) × (length (now x2) ≡ length (now x1)) × (length (now x3) ≡ length (now x1)) × (length (now index) ≡ length (now x1)) × (length (now mark) ≡ length (now x1)) ⌝ }
+    ensures { λ _. ⌜ now (x1 .exit) ≡ set (now (x1 .entry)) months a ⌝ }
+    ensures { λ _. ⌜ now (x2 .exit) ≡ set (now (x2 .entry)) months b ⌝ }
+    ensures { λ _. ⌜ now (x3 .exit) ≡ set (now (x3 .entry)) months c ⌝ }
+    ensures { λ r. ⌜ Adds (runFrom (now (x1 .entry)) (now (x2 .entry)) (now (x3 .entry)) (now (index .entry)) (now (mark .entry)) months opens) (rowOf a b c by shown) months (now (index .entry)) (now (index .exit)) (now (mark .entry)) (now (mark .exit)) (r .opens) (r .settled) ⌝ }
+{
+    x1[months] = a;
+    x2[months] = b;
+    x3[months] = c;
+    index[months] = shown;
+    if by == 0 {
+        mark[months] = 1;
+        return Added {
+            opens: opens + 1,
+            settled: 0,
+        };
+    }
+    mark[months] = 2;
+    settle(x1, x2, x3, index, mark, months - opens, months, by);
+    Added {
+        opens: 0,
+        settled: opens + 1,
+    }
+}
+
+// The whole series: index and mark of every month. For each month a scan goes forward for its deciding month,
+// and from there another, from the month itself, for the side; both are left by the label.
+pub fn look_forward(
+    x1: &[i32],
+    x2: &[i32],
+    x3: &[i32],
+    by: &[u8],
+    shown: &[i32],
+    index: &mut [i32],
+    mark: &mut [u8],
+)
+    requires { ⌜ (length (now x1) ≡ length (now by)) × (length (now x2) ≡ length (now by)) × (length (now x3) ≡ length (now by)) × (length (now shown) ≡ length (now by)) × (length (now index) ≡ length (now by)) × (length (now mark) ≡ length (now by)) ⌝ }
+    ensures indexes { λ _. ⌜ now (index .exit) ≡ forwardIndexes (rowsFrom (rowAt (now (x1 .entry)) (now (x2 .entry)) (now (x3 .entry)) (now (by .entry)) (now (shown .entry))) 0 (length (now (by .entry)))) ⌝ }
+    ensures marks { λ _. ⌜ now (mark .exit) ≡ forwardMarks (rowsFrom (rowAt (now (x1 .entry)) (now (x2 .entry)) (now (x3 .entry)) (now (by .entry)) (now (shown .entry))) 0 (length (now (by .entry)))) ⌝ }
+{
+    let mut i = 0;
+    'months: while i < by.len() {
+        let mut v = shown[i];
+        let mut m: u8 = 1;
+        let mut at = i;
+        'deciding: while at < by.len() {
+            let d = by[at];
+            if d != 0 {
+                m = 2;
+                if at == i {
+                    break 'deciding;
+                }
+                let a = x1[i];
+                let b = x2[i];
+                let c = x3[i];
+                let mut k = i;
+                while k < at {
+                    let e = x1[k];
+                    let f = x2[k];
+                    let s = told(e, f, 0);
+                    if s != 0 {
+                        v = value(a, b, c, d, s);
+                        break 'deciding;
+                    }
+                    k += 1;
+                }
+                v = value(a, b, c, d, d);
+                break 'deciding;
+            }
+            at += 1;
+        }
+        index[i] = v;
+        mark[i] = m;
+        i += 1;
+    }
+}

@@ -1,0 +1,62 @@
+-- Document 01, "Quantities": the ranges of the sixty constants and of the calendar, as tests. Assumes nothing.
+use Prim.Native.Nat.{ℕ, zero, suc, _+_, _-_, _*_, _%_}
+use mathlib.Core.Bool.{Bool, true, _&&_}
+use mathlib.Core.List.{List}
+use lib.IntN.{ℤ, pos, natAbs}
+use lib.Signed.{leZ}
+use lib.Dec.{leb}
+use lib.ListN.{getD}
+use Rattle.water.specs.Constants.{mostShare, mostGamma, mostK}
+use Rattle.water.specs.declared.Constants.{Constants}
+
+-- "Sixty constants, January first, each month in the order alpha, beta, gamma, delta, K."
+abbrev pub manyConstants : ℕ
+manyConstants = 60
+
+abbrev pub manyOfAMonth : ℕ
+manyOfAMonth = 5
+
+-- the most of a month's five constants in turn
+unfoldable pub limitOf : ℕ → ℕ
+limitOf zero = mostShare
+limitOf (suc zero) = mostShare
+limitOf (suc (suc zero)) = mostGamma
+limitOf (suc (suc (suc zero))) = mostShare
+limitOf (suc (suc (suc (suc n)))) = mostK
+
+-- the constant at place i is in its range
+unfoldable pub constantFits : List ℤ → ℕ → Bool
+constantFits l i = leZ (pos 0) (getD l i (pos 0)) && leZ (getD l i (pos 0)) (pos (limitOf (i % manyOfAMonth)))
+
+-- so are all below place k
+unfoldable pub constantsFitTo : List ℤ → ℕ → Bool
+constantsFitTo l zero = true
+constantsFitTo l (suc k) = constantsFitTo l k && constantFits l k
+
+abbrev pub constantsFit : List ℤ → Bool
+constantsFit l = constantsFitTo l manyConstants
+
+-- a calendar month's five
+abbrev pub placeOf : ℕ → ℕ
+placeOf month = manyOfAMonth * (month - 1)
+
+unfoldable pub constantsAt : List ℤ → ℕ → Constants
+constantsAt l month =
+    record {
+      alpha = natAbs (getD l (placeOf month) (pos 0));
+      beta = natAbs (getD l (placeOf month + 1) (pos 0));
+      gamma = natAbs (getD l (placeOf month + 2) (pos 0));
+      delta = natAbs (getD l (placeOf month + 3) (pos 0));
+      k = natAbs (getD l (placeOf month + 4) (pos 0));
+    }
+
+-- "calendar month not 1 to 12": not so
+abbrev pub lastMonth : ℕ
+lastMonth = 12
+
+unfoldable pub calendarFits : ℕ → Bool
+calendarFits m = leb 1 m && leb m lastMonth
+
+-- the calendar moves on
+unfoldable pub nextCalendar : ℕ → ℕ
+nextCalendar m = m % lastMonth + 1

@@ -1,0 +1,62 @@
+-- Document 01, "Not a run", clause by clause, as tests. Assumes nothing.
+use Prim.Native.Nat.{ℕ, _*_}
+use mathlib.Core.Bool.{Bool, _&&_, _||_}
+use lib.IntN.{pos, natAbs}
+use lib.Signed.{leZ, ltZ}
+use lib.Dec.{leb}
+use Rattle.exact.specs.Next.{mostX, mostZ}
+use Rattle.water.specs.Layers.{leastCapacity, mostCapacity, surfaceHolds, underlyingHolds}
+use Rattle.water.specs.declared.Soil.{Soil}
+use Rattle.spells.specs.Values.{mostU}
+use Rattle.spells.specs.declared.Running.{Running}
+use Rattle.runs.specs.Ranges.{constantsFit, calendarFits}
+use Rattle.runs.specs.declared.Run.{Run}
+
+-- "A run holds 0 to 2,400 months": the longest that lent lists may be
+abbrev pub mostMonths : ℕ
+mostMonths = 2400
+
+-- a length that lent lists may have: not "length 0 or above 2,400"
+unfoldable pub lengthFits : ℕ → Bool
+lengthFits n = leb 1 n && leb n mostMonths
+
+-- "Z given directly: -4,000,000 to 4,000,000."
+unfoldable pub zFits : ℤ → Bool
+zFits z = leb (natAbs z) mostZ
+
+-- "capacity or storages out of range": not so
+unfoldable pub soilFits : Soil → Bool
+soilFits s =
+    leb leastCapacity (s .capacity)
+    && leb (s .capacity) mostCapacity
+    && leb (s .surface) (surfaceHolds (s .capacity))
+    && leb (s .underlying) (underlyingHolds (s .capacity))
+
+-- "any X beyond 13,000,000 in size": none
+unfoldable pub sizesFit : Running → Bool
+sizesFit v = leb (natAbs (v .x1)) mostX && leb (natAbs (v .x2)) mostX && leb (natAbs (v .x3)) mostX
+
+-- "X1 negative or X2 positive; .. V above 0 without X3 below 0, or V below 0 without X3 above 0": none of these
+unfoldable pub signsFit : Running → Bool
+signsFit v =
+    leZ (pos 0) (v .x1)
+    && leZ (v .x2) (pos 0)
+    && (leZ (v .v) (pos 0) || ltZ (v .x3) (pos 0))
+    && (leZ (pos 0) (v .v) || ltZ (pos 0) (v .x3))
+
+-- "V beyond 4,000,150 x months in size": not so
+unfoldable pub vFits : ℕ → Running → Bool
+vFits months v = leb (natAbs (v .v)) (mostU * months)
+
+-- a run, for columns of this length: "months above the column length; open months above months; constants, capacity or storages out of
+-- range; calendar month not 1 to 12; ..": none of these
+unfoldable pub isRun : ℕ → Run → Bool
+isRun long r =
+    leb (r .months) long
+    && leb (r .opens) (r .months)
+    && constantsFit (r .constants)
+    && soilFits (r .soil)
+    && calendarFits (r .calendar)
+    && sizesFit (r .values)
+    && signsFit (r .values)
+    && vFits (r .months) (r .values)

@@ -1,0 +1,71 @@
+-- The test of a list of Z: it holds exactly when every Z of the list is in its range, and a scan that has found no other has it from the
+-- months that are left. Assumes nothing.
+use mathlib.Core.Path.{_≡_, refl, sym, _∙_}
+use mathlib.Core.Bool.{Bool, true, false, _&&_}
+use mathlib.Core.Logic.{_↔_}
+use mathlib.Core.List.{List, [], _∷_}
+use Prim.Native.Nat.{ℕ, zero, suc, _+_, _≤_, _<_}
+use native.Mathlib.Numerals.{add-one}
+use native.Mathlib.Omega.{arith}
+use lib.IntN.{ℤ, pos, natAbs}
+use lib.ListN.{length, getD, drop}
+use lib.Seq.{drop-cons}
+use borrow.Author.Tests.{leb-true, le-leb}
+use Rattle.exact.specs.Next.{mostZ}
+use Rattle.runs.specs.Runs.{zFits}
+use Rattle.series.specs.Series.{allZFit}
+
+-- ---- the scan
+
+-- at a month that is left, the test is the month's own, and that of the later ones
+scan-at : (z : List ℤ) (i : ℕ) (t : Bool) → i < length z → allZFit z ≡ allZFit (drop i z) → t ≡ zFits (getD z i (pos 0))
+    → allZFit z ≡ (t && allZFit (drop (suc i) z))
+scan-at z i t l e f = rw (e, drop-cons z i (pos 0) l, f) refl
+
+pub scan-out : (z : List ℤ) (i : ℕ) (t : Bool) → i < length z → allZFit z ≡ allZFit (drop i z) → t ≡ zFits (getD z i (pos 0)) → t ≡ false
+    → false ≡ allZFit z
+scan-out z i t l e f g = sym (scan-at z i t l e f ∙ rw g refl)
+
+pub scan-next : (z : List ℤ) (i : ℕ) (t : Bool) → i < length z → allZFit z ≡ allZFit (drop i z) → t ≡ zFits (getD z i (pos 0)) → t ≡ true
+    → allZFit z ≡ allZFit (drop (i + 1) z)
+scan-next z i t l e f g = scan-at z i t l e f ∙ rw (g, add-one) refl
+
+drop-out : (z : List ℤ) (i : ℕ) → length z ≤ i → drop i z ≡ []
+drop-out [] zero h = refl
+drop-out [] (suc i) h = refl
+drop-out (x ∷ z) zero h = absurd (omega arith)
+drop-out (x ∷ z) (suc i) h = drop-out z i (omega arith)
+
+pub scan-all : (z : List ℤ) (i : ℕ) → length z ≤ i → allZFit z ≡ allZFit (drop i z) → true ≡ allZFit z
+scan-all z i h e = sym (e ∙ rw (drop-out z i h) refl)
+
+-- ---- each Z
+
+z-within : (z : ℤ) → zFits z ≡ true → natAbs z ≤ mostZ
+unfolding zFits
+z-within z e = leb-true (natAbs z) mostZ e
+
+within-z : (z : ℤ) → natAbs z ≤ mostZ → zFits z ≡ true
+unfolding zFits
+within-z z h = le-leb (natAbs z) mostZ h
+
+pub both : (a b : Bool) → (a && b) ≡ true → (a ≡ true) × (b ≡ true)
+both true b e = (refl, e)
+both false b e = let no : _≡_ {A = ℕ} 0 1 = cc in absurd (omega arith)
+
+-- every Z of the list is in its range
+abbrev pub EachFits : List ℤ → Type 0
+EachFits z = (i : ℕ) → i < length z → natAbs (getD z i (pos 0)) ≤ mostZ
+
+pub each-fits : (z : List ℤ) → allZFit z ≡ true → EachFits z
+each-fits [] e i h = absurd (omega arith)
+each-fits (x ∷ z) e zero h = z-within x (both (zFits x) (allZFit z) e .0)
+each-fits (x ∷ z) e (suc i) h = each-fits z (both (zFits x) (allZFit z) e .1) i (omega arith)
+
+pub all-fit : (z : List ℤ) → EachFits z → allZFit z ≡ true
+all-fit [] h = refl
+all-fit (x ∷ z) h = rw (within-z x (h 0 (omega arith)), all-fit z (λ i l. h (suc i) (omega arith))) refl
+
+-- the test holds exactly when every Z of the list is from -4,000,000 to 4,000,000
+pub all-z-fit-exactly : (z : List ℤ) → (allZFit z ≡ true) ↔ EachFits z
+all-z-fit-exactly z = (each-fits z, all-fit z)

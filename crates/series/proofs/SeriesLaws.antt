@@ -1,0 +1,145 @@
+-- The theorems about the whole series: its promise allows one outcome, a refusal writes nothing lent, and each number is given exactly when
+-- the paper says. They are of `wholeSeries`, which the promise of `whole_series` cites. Assumes nothing.
+use mathlib.Core.Path.{_≡_, refl, sym, ap, _∙_}
+use mathlib.Core.Bool.{Bool, true, false, _&&_, cond}
+use mathlib.Core.Logic.{_↔_}
+use mathlib.Core.List.{List}
+use Prim.Native.Nat.{ℕ, zero, suc, _≤_}
+use native.Mathlib.Omega.{arith}
+use lib.IntN.{ℤ}
+use lib.ListN.{length}
+use lib.Dec.{eqb, leb}
+use borrow.Author.Tests.{eqb-true, eq-eqb, leb-true, le-leb}
+use Rattle.runs.specs.Runs.{mostMonths, lengthFits}
+use Rattle.hindsight.specs.Rule.{forwardIndexes, forwardMarks}
+use Rattle.hindsight.specs.Months.{rowsOfZ}
+use Rattle.series.specs.Series.{allZFit, listsFit, seriesRefusal, Filled, filled, filledWith, wholeSeries}
+use Rattle.series.proofs.EachZ.{both, EachFits, each-fits, all-fit}
+
+-- ---- the promise has one outcome
+
+-- any two outcomes that the promise of `whole_series` allows are the same: the number, and every place of both lists
+pub one-series : (z index : List ℤ) (mark : List ℕ) (r s : ℕ) (i j : List ℤ) (m n : List ℕ)
+    → filled r i m ≡ wholeSeries z index mark → filled s j n ≡ wholeSeries z index mark → (r ≡ s) × (i ≡ j) × (m ≡ n)
+one-series z index mark r s i j m n p q =
+    let e : filled r i m ≡ filled s j n = p ∙ sym q in
+    (ap (λ (f : Filled). f .number) e, ap (λ (f : Filled). f .index) e, ap (λ (f : Filled). f .mark) e)
+
+-- ---- what the lists then hold
+
+-- a refusal, and nothing written
+pub refused-is : (z index : List ℤ) (mark : List ℕ) (k : ℕ) → k ≡ seriesRefusal z (length index) (length mark) → (k ≡ 0 → ⊥)
+    → filled k index mark ≡ wholeSeries z index mark
+unfolding wholeSeries
+refused-is z index mark zero e f = absurd (f refl)
+refused-is z index mark (suc k) e f = rw (sym e) refl
+
+-- no refusal, and both lists filled
+pub filled-is : (z index : List ℤ) (mark : List ℕ) (k : ℕ) (i : List ℤ) (m : List ℕ) → k ≡ seriesRefusal z (length index) (length mark) → k ≡ 0
+    → i ≡ forwardIndexes (rowsOfZ z) → m ≡ forwardMarks (rowsOfZ z) → filled 0 i m ≡ wholeSeries z index mark
+unfolding wholeSeries
+filled-is z index mark k i m e f p q = rw (sym e ∙ f, p, q) refl
+
+-- the number of an outcome is that of the refusals in their order
+pub number-of : (z index : List ℤ) (mark : List ℕ) (r : ℕ) (i : List ℤ) (m : List ℕ)
+    → filled r i m ≡ wholeSeries z index mark → r ≡ seriesRefusal z (length index) (length mark)
+unfolding wholeSeries
+number-of z index mark r i m p = ap (λ (f : Filled). f .number) p ∙ of (seriesRefusal z (length index) (length mark))
+  where
+    of : (k : ℕ) → filledWith k (rowsOfZ z) index mark .number ≡ k
+    of zero = refl
+    of (suc k) = refl
+
+-- a refusal leaves both lists as they were
+pub refused-writes-nothing : (z index : List ℤ) (mark : List ℕ) (r : ℕ) (i : List ℤ) (m : List ℕ)
+    → filled r i m ≡ wholeSeries z index mark → (r ≡ 0 → ⊥) → (i ≡ index) × (m ≡ mark)
+refused-writes-nothing z index mark r i m p f =
+    let e = one-series z index mark r r i index m mark p (refused-is z index mark r (number-of z index mark r i m p) f) in
+    (e .1, e .2)
+
+-- and where nothing is refused both are the forward rule's over the rows of the Z
+pub done-fills : (z index : List ℤ) (mark : List ℕ) (r : ℕ) (i : List ℤ) (m : List ℕ)
+    → filled r i m ≡ wholeSeries z index mark → r ≡ 0 → (i ≡ forwardIndexes (rowsOfZ z)) × (m ≡ forwardMarks (rowsOfZ z))
+done-fills z index mark r i m p f =
+    let e =
+    one-series z index mark r 0 i (forwardIndexes (rowsOfZ z)) m (forwardMarks (rowsOfZ z)) p
+    (filled-is z index mark r (forwardIndexes (rowsOfZ z)) (forwardMarks (rowsOfZ z)) (number-of z index mark r i m p) f refl refl)
+    in
+    (e .1, e .2)
+
+-- ---- each number "given exactly when"
+
+-- the three lists are of one length, from 1 to 2,400
+pub record ListsFit (z index mark : ℕ) : Type 0 where
+  pub index-long : index ≡ z
+  pub mark-long : mark ≡ z
+  pub some : 1 ≤ z
+  pub within : z ≤ mostMonths
+
+pub lists-true : (z index mark : ℕ) → listsFit z index mark ≡ true → ListsFit z index mark
+unfolding listsFit lengthFits
+lists-true z index mark e =
+    let p = both (eqb index z && eqb mark z) (leb 1 z && leb z mostMonths) e in
+    let q = both (eqb index z) (eqb mark z) (p .0) in
+    let l = both (leb 1 z) (leb z mostMonths) (p .1) in
+    record {
+      index-long = eqb-true index z (q .0);
+      mark-long = eqb-true mark z (q .1);
+      some = leb-true 1 z (l .0);
+      within = leb-true z mostMonths (l .1);
+    }
+
+true-lists : (z index mark : ℕ) → ListsFit z index mark → listsFit z index mark ≡ true
+unfolding listsFit lengthFits
+true-lists z index mark f =
+    simp (eq-eqb index z (f .index-long), eq-eqb mark z (f .mark-long), le-leb 1 z (f .some), le-leb z mostMonths (f .within))
+
+-- the three cases of the order 1, 12
+at-0 : (a b : Bool) → _≡_ {A = ℕ} (cond a (cond b 0 12) 1) 0 → (a ≡ true) × (b ≡ true)
+at-0 true true e = (refl, refl)
+at-0 true false e = absurd (omega arith)
+at-0 false b e = absurd (omega arith)
+
+at-1 : (a b : Bool) → _≡_ {A = ℕ} (cond a (cond b 0 12) 1) 1 → a ≡ false
+at-1 true true e = absurd (omega arith)
+at-1 true false e = absurd (omega arith)
+at-1 false b e = refl
+
+at-12 : (a b : Bool) → _≡_ {A = ℕ} (cond a (cond b 0 12) 1) 12 → (a ≡ true) × (b ≡ false)
+at-12 true true e = absurd (omega arith)
+at-12 true false e = (refl, refl)
+at-12 false b e = absurd (omega arith)
+
+never : (a : Bool) → a ≡ true → a ≡ false → ⊥
+never a e f = let no : _≡_ {A = ℕ} 0 1 = cc in omega arith
+
+unless : (a : Bool) → (a ≡ true → ⊥) → a ≡ false
+unless true f = absurd (f refl)
+unless false f = refl
+
+module _ (z : List ℤ) (index mark : ℕ) where
+  -- 0: "done"
+  pub done-exactly : (seriesRefusal z index mark ≡ 0) ↔ (ListsFit (length z) index mark × EachFits z)
+  unfolding seriesRefusal
+  done-exactly = (
+    λ e. let p = at-0 (listsFit (length z) index mark) (allZFit z) e in (lists-true (length z) index mark (p .0), each-fits z (p .1)),
+    λ f. rw (true-lists (length z) index mark (f .0), all-fit z (f .1)) refl,
+  )
+
+  -- 1: "the three lists of a whole series, not all of one length, or length 0 or above 2,400"
+  pub lists-refused-exactly : (seriesRefusal z index mark ≡ 1) ↔ (ListsFit (length z) index mark → ⊥)
+  unfolding seriesRefusal
+  lists-refused-exactly = (
+    λ e f. never (listsFit (length z) index mark) (true-lists (length z) index mark f) (at-1 (listsFit (length z) index mark) (allZFit z) e),
+    λ f. rw (unless (listsFit (length z) index mark) (λ e. f (lists-true (length z) index mark e))) refl,
+  )
+
+  -- 12: "Z outside its range", where the lists fit
+  pub z-refused-exactly : (seriesRefusal z index mark ≡ 12) ↔ (ListsFit (length z) index mark × (EachFits z → ⊥))
+  unfolding seriesRefusal
+  z-refused-exactly = (
+    λ e.
+        let p = at-12 (listsFit (length z) index mark) (allZFit z) e in
+        (lists-true (length z) index mark (p .0), λ f. never (allZFit z) (all-fit z f) (p .1)),
+    λ f. rw (true-lists (length z) index mark (f .0), unless (allZFit z) (λ e. f .1 (each-fits z e))) refl,
+  )

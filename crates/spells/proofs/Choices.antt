@@ -1,0 +1,202 @@
+-- What the definitions of one month choose, each case from a plain fact of the numbers: the form in which the code's branches and the
+-- theorems ask it. Assumes nothing.
+use mathlib.Core.Path.{_≡_, refl, sym, ap, _∙_}
+use mathlib.Core.Bool.{Bool, true, false, cond}
+use Prim.Native.Nat.{ℕ, zero, suc, _*_, _≤_, _<_, min, max}
+use native.Mathlib.Omega.{arith}
+use borrow.Author.Tests.{le-leb, lt-leb}
+use lib.Dec.{leb, ltb, ltb→lt, leb→le}
+use lib.IntN.{ℤ, pos, negsuc, negℤ, natAbs, _-ℤ_, _*ℤ_}
+use lib.Signed.{_≤ℤ_, _<ℤ_, leZ, ltZ}
+use Rattle.exact.specs.Nearest.{clip}
+use Rattle.exact.specs.Next.{nextOf, mostX, mostZ}
+use Rattle.exact.proofs.Z.{zs, zs-abs, is-Z, le-yes}
+use Rattle.exact.proofs.NextLaws.{next-within}
+use Rattle.spells.specs.Values.{SidesFit}
+use Rattle.spells.specs.Spells.{steady, ended, abating, turn, uOf, vOf, eOf, qOf, endingOf, percentOf, raised, lowered, isZero, largerInSize, provisional, abatingMonth, founded, unfounded, tried, noSpell, endingMonth, inForce, stepOf}
+use Rattle.spells.specs.declared.Running.{Running}
+use Rattle.spells.specs.declared.With.the-variants.{X1, X2}
+use Rattle.spells.specs.declared.Decision.the-variants.{Nothing, Decides}
+
+-- ---- the outcome of a test, from the fact
+pub le-is : (a b : ℤ) → a ≤ℤ b → leZ a b ≡ true
+le-is a b = rw (is-Z a, is-Z b) (simp zs (omega arith))
+
+pub le-not : (a b : ℤ) → b <ℤ a → leZ a b ≡ false
+le-not a b = rw (is-Z a, is-Z b) (simp zs (omega arith))
+
+pub lt-is : (a b : ℤ) → a <ℤ b → ltZ a b ≡ true
+lt-is a b = rw (is-Z a, is-Z b) (simp zs (omega arith))
+
+pub lt-not : (a b : ℤ) → b ≤ℤ a → ltZ a b ≡ false
+lt-not a b = rw (is-Z a, is-Z b) (simp zs (omega arith))
+
+pub zero-is : (x : ℤ) → x ≡ pos 0 → isZero x ≡ true
+zero-is x e = ap isZero e
+
+pub zero-not : (x : ℤ) → (x ≡ pos 0 → ⊥) → isZero x ≡ false
+zero-not (pos zero) h = absurd (h refl)
+zero-not (pos (suc n)) h = lt-leb (suc n) 0 (omega arith)
+zero-not (negsuc n) h = lt-leb (suc n) 0 (omega arith)
+
+-- ---- running values, one by one
+abbrev values : ℤ → ℤ → ℤ → ℤ → Running
+values x1 x2 x3 v = record { x1 = x1; x2 = x2; x3 = x3; v = v }
+
+pub same-values : {x1 y1 x2 y2 x3 y3 v w : ℤ} → x1 ≡ y1 → x2 ≡ y2 → x3 ≡ y3 → v ≡ w → values x1 x2 x3 v ≡ values y1 y2 y3 w
+same-values p q r t = cc
+
+-- ---- turned signs
+pub turn-size : (wet : Bool) (n : ℤ) (k : ℕ) → natAbs n ≤ k → natAbs (turn wet n) ≤ k
+unfolding turn
+turn-size false n k h = h
+turn-size true n k h = go n h
+  where
+    go : (n : ℤ) → natAbs n ≤ k → natAbs (negℤ n) ≤ k
+    go n = rw (is-Z n) (simp zs (omega arith))
+
+pub turned-size : (wet : Bool) (n r : ℤ) (k : ℕ) → r ≡ turn wet n → natAbs n ≤ k → natAbs r ≤ k
+turned-size wet n r k e h = rw e (turn-size wet n k h)
+
+-- ---- the larger of 0 and a number, and the smaller
+pub raised-kept : (n m : ℤ) → n ≡ m → pos 0 ≤ℤ n → n ≡ raised m
+unfolding raised
+raised-kept n m e h = e ∙ rw (ap (leZ (pos 0)) (sym e) ∙ le-is (pos 0) n h)
+
+pub raised-off : (n m : ℤ) → n ≡ m → n <ℤ pos 0 → pos 0 ≡ raised m
+unfolding raised
+raised-off n m e h = rw (ap (leZ (pos 0)) (sym e) ∙ le-not (pos 0) n h)
+
+pub lowered-kept : (n m : ℤ) → n ≡ m → n ≤ℤ pos 0 → n ≡ lowered m
+unfolding lowered
+lowered-kept n m e h = e ∙ rw (ap (λ (t : ℤ). leZ t (pos 0)) (sym e) ∙ le-is n (pos 0) h)
+
+pub lowered-off : (n m : ℤ) → n ≡ m → pos 0 <ℤ n → pos 0 ≡ lowered m
+unfolding lowered
+lowered-off n m e h = rw (ap (λ (t : ℤ). leZ t (pos 0)) (sym e) ∙ le-not n (pos 0) h)
+
+-- they keep the size and have the sign
+pub raised-fits : (n : ℤ) (k : ℕ) → natAbs n ≤ k → (natAbs (raised n) ≤ k) × (pos 0 ≤ℤ raised n)
+unfolding raised
+raised-fits (pos n) k h = let e = le-leb 0 n (omega arith) in rw e (h, le-yes (pos 0) (pos n) e)
+raised-fits (negsuc n) k h = (omega arith, record { le = tt })
+
+pub lowered-fits : (n : ℤ) (k : ℕ) → natAbs n ≤ k → (natAbs (lowered n) ≤ k) × (lowered n ≤ℤ pos 0)
+unfolding lowered
+lowered-fits (pos zero) k h = (omega arith, record { le = tt })
+lowered-fits (pos (suc n)) k h = rw (lt-leb (suc n) 0 (omega arith)) (omega arith, record { le = tt })
+lowered-fits (negsuc n) k h = (h, record { le = tt })
+
+pub sides-kept : (x1 x2 z : ℤ) → natAbs x1 ≤ mostX → natAbs x2 ≤ mostX → natAbs z ≤ mostZ → SidesFit (raised (nextOf x1 z)) (lowered (nextOf x2 z))
+sides-kept x1 x2 z h1 h2 hz =
+    let r = raised-fits (nextOf x1 z) mostX (next-within x1 z h1 hz) in
+    let l = lowered-fits (nextOf x2 z) mostX (next-within x2 z h2 hz) in
+    record { x1-size = r .0; x2-size = l .0; x1-sign = r .1; x2-sign = l .1 }
+
+-- ---- the larger in size, and the provisional index
+module _ (x1 x2 : ℤ) (fit : SidesFit x1 x2) where
+  pub larger-second : leZ x1 (pos 0 -ℤ x2) ≡ true → x2 ≡ largerInSize x1 x2
+  unfolding largerInSize
+  larger-second h = rw (le-leb (natAbs x1) (natAbs x2) (sizes x1 x2 (fit .x1-sign) (fit .x2-sign) h))
+    where
+      sizes : (x1 x2 : ℤ) → pos 0 ≤ℤ x1 → x2 ≤ℤ pos 0 → leZ x1 (pos 0 -ℤ x2) ≡ true → natAbs x1 ≤ natAbs x2
+      sizes x1 x2 = rw (is-Z x1, is-Z x2) (simp zs-abs (omega arith))
+
+  pub larger-first : leZ x1 (pos 0 -ℤ x2) ≡ false → x1 ≡ largerInSize x1 x2
+  unfolding largerInSize
+  larger-first h = rw (lt-leb (natAbs x1) (natAbs x2) (sizes x1 x2 (fit .x1-sign) (fit .x2-sign) h))
+    where
+      sizes : (x1 x2 : ℤ) → pos 0 ≤ℤ x1 → x2 ≤ℤ pos 0 → leZ x1 (pos 0 -ℤ x2) ≡ false → natAbs x2 < natAbs x1
+      sizes x1 x2 = rw (is-Z x1, is-Z x2) (simp zs-abs (omega arith))
+
+pub larger-within : (x1 x2 : ℤ) (k : ℕ) → natAbs x1 ≤ k → natAbs x2 ≤ k → natAbs (largerInSize x1 x2) ≤ k
+unfolding largerInSize
+larger-within x1 x2 k h g = go (leb (natAbs x1) (natAbs x2))
+  where
+    go : (t : Bool) → natAbs (cond t x2 x1) ≤ k
+    go true = g
+    go false = h
+
+pub provisional-none : (s : Running) → s .x3 ≡ pos 0 → provisional s ≡ largerInSize (s .x1) (s .x2)
+unfolding provisional
+provisional-none s e = rw (zero-is (s .x3) e)
+
+pub provisional-x3 : (s : Running) → (s .x3 ≡ pos 0 → ⊥) → provisional s ≡ s .x3
+unfolding provisional
+provisional-x3 s h = rw (zero-not (s .x3) h)
+
+-- ---- the percent, held within 1 to 99
+pub percent-low : (p : ℤ) → p <ℤ pos 1 → 1 ≡ min 99 (max 1 (clip p))
+percent-low (pos n) h = go (ltb→lt n 1 (h .lt))
+  where
+    go : n < 1 → 1 ≡ min 99 (max 1 n)
+    go g = omega arith
+percent-low (negsuc n) h = refl
+
+pub percent-high : (p : ℤ) → pos 99 <ℤ p → 99 ≡ min 99 (max 1 (clip p))
+percent-high (pos n) h = go (ltb→lt 99 n (h .lt))
+  where
+    go : 99 < n → 99 ≡ min 99 (max 1 n)
+    go g = omega arith
+percent-high (negsuc n) h = absurd (h .lt)
+
+pub percent-between : (p : ℤ) → pos 1 ≤ℤ p → p ≤ℤ pos 99 → natAbs p ≡ min 99 (max 1 (clip p))
+percent-between (pos n) h g = go (leb→le 1 n (h .le)) (leb→le n 99 (g .le))
+  where
+    go : 1 ≤ n → n ≤ 99 → n ≡ min 99 (max 1 n)
+    go h g = omega arith
+percent-between (negsuc n) h g = absurd (h .le)
+
+-- ---- no spell: which of X1 and X2 founds, and which decides
+module _ (x1 x2 : ℤ) (percent : ℕ) where
+  pub tried-first : pos 1000 ≤ℤ x1 → tried x1 x2 percent ≡ founded x1 (Decides X1) percent
+  unfolding tried
+  tried-first h = rw (le-is (pos 1000) x1 h)
+
+  pub tried-second : x1 <ℤ pos 1000 → x2 ≤ℤ negsuc 999 → tried x1 x2 percent ≡ founded x2 (Decides X2) percent
+  unfolding tried
+  tried-second h g = rw (le-not (pos 1000) x1 h, le-is x2 (negsuc 999) g)
+
+  pub tried-x2 : x1 <ℤ pos 1000 → negsuc 999 <ℤ x2 → x1 ≡ pos 0 → tried x1 x2 percent ≡ unfounded x1 x2 (Decides X2) x2 percent
+  unfolding tried
+  tried-x2 h g e = rw (le-not (pos 1000) x1 h, le-not x2 (negsuc 999) g, zero-is x1 e)
+
+  pub tried-x1 : x1 <ℤ pos 1000 → negsuc 999 <ℤ x2 → (x1 ≡ pos 0 → ⊥) → x2 ≡ pos 0 → tried x1 x2 percent ≡ unfounded x1 x2 (Decides X1) x1 percent
+  unfolding tried
+  tried-x1 h g n e = rw (le-not (pos 1000) x1 h, le-not x2 (negsuc 999) g, zero-not x1 n, zero-is x2 e)
+
+  pub tried-open : x1 <ℤ pos 1000 → negsuc 999 <ℤ x2 → (x1 ≡ pos 0 → ⊥) → (x2 ≡ pos 0 → ⊥) → tried x1 x2 percent ≡ unfounded x1 x2 Nothing (largerInSize x1 x2) percent
+  unfolding tried
+  tried-open h g n m = rw (le-not (pos 1000) x1 h, le-not x2 (negsuc 999) g, zero-not x1 n, zero-not x2 m)
+
+-- ---- what becomes of a spell in force, in the drought's sense
+module _ (x3 v z : ℤ) where
+  pub ending-steady : leZ (vOf v z) (pos 0) ≡ true → endingOf x3 v z ≡ steady
+  unfolding endingOf
+  ending-steady h = rw h
+
+  pub ending-ended : leZ (vOf v z) (pos 0) ≡ false → leZ (eOf x3) (pos 1000 *ℤ uOf z) ≡ true → endingOf x3 v z ≡ ended
+  unfolding endingOf
+  ending-ended h g = rw (h, g)
+
+  pub ending-abating : leZ (vOf v z) (pos 0) ≡ false → leZ (eOf x3) (pos 1000 *ℤ uOf z) ≡ false → endingOf x3 v z ≡ abating
+  unfolding endingOf
+  ending-abating h g = rw (h, g)
+
+-- the abating month: a is X3, b the previous V, d is Z, turned, and w the new V
+pub abating-is : (wet : Bool) (s : Running) (z : ℤ) {a b d w : ℤ} {percent : ℕ} → a ≡ turn wet (s .x3) → b ≡ turn wet (s .v) → d ≡ turn wet z → w ≡ turn wet (vOf b d) → percent ≡ percentOf (vOf b d) (qOf a b) → abatingMonth s w z percent ≡ endingMonth abating wet s z
+unfolding endingMonth
+abating-is wet s z ea eb ed ew ep = cc
+
+-- ---- which spell is in force
+pub step-drought : (s : Running) (z : ℤ) → s .x3 <ℤ negsuc 499 → stepOf s z ≡ inForce false s z
+unfolding stepOf
+step-drought s z h = rw (lt-is (s .x3) (negsuc 499) h)
+
+pub step-wet : (s : Running) (z : ℤ) → negsuc 499 ≤ℤ s .x3 → pos 500 <ℤ s .x3 → stepOf s z ≡ inForce true s z
+unfolding stepOf
+step-wet s z h g = rw (lt-not (s .x3) (negsuc 499) h, lt-is (pos 500) (s .x3) g)
+
+pub step-none : (s : Running) (z : ℤ) → negsuc 499 ≤ℤ s .x3 → s .x3 ≤ℤ pos 500 → stepOf s z ≡ noSpell s z 0
+unfolding stepOf
+step-none s z h g = rw (lt-not (s .x3) (negsuc 499) h, lt-not (pos 500) (s .x3) g)

@@ -1,0 +1,256 @@
+// One month of spells: X1, X2, X3, V, the chance of an ending, and what the month decides with.
+//
+// `step` is for the crates above, which hold the running values and Z in range before they call. A wet spell
+// is a drought with the signs turned, so a drought's rules are all that stands here.
+
+ghost use mathlib.Core.Path.{_≡_};
+ghost use Prim.Native.Nat.{_*_, _≤_};
+ghost use lib.IntN.{natAbs};
+ghost use Rattle.exact.specs.Next.{nextOf, mostX, mostZ};
+ghost use Rattle.spells.specs.Values.{mostV, SidesFit, ValuesFit};
+ghost use Rattle.spells.specs.Spells.{turn, percentOf, raised, lowered, largerInSize, provisional, steadyMonth, abatingMonth, founded, unfounded, tried, noSpell, inForce, stepOf};
+
+// The running values, as the month before left them.
+pub struct Running {
+    pub x1: i32,
+    pub x2: i32,
+    pub x3: i32,
+    pub v: i64,
+}
+
+// With which of the three a month decides.
+pub enum With {
+    X1,
+    X2,
+    X3,
+}
+
+pub enum Decision {
+    Nothing,
+    Decides(With),
+}
+
+// A month of spells: the running values after it, the chance in percent that the spell has ended, what it
+// decides with, and its index, provisional where nothing is decided.
+pub struct SpellMonth {
+    pub after: Running,
+    pub percent: u32,
+    pub decision: Decision,
+    pub index: i32,
+}
+
+// A spell is in force beyond this, in size.
+const IN_FORCE: i32 = 500;
+// A spell is founded from this on, in size.
+const FOUNDS: i32 = 1_000;
+// What a month adds to Z, in the drought's sense, to make U.
+const RELIEF: i64 = 150;
+
+const WEIGHT: i64 = 2_691;
+
+const NORMAL: i64 = 1_500_000;
+
+// A wet spell's number with its sign turned, a drought's as it is.
+fn turned(wet: bool, n: i64) -> i64
+    requires { ⌜ natAbs n ≤ 2 * mostV ⌝ }
+    ensures { λ r. ⌜ r ≡ turn wet n ⌝ }
+{
+    if wet { 0 - n } else { n }
+}
+
+// 100,000 V / Q to the nearest, held within 1 to 99.
+fn percent_of(v: i64, q: i64) -> u32
+    requires { ⌜ natAbs v ≤ 2 * mostV ⌝ }
+    ensures { λ r. ⌜ r ≡ percentOf v q ⌝ }
+{
+    let p = exact::nearest_signed(100_000 * v, q);
+    if p < 1 {
+        return 1;
+    }
+    if p > 99 {
+        return 99;
+    }
+    p as u32
+}
+
+// The larger of 0 and next(x).
+fn raised_next(x: i32, z: i32) -> i32
+    requires { ⌜ natAbs x ≤ mostX ⌝ }
+    requires { ⌜ natAbs z ≤ mostZ ⌝ }
+    ensures { λ r. ⌜ r ≡ raised (nextOf x z) ⌝ }
+{
+    let n = exact::next(x, z);
+    if n >= 0 { n } else { 0 }
+}
+
+// The smaller of 0 and next(x).
+fn lowered_next(x: i32, z: i32) -> i32
+    requires { ⌜ natAbs x ≤ mostX ⌝ }
+    requires { ⌜ natAbs z ≤ mostZ ⌝ }
+    ensures { λ r. ⌜ r ≡ lowered (nextOf x z) ⌝ }
+{
+    let n = exact::next(x, z);
+    if n <= 0 { n } else { 0 }
+}
+
+// The larger in size of X1 and X2, X2 on a tie.
+fn larger_in_size(x1: i32, x2: i32) -> i32
+    requires { ⌜ SidesFit x1 x2 ⌝ }
+    ensures { λ r. ⌜ r ≡ largerInSize x1 x2 ⌝ }
+{
+    if x1 <= 0 - x2 { x2 } else { x1 }
+}
+
+// The index of a month that decides nothing.
+fn provisional_of(s: Running) -> i32
+    requires { ⌜ SidesFit (s .x1) (s .x2) ⌝ }
+    ensures { λ r. ⌜ r ≡ provisional s ⌝ }
+{
+    if s.x3 == 0 {
+        return larger_in_size(s.x1, s.x2);
+    }
+    s.x3
+}
+
+fn steady(x3: i32, z: i32) -> SpellMonth
+    requires { ⌜ (natAbs x3 ≤ mostX) × (natAbs z ≤ mostZ) ⌝ }
+    ensures { λ r. ⌜ r ≡ steadyMonth x3 z ⌝ }
+{
+    let x = exact::next(x3, z);
+    let after = Running {
+        x1: 0,
+        x2: 0,
+        x3: x,
+        v: 0,
+    };
+    SpellMonth {
+        after,
+        percent: 0,
+        decision: Decision::Decides(With::X3),
+        index: x,
+    }
+}
+
+fn abating(s: Running, v: i64, z: i32, percent: u32) -> SpellMonth
+    requires { ⌜ ValuesFit s ⌝ }
+    requires { ⌜ natAbs z ≤ mostZ ⌝ }
+    ensures { λ r. ⌜ r ≡ abatingMonth s v z percent ⌝ }
+{
+    let x1 = raised_next(s.x1, z);
+    let x2 = lowered_next(s.x2, z);
+    let x3 = exact::next(s.x3, z);
+    let after = Running { x1, x2, x3, v };
+    let index = provisional_of(after);
+    SpellMonth {
+        after,
+        percent,
+        decision: Decision::Nothing,
+        index,
+    }
+}
+
+// A spell is founded at x.
+fn found(x: i32, with: With, percent: u32) -> SpellMonth
+    ensures { λ r. ⌜ r ≡ founded x (Decision.Decides with) percent ⌝ }
+{
+    let after = Running {
+        x1: 0,
+        x2: 0,
+        x3: x,
+        v: 0,
+    };
+    SpellMonth {
+        after,
+        percent,
+        decision: Decision::Decides(with),
+        index: x,
+    }
+}
+
+// None is founded: X1 and X2 stay.
+fn leave(x1: i32, x2: i32, decision: Decision, index: i32, percent: u32) -> SpellMonth
+    ensures { λ r. ⌜ r ≡ unfounded x1 x2 decision index percent ⌝ }
+{
+    let after = Running {
+        x1,
+        x2,
+        x3: 0,
+        v: 0,
+    };
+    SpellMonth {
+        after,
+        percent,
+        decision,
+        index,
+    }
+}
+
+// X1 is tried before X2.
+fn try_both(x1: i32, x2: i32, percent: u32) -> SpellMonth
+    requires { ⌜ SidesFit x1 x2 ⌝ }
+    ensures { λ r. ⌜ r ≡ tried x1 x2 percent ⌝ }
+{
+    let dry = 0 - FOUNDS;
+    if x1 >= FOUNDS {
+        return found(x1, With::X1, percent);
+    }
+    if x2 <= dry {
+        return found(x2, With::X2, percent);
+    }
+    if x1 == 0 {
+        return leave(x1, x2, Decision::Decides(With::X2), x2, percent);
+    }
+    if x2 == 0 {
+        return leave(x1, x2, Decision::Decides(With::X1), x1, percent);
+    }
+    let index = larger_in_size(x1, x2);
+    leave(x1, x2, Decision::Nothing, index, percent)
+}
+
+fn no_spell(s: Running, z: i32, percent: u32) -> SpellMonth
+    requires { ⌜ ValuesFit s ⌝ }
+    requires { ⌜ natAbs z ≤ mostZ ⌝ }
+    ensures { λ r. ⌜ r ≡ noSpell s z percent ⌝ }
+{
+    let x1 = raised_next(s.x1, z);
+    let x2 = lowered_next(s.x2, z);
+    try_both(x1, x2, percent)
+}
+
+// A month with a spell in force. V and E decide, never the rounded percent.
+fn in_force(wet: bool, s: Running, z: i32) -> SpellMonth
+    requires { ⌜ ValuesFit s ⌝ }
+    requires { ⌜ natAbs z ≤ mostZ ⌝ }
+    ensures { λ r. ⌜ r ≡ inForce wet s z ⌝ }
+{
+    let x3 = turned(wet, s.x3 as i64);
+    let was = turned(wet, s.v);
+    let u = turned(wet, z as i64) + RELIEF;
+    let v = u + was;
+    let e = 0 - WEIGHT * x3 - NORMAL;
+    if v <= 0 {
+        return steady(s.x3, z);
+    }
+    if 1_000 * u >= e {
+        return no_spell(s, z, 100);
+    }
+    let q = e + 1_000 * was;
+    let percent = percent_of(v, q);
+    let kept = turned(wet, v);
+    abating(s, kept, z, percent)
+}
+
+// One month of spells. For the crates above, which hold the running values and Z in range.
+pub fn step(s: Running, z: i32) -> SpellMonth
+    requires { ⌜ ValuesFit s ⌝ }
+    requires { ⌜ natAbs z ≤ mostZ ⌝ }
+    ensures { λ r. ⌜ r ≡ stepOf s z ⌝ }
+{
+    if s.x3 < 0 - IN_FORCE {
+        return in_force(false, s, z);
+    }
+    if s.x3 > IN_FORCE {
+        return in_force(true, s, z);
+    }
+    no_spell(s, z, 0)
+}

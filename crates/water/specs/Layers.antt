@@ -1,0 +1,26 @@
+-- Document 01, "Quantities": the capacity and the two layers. Every other file and proof goes by these names and the laws of
+-- proofs/LayerLaws.antt, so that other layer sizes are a change of this file alone. Assumes nothing.
+use Prim.Native.Nat.{ℕ, _-_, _≤_}
+use Rattle.water.specs.declared.Soil.{Soil}
+
+-- "Capacity C: 1,000 to 30,000."
+abbrev pub leastCapacity : ℕ
+leastCapacity = 1000
+
+abbrev pub mostCapacity : ℕ
+mostCapacity = 30000
+
+-- "The surface layer holds 1,000,
+unfoldable pub surfaceHolds : ℕ → ℕ
+surfaceHolds c = 1000
+
+-- the underlying layer C - 1,000."
+unfoldable pub underlyingHolds : ℕ → ℕ
+underlyingHolds c = c - surfaceHolds c
+
+-- a soil whose capacity is in range and neither of whose layers is above its own
+pub record SoilFits (s : Soil) : Type 0 where
+  pub least : leastCapacity ≤ s .capacity
+  pub most : s .capacity ≤ mostCapacity
+  pub surface : s .surface ≤ surfaceHolds (s .capacity)
+  pub underlying : s .underlying ≤ underlyingHolds (s .capacity)
