@@ -1,7 +1,7 @@
 -- Document 01, "Not a run", clause by clause, as tests. Assumes nothing.
 use Prim.Native.Nat.{ℕ, _*_}
 use mathlib.Core.Bool.{Bool, _&&_, _||_}
-use lib.IntN.{pos, natAbs}
+use lib.IntN.{ℤ, pos, natAbs}
 use lib.Signed.{leZ, ltZ}
 use lib.Dec.{leb}
 use Rattle.exact.specs.Next.{mostX, mostZ}

@@ -262,10 +262,12 @@ fn start_refusal(constants: &[i32], c: i32, ss: i32, su: i32, m: i32) -> u8
     if constants.len() != MANY_CONSTANTS {
         return 2;
     }
-    if !constants_fit(constants) {
+    let constants_in = constants_fit(constants);
+    let capacity_in = capacity_fits(c);
+    if !constants_in {
         return 3;
     }
-    if !capacity_fits(c) {
+    if !capacity_in {
         return 4;
     }
     if !storages_fit(c, ss, su) {
@@ -350,6 +352,7 @@ pub fn start(constants: &[i32], capacity: i32, surface: i32, underlying: i32, mo
 
 // The longest that lent lists may be.
 const MOST_MONTHS: usize = 2_400;
+
 const MOST_Z: i32 = 4_000_000;
 
 // A length that lent lists may have.
