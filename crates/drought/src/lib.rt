@@ -11,7 +11,6 @@ use runs::Started;
 use spells::SpellMonth;
 use water::Month;
 use water::Soil;
-
 ghost use mathlib.Core.Path.{_≡_};
 ghost use Prim.Native.Nat.{_≤_};
 ghost use lib.IntN.{natAbs};
@@ -28,9 +27,13 @@ ghost use Rattle.drought.specs.Asked.{result, refusal, taken, takenWater
 
 // Refusals.
 const BAD_LISTS: u8 = 1;
+
 const NOT_A_RUN: u8 = 7;
+
 const FULL: u8 = 10;
+
 const NO_SUCH_ROW: u8 = 11;
+
 const BAD_Z: u8 = 12;
 
 // The water of a month: all 0 for an added Z.
@@ -269,7 +272,11 @@ fn row_refusal(fit: bool, n: usize, r: Run, i: usize) -> u8
     if first != 0 {
         return first;
     }
-    if i < r.months as usize { 0 } else { NO_SUCH_ROW }
+    if i < r.months as usize {
+        0
+    } else {
+        NO_SUCH_ROW
+    }
 }
 
 // ---- the work, once nothing is refused

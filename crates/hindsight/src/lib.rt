@@ -4,7 +4,6 @@
 // as a number: 0 nothing, 1 by X1, 2 by X2, 3 by X3. A side is 1 for X1's and 2 for X2's.
 use spells::Decision;
 use spells::With;
-
 ghost use mathlib.Core.Path.{_≡_};
 ghost use mathlib.Core.List.{_++_};
 ghost use Prim.Native.Nat.{ℕ, _-_, _≤_, _<_};

@@ -1,5 +1,5 @@
--- The test of a list of Z: it holds exactly when every Z of the list is in its range, and a scan that has found no other has it from the
--- months that are left. Assumes nothing.
+-- The test of a list of Z: it holds exactly when every Z of the list is in its range. A scan that has passed only such Z has it from those
+-- that are left. Assumes nothing.
 use mathlib.Core.Path.{_≡_, refl, sym, _∙_}
 use mathlib.Core.Bool.{Bool, true, false, _&&_}
 use mathlib.Core.Logic.{_↔_}
@@ -17,7 +17,7 @@ use Rattle.series.specs.Series.{allZFit}
 
 -- ---- the scan
 
--- at a month that is left, the test is the month's own, and that of the later ones
+-- at a Z that is left, the test is its own, and that of the later ones
 scan-at : (z : List ℤ) (i : ℕ) (t : Bool) → i < length z → allZFit z ≡ allZFit (drop i z) → t ≡ zFits (getD z i (pos 0))
     → allZFit z ≡ (t && allZFit (drop (suc i) z))
 scan-at z i t l e f = rw (e, drop-cons z i (pos 0) l, f) refl

@@ -13,7 +13,7 @@ use Rattle.spells.specs.declared.Running.{Running}
 use Rattle.spells.specs.declared.SpellMonth.{SpellMonth}
 use Rattle.spells.specs.Values.{mostU, mostV, FitsWithin, ValuesFit, fresh}
 use Rattle.spells.specs.Spells.{stepOf}
-use Rattle.spells.proofs.Theorems.{values-kept}
+use Rattle.spells.proofs.Theorems.{values-kept, fits-in}
 use Rattle.hindsight.specs.Rule.{Row, forwardIndexes, forwardMarks}
 use Rattle.hindsight.specs.Columns.{rowAt, rowsFrom}
 use Rattle.hindsight.specs.Months.{decisionNumber, nextValues, rowOfZ, rowsOfZ}
@@ -22,20 +22,6 @@ use Rattle.hindsight.proofs.Steps.{Stepping, step-next, step-all}
 use Rattle.runs.specs.Runs.{mostMonths}
 use Rattle.series.specs.Series.{allZFit}
 use Rattle.series.proofs.EachZ.{each-fits}
-
--- values that fit with less room for V fit with more
-widened : (most more : ℕ) (s : Running) → most ≤ more → FitsWithin most s → FitsWithin more s
-widened most more s h f =
-    record {
-      x1-size = f .x1-size;
-      x2-size = f .x2-size;
-      x3-size = f .x3-size;
-      v-size = omega arith;
-      x1-sign = f .x1-sign;
-      x2-sign = f .x2-sign;
-      v-above = f .v-above;
-      v-below = f .v-below;
-    }
 
 -- the loop at month i
 pub record Filling (zs x1 x2 x3 : List ℤ) (by : List ℕ) (shown : List ℤ) (v : Running) (i : ℕ) : Type 0 where
@@ -63,7 +49,7 @@ lent zs column h e = length-take-le (length zs) column (omega arith)
 module _ (zs : List ℤ) (h : length zs ≤ mostMonths) (ok : allZFit zs ≡ true) {x1 x2 x3 : List ℤ} {by : List ℕ} {shown : List ℤ} {v : Running} {i : ℕ} (g : Filling zs x1 x2 x3 by shown v i) where
   -- the step may be asked
   pub filling-fits : ValuesFit v
-  filling-fits = widened (mostU * i) mostV v (omega (arith, g .steps .to)) (g .fits)
+  filling-fits = fits-in (mostU * i) mostV v (g .fits) (omega (arith, g .steps .to))
 
   -- and its month stored
   pub filling-next : (m : SpellMonth) (k : ℕ) → i < length zs → m ≡ stepOf v (getD zs i (pos 0)) → k ≡ decisionNumber (m .decision)
@@ -72,7 +58,7 @@ module _ (zs : List ℤ) (h : length zs ≤ mostMonths) (ok : allZFit zs ≡ tru
       rw (f, e)
       (record {
         steps = step-next nextValues rowOfZ fresh zs mostMonths h x1 x2 x3 by shown v i (i + 1) (pos 0) (r .after .x1) (r .after .x2) (r .after .x3) (decisionNumber (r .decision)) (r .index) (g .steps) (omega arith) l (rw (number-is (r .decision)) refl);
-        fits = widened (mostU * i + mostU) (mostU * (i + 1)) (r .after) (omega arith) (values-kept v (getD zs i (pos 0)) (mostU * i) (g .fits) (each-fits zs ok i l));
+        fits = let k = values-kept v (getD zs i (pos 0)) (mostU * i) (g .fits) (each-fits zs ok i l) in fits-in (mostU * i + mostU) (mostU * (i + 1)) (r .after) k (omega arith);
       })
     where
       r : SpellMonth

@@ -1,5 +1,6 @@
--- The theorems about the whole series: its promise allows one outcome, a refusal writes nothing lent, and each number is given exactly when
--- the paper says. They are of `wholeSeries`, which the promise of `whole_series` cites. Assumes nothing.
+-- The theorems about the whole series: its promise allows one outcome, a refusal writes nothing lent, what is filled is what adding the
+-- months singly fills, and each number is given exactly when the paper says. They are of `wholeSeries`, which the promise of `whole_series`
+-- cites, and go by its refusal's number. Assumes nothing.
 use mathlib.Core.Path.{_≡_, refl, sym, ap, _∙_}
 use mathlib.Core.Bool.{Bool, true, false, _&&_, cond}
 use mathlib.Core.Logic.{_↔_}
@@ -12,7 +13,9 @@ use lib.Dec.{eqb, leb}
 use borrow.Author.Tests.{eqb-true, eq-eqb, leb-true, le-leb}
 use Rattle.runs.specs.Runs.{mostMonths, lengthFits}
 use Rattle.hindsight.specs.Rule.{forwardIndexes, forwardMarks}
+use Rattle.hindsight.specs.Adding.{addAll}
 use Rattle.hindsight.specs.Months.{rowsOfZ}
+use Rattle.hindsight.proofs.Adding.{series-is-adding}
 use Rattle.series.specs.Series.{allZFit, listsFit, seriesRefusal, Filled, filled, filledWith, wholeSeries}
 use Rattle.series.proofs.EachZ.{both, EachFits, each-fits, all-fit}
 
@@ -20,10 +23,10 @@ use Rattle.series.proofs.EachZ.{both, EachFits, each-fits, all-fit}
 
 -- any two outcomes that the promise of `whole_series` allows are the same: the number, and every place of both lists
 pub one-series : (z index : List ℤ) (mark : List ℕ) (r s : ℕ) (i j : List ℤ) (m n : List ℕ)
-    → filled r i m ≡ wholeSeries z index mark → filled s j n ≡ wholeSeries z index mark → (r ≡ s) × (i ≡ j) × (m ≡ n)
+    → filled r i m ≡ wholeSeries z index mark → filled s j n ≡ wholeSeries z index mark → (r ≡ s) × ((i ≡ j) × (m ≡ n))
 one-series z index mark r s i j m n p q =
     let e : filled r i m ≡ filled s j n = p ∙ sym q in
-    (ap (λ (f : Filled). f .number) e, ap (λ (f : Filled). f .index) e, ap (λ (f : Filled). f .mark) e)
+    (ap (λ (f : Filled). f .number) e, (ap (λ (f : Filled). f .index) e, ap (λ (f : Filled). f .mark) e))
 
 -- ---- what the lists then hold
 
@@ -40,32 +43,28 @@ pub filled-is : (z index : List ℤ) (mark : List ℕ) (k : ℕ) (i : List ℤ) 
 unfolding wholeSeries
 filled-is z index mark k i m e f p q = rw (sym e ∙ f, p, q) refl
 
--- the number of an outcome is that of the refusals in their order
-pub number-of : (z index : List ℤ) (mark : List ℕ) (r : ℕ) (i : List ℤ) (m : List ℕ)
-    → filled r i m ≡ wholeSeries z index mark → r ≡ seriesRefusal z (length index) (length mark)
-unfolding wholeSeries
-number-of z index mark r i m p = ap (λ (f : Filled). f .number) p ∙ of (seriesRefusal z (length index) (length mark))
-  where
-    of : (k : ℕ) → filledWith k (rowsOfZ z) index mark .number ≡ k
-    of zero = refl
-    of (suc k) = refl
+-- an outcome that the promise allows
+module _ (z index : List ℤ) (mark : List ℕ) (r : ℕ) (i : List ℤ) (m : List ℕ) (p : filled r i m ≡ wholeSeries z index mark) where
+  -- its number is that of the refusals in their order
+  pub number-of : r ≡ seriesRefusal z (length index) (length mark)
+  unfolding wholeSeries
+  number-of = ap (λ (f : Filled). f .number) p ∙ of (seriesRefusal z (length index) (length mark))
+    where
+      of : (k : ℕ) → filledWith k (rowsOfZ z) index mark .number ≡ k
+      of zero = refl
+      of (suc k) = refl
 
--- a refusal leaves both lists as they were
-pub refused-writes-nothing : (z index : List ℤ) (mark : List ℕ) (r : ℕ) (i : List ℤ) (m : List ℕ)
-    → filled r i m ≡ wholeSeries z index mark → (r ≡ 0 → ⊥) → (i ≡ index) × (m ≡ mark)
-refused-writes-nothing z index mark r i m p f =
-    let e = one-series z index mark r r i index m mark p (refused-is z index mark r (number-of z index mark r i m p) f) in
-    (e .1, e .2)
+  -- a refusal leaves both lists as they were
+  pub refused-writes-nothing : (r ≡ 0 → ⊥) → (i ≡ index) × (m ≡ mark)
+  refused-writes-nothing f = one-series z index mark r r i index m mark p (refused-is z index mark r number-of f) .1
 
--- and where nothing is refused both are the forward rule's over the rows of the Z
-pub done-fills : (z index : List ℤ) (mark : List ℕ) (r : ℕ) (i : List ℤ) (m : List ℕ)
-    → filled r i m ≡ wholeSeries z index mark → r ≡ 0 → (i ≡ forwardIndexes (rowsOfZ z)) × (m ≡ forwardMarks (rowsOfZ z))
-done-fills z index mark r i m p f =
-    let e =
-    one-series z index mark r 0 i (forwardIndexes (rowsOfZ z)) m (forwardMarks (rowsOfZ z)) p
-    (filled-is z index mark r (forwardIndexes (rowsOfZ z)) (forwardMarks (rowsOfZ z)) (number-of z index mark r i m p) f refl refl)
-    in
-    (e .1, e .2)
+  -- and where nothing is refused both are the forward rule's over the rows of the Z
+  pub done-fills : r ≡ 0 → (i ≡ forwardIndexes (rowsOfZ z)) × (m ≡ forwardMarks (rowsOfZ z))
+  done-fills f = one-series z index mark r 0 i (forwardIndexes (rowsOfZ z)) m (forwardMarks (rowsOfZ z)) p (filled-is z index mark r _ _ number-of f refl refl) .1
+
+  -- which is what adding the months singly to a fresh run's columns fills
+  pub done-as-added : r ≡ 0 → (i ≡ addAll (rowsOfZ z) .index) × (m ≡ addAll (rowsOfZ z) .mark)
+  done-as-added f = let e = series-is-adding (rowsOfZ z) in (done-fills f .0 ∙ e .0, done-fills f .1 ∙ e .1)
 
 -- ---- each number "given exactly when"
 
@@ -76,7 +75,7 @@ pub record ListsFit (z index mark : ℕ) : Type 0 where
   pub some : 1 ≤ z
   pub within : z ≤ mostMonths
 
-pub lists-true : (z index mark : ℕ) → listsFit z index mark ≡ true → ListsFit z index mark
+lists-true : (z index mark : ℕ) → listsFit z index mark ≡ true → ListsFit z index mark
 unfolding listsFit lengthFits
 lists-true z index mark e =
     let p = both (eqb index z && eqb mark z) (leb 1 z && leb z mostMonths) e in

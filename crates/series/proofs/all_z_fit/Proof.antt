@@ -1,4 +1,4 @@
--- `series::all_z_fit`: the months passed are in range, so that the test is that of the months left. Assumes nothing.
+-- `series::all_z_fit`: the Z passed are in range, so that the test is that of the Z left. Assumes nothing.
 use mathlib.Core.Path.{_≡_, refl}
 use Prim.Native.Nat.{_-_, _≤_}
 use native.Mathlib.Omega.{arith}

@@ -1,5 +1,5 @@
 -- `series::whole_series`: a refusal leaves both lists, and where there is none the lists fit and `fill` may be asked. Assumes nothing.
-use mathlib.Core.Path.{sym, _∙_}
+use mathlib.Core.Path.{_≡_, sym, _∙_}
 use native.Mathlib.Omega.{arith}
 use borrow.Author.Needs.{needs}
 use lib.ListN.{length}
@@ -21,7 +21,8 @@ fill-requires : tie.Need-fill-requires
 fill-requires c κs =
     let r = c .before .before .before in
     let s = r .before .before in
-    let f = done-exactly (now (s .args .z)) (length (now (s .args .index))) (length (now (s .args .mark))) .0 (sym (r .series-refusal .ensures) ∙ c .before .before .if1 .left) in
+    let none : r .series-refusal .result ≡ 0 = omega arith in
+    let f = done-exactly (now (s .args .z)) (length (now (s .args .index))) (length (now (s .args .mark))) .0 (sym (r .series-refusal .ensures) ∙ none) in
     ((f .0 .within, f .0 .index-long, f .0 .mark-long), all-fit (now (s .args .z)) (f .1))
 
 same-length : tie.Need-same-length
@@ -33,10 +34,9 @@ same-length-2 c = search needs
 returns-2 : tie.Need-returns-2
 returns-2 c =
     let fl = c .before .before .before in
-    let el = fl .before .before .before in
-    let r = el .before in
+    let r = fl .before .before .before .before in
     let s = r .before .before in
-    filled-is (now (s .args .z)) (now (s .args .index)) (now (s .args .mark)) (r .series-refusal .result) _ _ (r .series-refusal .ensures) (el .if1 .left) (fl .fill .ensures .0) (fl .fill .ensures .1)
+    filled-is (now (s .args .z)) (now (s .args .index)) (now (s .args .mark)) (r .series-refusal .result) _ _ (r .series-refusal .ensures) (omega arith) (fl .fill .ensures .0) (fl .fill .ensures .1)
 
 pub whole-series-spec : {M : Type 1} → statement M
 whole-series-spec =

@@ -1,0 +1,7 @@
+-- The demands, and what their proofs share.
+pub mod Keeps
+pub mod Took
+pub mod Sequence
+pub mod Rows
+pub mod Demands
+pub mod Honest

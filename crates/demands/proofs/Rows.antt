@@ -1,0 +1,18 @@
+-- Rows that a step with a state gives, month after month. Assumes nothing.
+use mathlib.Core.Path.{_≡_, refl, ap}
+use mathlib.Core.List.{List, [], _∷_, _++_}
+use Prim.Native.Nat.{ℕ, suc}
+use lib.ListN.{length}
+use Rattle.hindsight.specs.Rule.{Row}
+use Rattle.hindsight.specs.Columns.{rowsOf, stateOf}
+
+module _ {S Z : Type 0} (next : S → Z → S) (row : S → Z → Row) where
+  -- as many as the months
+  pub rows-long : (s : S) (l : List Z) → length (rowsOf next row s l) ≡ length l
+  rows-long s [] = refl
+  rows-long s (z ∷ l) = ap suc (rows-long (next s z) l)
+
+  -- of months, and then more
+  pub rows-append : (s : S) (l m : List Z) → rowsOf next row s (l ++ m) ≡ rowsOf next row s l ++ rowsOf next row (stateOf next s l) m
+  rows-append s [] m = refl
+  rows-append s (z ∷ l) m = ap (λ (k : List Row). row s z ∷ k) (rows-append (next s z) l m)

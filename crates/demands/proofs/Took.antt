@@ -1,0 +1,140 @@
+-- A call that accepts a month: nothing was refused, and it did what `taken` says, with the storages, the water and the Z that the station's
+-- rules give. So the run and the columns that it leaves are good again, and hold the months before with one row more. Assumes nothing.
+use mathlib.Core.Path.{_≡_, refl, sym, ap, _∙_, subst}
+use mathlib.Core.Bool.{Bool, true}
+use mathlib.Core.List.{List, [], _∷_, _++_}
+use Prim.Native.Nat.{ℕ, zero, suc, _≤_, _<_}
+use native.Mathlib.Omega.{arith}
+use lib.IntN.{ℤ, natAbs}
+use lib.ListN.{length, drop, set}
+use Rattle.exact.specs.Next.{mostZ}
+use Rattle.door.specs.Outcome.{Outcome}
+use Rattle.door.specs.Readings.{mostReading, reading, month}
+use Rattle.door.proofs.Bounds.{reading-most, inches-most}
+use Rattle.water.specs.Layers.{SoilFits}
+use Rattle.water.proofs.Theorems.{z-acceptable, month-layers-kept}
+use Rattle.spells.specs.Spells.{stepOf}
+use Rattle.hindsight.specs.Rule.{Row}
+use Rattle.hindsight.specs.Columns.{runFrom, rowOf}
+use Rattle.hindsight.specs.Adding.{addMonth, settledCount}
+use Rattle.hindsight.specs.Months.{rowFor, decisionNumber}
+use Rattle.hindsight.proofs.Adding.{adds-run}
+use Rattle.runs.specs.Ranges.{constantsAt}
+use Rattle.runs.specs.Runs.{isRun}
+use Rattle.runs.specs.declared.Run.{Run}
+use Rattle.drought.specs.Columns.{Columns, long, columnsFit}
+use Rattle.drought.specs.Refusals.{waterRefusal, zRefusal}
+use Rattle.drought.specs.Asked.{Result, result, refusal, heldBy, taken, takenZ, takenWater, waterOf, unless, addOutcomes, addWater, addInches, addZ}
+use Rattle.drought.proofs.Refused.{water-passes, z-passes}
+use Rattle.drought.proofs.Readiness.{run-is, lengths-are}
+use Rattle.drought.proofs.Taken.{row-is}
+use Rattle.demands.specs.Months.{Ask, water, inches, anomaly, asked, State, stateOf, after, stationOf, zFor, soilFor, waterFor, stationNext, stationRow}
+use Rattle.demands.proofs.Keeps.{columns-kept, run-kept, wrote-index, wrote-mark}
+
+-- columns that fit, and a run for them
+pub record Good (r : Run) (cs : Columns) : Type 0 where
+  pub fit : columnsFit cs ≡ true
+  pub run : isRun (long cs) r ≡ true
+
+-- a month that was taken
+pub record Took (r : Run) (a : Ask) (cs : Columns) : Type 0 where
+  pub good : Good r cs
+  pub room : r .months < long cs
+  pub soil : SoilFits (soilFor (stationOf r) a)
+  pub z : natAbs (zFor (stationOf r) a) ≤ mostZ
+  pub did : asked r a cs ≡ taken r (soilFor (stationOf r) a) (waterFor (stationOf r) a) (zFor (stationOf r) a) cs
+
+-- a number of 0 lets the result through
+unless-zero : (k : ℕ) (r : Run) (cs : Columns) (done : Result) → unless k r cs done .answer .number ≡ 0 → (k ≡ 0) × (unless k r cs done ≡ done)
+unless-zero zero r cs done h = (refl, refl)
+unless-zero (suc k) r cs done h = absurd (omega arith)
+
+module _ (r : Run) (cs : Columns) where
+  -- two outcomes that are accepted
+  took-water : (a : Ask) (p pe : Outcome) → p .water ≤ mostReading → pe .water ≤ mostReading
+      → asked r a cs ≡ addOutcomes r p pe cs
+      → soilFor (stationOf r) a ≡ record { capacity = r .soil .capacity; surface = waterOf r (p .water) (pe .water) .surface; underlying = waterOf r (p .water) (pe .water) .underlying }
+      → zFor (stationOf r) a ≡ waterOf r (p .water) (pe .water) .z
+      → takenWater r (p .water) (pe .water) cs ≡ taken r (soilFor (stationOf r) a) (waterFor (stationOf r) a) (zFor (stationOf r) a) cs
+      → asked r a cs .answer .number ≡ 0 → Took r a cs
+  unfolding addOutcomes
+  took-water a p pe hp hpe is soil z did h =
+      let k = waterRefusal (columnsFit cs) (long cs) r (p .number) (pe .number) in
+      let u = unless-zero k r cs (takenWater r (p .water) (pe .water) cs) (sym (ap (λ (b : Result). b .answer .number) is) ∙ h) in
+      let g = water-passes (columnsFit cs) (long cs) r (p .number) (pe .number) (u .0) in
+      let f = run-is r cs (g .0 .0) (g .0 .1) in
+      record {
+        good = record { fit = g .0 .0; run = g .0 .1 };
+        room = g .1;
+        soil = rw soil (month-layers-kept (r .soil) (p .water) (pe .water) (constantsAt (r .constants) (r .calendar)) (f .soil));
+        z = rw z (z-acceptable (r .soil) (p .water) (pe .water) (constantsAt (r .constants) (r .calendar)) (f .soil) hp hpe (f .month-constants));
+        did = is ∙ u .1 ∙ did;
+      }
+
+  pub took : (a : Ask) → asked r a cs .answer .number ≡ 0 → Took r a cs
+  unfolding addWater addInches addZ takenWater month
+  took (water p pe) h = took-water (water p pe) (reading p) (reading pe) (reading-most p) (reading-most pe) refl refl refl refl h
+  took (inches q) h = took-water (inches q) (month q .p) (month q .pe) (inches-most (q .p)) (inches-most (q .pe)) refl refl refl refl h
+  took (anomaly z) h =
+      let u = unless-zero (zRefusal (columnsFit cs) (long cs) r z) r cs (takenZ r z cs) h in
+      let g = z-passes (columnsFit cs) (long cs) r z (u .0) in
+      let f = run-is r cs (g .0 .0) (g .0 .1) in
+      record { good = record { fit = g .0 .0; run = g .0 .1 }; room = g .1; soil = f .soil; z = g .2; did = u .1 }
+
+-- ---- what a taken month leaves
+module _ (r : Run) (a : Ask) (cs : Columns) (t : Took r a cs) where
+  abbrev next : State
+  next = stateOf (asked r a cs)
+
+  pub good-kept : Good (next .run) (next .columns)
+  good-kept =
+      rw (t .did)
+      (record {
+        fit = columns-kept r cs (t .good .fit) (t .good .run) (t .room) (soilFor (stationOf r) a) (t .soil) (waterFor (stationOf r) a) (zFor (stationOf r) a) (t .z);
+        run = run-kept r cs (t .good .fit) (t .good .run) (t .room) (soilFor (stationOf r) a) (t .soil) (waterFor (stationOf r) a) (zFor (stationOf r) a) (t .z);
+      })
+
+  -- one month more
+  pub months-next : next .run .months ≡ suc (r .months)
+  unfolding taken
+  months-next = ap (λ (b : Result). b .answer .run .months) (t .did)
+
+  -- the station moves on by its own rules
+  pub station-next : stationOf (next .run) ≡ stationNext (stationOf r) a
+  unfolding taken
+  station-next = ap (λ (b : Result). stationOf (b .answer .run)) (t .did)
+
+  -- the number of months settled
+  pub settled-is : asked r a cs .answer .settled ≡ settledCount (heldBy r cs) (stationRow (stationOf r) a)
+  unfolding taken
+  settled-is = ap (λ (b : Result). b .answer .settled) (t .did)
+
+  -- the running values' columns: the month's own place is written, and no other
+  pub x1-next : next .columns .x1 ≡ set (cs .x1) (r .months) (stationRow (stationOf r) a .x .x1)
+  unfolding taken
+  x1-next = ap (λ (b : Result). b .columns .x1) (t .did)
+
+  pub x2-next : next .columns .x2 ≡ set (cs .x2) (r .months) (stationRow (stationOf r) a .x .x2)
+  unfolding taken
+  x2-next = ap (λ (b : Result). b .columns .x2) (t .did)
+
+  pub x3-next : next .columns .x3 ≡ set (cs .x3) (r .months) (stationRow (stationOf r) a .x .x3)
+  unfolding taken
+  x3-next = ap (λ (b : Result). b .columns .x3) (t .did)
+
+  -- the columns hold the months before, with the new month's row added
+  pub held-next : heldBy (next .run) (next .columns) ≡ addMonth (heldBy r cs) (stationRow (stationOf r) a)
+  unfolding taken
+  held-next =
+      let s = stepOf (r .values) (zFor (stationOf r) a) in
+      let l = lengths-are (long cs) (length (cs .x2)) (length (cs .x3)) (length (cs .index)) (length (cs .mark)) (t .good .fit) in
+      let q = row-is s (decisionNumber (s .decision)) refl in
+      let row = rowOf (s .after .x1) (s .after .x2) (s .after .x3) (decisionNumber (s .decision)) (s .index) in
+      let i = wrote-index r cs (t .good .fit) (t .good .run) (t .room) row in
+      let m = wrote-mark r cs (t .good .fit) (t .good .run) (t .room) row in
+      let h = t .room in
+      ap (λ (b : Result). heldBy (b .answer .run) (b .columns)) (t .did)
+      ∙ subst (λ (row : Row). runFrom (set (cs .x1) (r .months) (s .after .x1)) (set (cs .x2) (r .months) (s .after .x2)) (set (cs .x3) (r .months) (s .after .x3)) (addMonth (heldBy r cs) row .index ++ drop (suc (r .months)) (cs .index)) (addMonth (heldBy r cs) row .mark ++ drop (suc (r .months)) (cs .mark)) (suc (r .months)) (addMonth (heldBy r cs) row .opens) ≡ addMonth (heldBy r cs) row) q
+      (adds-run (cs .x1) (cs .x2) (cs .x3) (cs .index) (cs .mark) (r .months) (r .opens) (s .after .x1) (s .after .x2) (s .after .x3) (decisionNumber (s .decision)) (s .index) _ _ _ _ h (omega arith) (omega arith) (omega arith) (omega arith)
+      (i ∙ sym (l .2)) (m ∙ sym (l .3))
+      (record { index-is = refl; mark-is = refl; opens-is = refl; settled-is = refl }))

@@ -1,0 +1,102 @@
+-- Months added one by one: what may be added, the state that the calls carry from one to the next, and the rows that the rules of a month
+-- give, which know nothing of columns. The theorems of demand 3 speak in these words. Assumes nothing.
+use Prim.Native.Nat.{ℕ}
+use mathlib.Core.Path.{_≡_}
+use mathlib.Core.List.{List, [], _∷_}
+use lib.IntN.{ℤ}
+use Rattle.door.specs.Outcome.{Outcome}
+use Rattle.door.specs.Readings.{reading, month}
+use Rattle.door.specs.declared.Reading.{Reading}
+use Rattle.door.specs.declared.MonthInches.{MonthInches}
+use Rattle.water.specs.Expected.{monthOf}
+use Rattle.water.specs.declared.Soil.{Soil}
+use Rattle.water.specs.declared.Month.{Month}
+use Rattle.spells.specs.Spells.{stepOf}
+use Rattle.spells.specs.declared.Running.{Running}
+use Rattle.hindsight.specs.Rule.{Row}
+use Rattle.hindsight.specs.Columns.{rowsOf}
+use Rattle.hindsight.specs.Months.{rowFor}
+use Rattle.runs.specs.Ranges.{constantsAt, nextCalendar}
+use Rattle.runs.specs.declared.Run.{Run}
+use Rattle.drought.specs.Columns.{Columns}
+use Rattle.drought.specs.Figures.{waterFigures, noWater}
+use Rattle.drought.specs.Asked.{Result, soilAfter, addWater, addInches, addZ}
+use Rattle.drought.specs.declared.WaterFigures.{WaterFigures}
+
+-- a month that is added: water by two readings, water by two binary32 inches, or a Z
+pub data Ask : Type 0 where
+  water : Reading → Reading → Ask
+  inches : MonthInches → Ask
+  anomaly : ℤ → Ask
+
+-- the call that adds it
+abbrev pub asked : Run → Ask → Columns → Result
+asked r (water p pe) cs = addWater r p pe cs
+asked r (inches q) cs = addInches r q cs
+asked r (anomaly z) cs = addZ r z cs
+
+-- the run that a call handed back, and the columns as it left them: "columns nobody else writes"
+pub record State : Type 0 where
+  pub run : Run
+  pub columns : Columns
+
+abbrev pub stateOf : Result → State
+stateOf a = record { run = a .answer .run; columns = a .columns }
+
+abbrev pub after : State → Ask → State
+after s a = stateOf (asked (s .run) a (s .columns))
+
+-- months added one by one
+abbrev pub afterAll : State → List Ask → State
+afterAll s [] = s
+afterAll s (a ∷ later) = afterAll (after s a) later
+
+-- "accepted months": no call refuses
+abbrev pub Accepted : State → List Ask → Type 0
+Accepted s [] = Unit {0}
+Accepted s (a ∷ later) = (asked (s .run) a (s .columns) .answer .number ≡ 0) × Accepted (after s a) later
+
+-- ---- the rows of months, by the rules of water and of spells alone
+pub record Station : Type 0 where
+  pub soil : Soil
+  pub calendar : ℕ
+  pub constants : List ℤ
+  pub values : Running
+
+abbrev pub stationOf : Run → Station
+stationOf r = record { soil = r .soil; calendar = r .calendar; constants = r .constants; values = r .values }
+
+-- the station's month of water
+abbrev pub watered : Station → ℕ → ℕ → Month
+watered s p pe = monthOf (s .soil) p pe (constantsAt (s .constants) (s .calendar))
+
+abbrev pub zFor : Station → Ask → ℤ
+zFor s (water p pe) = watered s (reading p .water) (reading pe .water) .z
+zFor s (inches q) = watered s (month q .p .water) (month q .pe .water) .z
+zFor s (anomaly z) = z
+
+abbrev pub soilFor : Station → Ask → Soil
+soilFor s (water p pe) = soilAfter (s .soil) (watered s (reading p .water) (reading pe .water))
+soilFor s (inches q) = soilAfter (s .soil) (watered s (month q .p .water) (month q .pe .water))
+soilFor s (anomaly z) = s .soil
+
+abbrev pub waterFor : Station → Ask → WaterFigures
+waterFor s (water p pe) = waterFigures (reading p .water) (reading pe .water) (watered s (reading p .water) (reading pe .water))
+waterFor s (inches q) = waterFigures (month q .p .water) (month q .pe .water) (watered s (month q .p .water) (month q .pe .water))
+waterFor s (anomaly z) = noWater
+
+abbrev pub stationNext : Station → Ask → Station
+stationNext s a =
+    record {
+      soil = soilFor s a;
+      calendar = nextCalendar (s .calendar);
+      constants = s .constants;
+      values = stepOf (s .values) (zFor s a) .after;
+    }
+
+abbrev pub stationRow : Station → Ask → Row
+stationRow s a = rowFor (stepOf (s .values) (zFor s a))
+
+-- the rows of all months so far
+abbrev pub rowsOfMonths : Run → List Ask → List Row
+rowsOfMonths r asks = rowsOf stationNext stationRow (stationOf r) asks

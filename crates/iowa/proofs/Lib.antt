@@ -1,0 +1,3 @@
+-- What the proofs of `iowa` share.
+pub mod Sizes
+pub mod Kept

@@ -1,0 +1,3 @@
+-- What the proofs of `kansas` share.
+pub mod Sizes
+pub mod Kept

@@ -1,0 +1,19 @@
+-- `kansas::amounts::tenfold` is safe. Assumes nothing.
+use Rattle.kansas.proofs.Sizes.{sizes}
+use Rattle.kansas.proofs.amounts.tenfold.Statement.{statement}
+use Rattle.kansas.proofs.amounts.tenfold.Tie as tie
+
+cast-small : tie.Need-cast-small
+cast-small c = search sizes
+
+mul-small : tie.Need-mul-small
+mul-small c = search sizes
+
+small-requires : tie.Need-small-requires
+small-requires c κs = search sizes
+
+returns : tie.Need-returns
+returns c = search sizes
+
+pub tenfold-spec : {M : Type 1} → statement M
+tenfold-spec = tie.close (tie.spec cast-small mul-small small-requires returns)
