@@ -5,3 +5,5 @@ pub mod Sequence
 pub mod Rows
 pub mod Demands
 pub mod Honest
+pub mod Singly
+pub mod WorkedMonths

@@ -17,7 +17,8 @@ use Rattle.spells.specs.Spells.{stepOf}
 use Rattle.hindsight.specs.Rule.{Row}
 use Rattle.hindsight.specs.Columns.{runFrom, rowOf}
 use Rattle.hindsight.specs.Adding.{addMonth, settledCount}
-use Rattle.hindsight.specs.Months.{rowFor, decisionNumber}
+use Rattle.spells.specs.Decisions.{decisionNumber}
+use Rattle.hindsight.specs.Months.{rowFor}
 use Rattle.hindsight.proofs.Adding.{adds-run}
 use Rattle.runs.specs.Ranges.{constantsAt}
 use Rattle.runs.specs.Runs.{isRun}

@@ -14,7 +14,8 @@ use Rattle.hindsight.specs.Rule.{Row}
 use Rattle.hindsight.specs.Adding.{addAs, addMonth, settledAs, settledCount}
 use Rattle.hindsight.specs.Adding.{Run as Held}
 use Rattle.hindsight.specs.Columns.{rowOf, Adds}
-use Rattle.hindsight.specs.Months.{decisionNumber, rowFor}
+use Rattle.spells.specs.Decisions.{decisionNumber}
+use Rattle.hindsight.specs.Months.{rowFor}
 use Rattle.hindsight.proofs.Numbers.{number-is}
 use Rattle.runs.specs.Ranges.{nextCalendar}
 use Rattle.runs.specs.declared.Run.{Run}

@@ -58,7 +58,7 @@ module _ (x1 x2 x3 index : List ℤ) (mark : List ℕ) (n opens : ℕ) (a b c : 
       rw (decision-zero by z)
       (record { index-is = store-end index n shown hi; mark-is = store-end mark n 1 hm; opens-is = omega arith; settled-is = refl })
 
-  -- a month that Decides: what `settle` leaves
+  -- a month that decides: what `settle` leaves
   kept-at : kept (runFrom x1 x2 x3 index mark n opens) ≡ n - opens
   kept-at = ap (λ (k : ℕ). k - opens) (length-xs (xAt x1 x2 x3) 0 n)
 

@@ -78,6 +78,6 @@ turn f by at i j e from index₀ mark₀ index mark side told value l hi hm g t 
       mark-long = simp length-set (g .mark-long);
     }
 
--- at the start Nothing is written
+-- at the start nothing is written
 pub at-first : {A : Type 0} (l : List A) (at : ℕ) → l ≡ take at l ++ drop at l
 at-first l at = sym (take-append-drop at l)

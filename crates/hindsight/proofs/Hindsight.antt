@@ -1,5 +1,5 @@
--- Adding months one by one shows what the forward rule says. The invariant: the months so far are `s ++ t`, nobody in t Decides, s is closed
--- (whatever comes after s, the forward rule says of s what it said, and Nothing of s bears on what comes after), and the run is `runOf s t`. Assumes nothing.
+-- Adding months one by one shows what the forward rule says. The invariant: the months so far are `s ++ t`, nobody in t decides, s is closed
+-- (whatever comes after s, the forward rule says of s what it said, and nothing of s bears on what comes after), and the run is `runOf s t`. Assumes nothing.
 use mathlib.Core.Path.{_≡_, refl, sym, ap, _∙_, subst}
 use mathlib.Core.Logic.{_↔_, _⊎_, inl, inr, ⊎-elim}
 use mathlib.Core.List.{List, [], _∷_, _++_, map, append-assoc, append-nil}
@@ -23,7 +23,7 @@ xOf r = r .x
 abbrev pub shownOf : Row → ℤ
 shownOf r = r .shown
 
--- nobody of these months Decides
+-- nobody of these months decides
 abbrev pub Wait : List Row → Type 0
 Wait [] = Unit {0}
 Wait (r ∷ later) = (r .decision ≡ Nothing) × Wait later
@@ -90,7 +90,7 @@ unfolding shows
 shows-indexes w [] = refl
 shows-indexes w (m ∷ l) = ap (λ (r : List ℤ). settledIndex w m l ∷ r) (shows-indexes w l)
 
--- the two closings: Nothing is closed, and s with the open months and the month that settles them is
+-- the two closings: nothing is closed, and s with the open months and the month that settles them is
 closed-nil : Closed []
 closed-nil rest = refl
 
@@ -127,7 +127,7 @@ replicate-snoc (suc n) a = ap (λ (r : List ℕ). a ∷ r) (replicate-snoc n a)
 add-waits : (s t : List Row) (r : Row) → addAs Nothing (runOf s t) r ≡ runOf s (t ++ (r ∷ []))
 add-waits s t r = simp (map-append, append-assoc, length-snoc, replicate-snoc)
 
--- one month more, which Decides: the three columns
+-- one month more, which decides: the three columns
 module _ (s t : List Row) (r : Row) (w : With) (c : Closed s) (h : Wait t) (e : r .decision ≡ Decides w) where
   past-Decides : map xOf s ++ map xOf t ++ (r .x ∷ []) ≡ map xOf (s ++ (t ++ (r ∷ []))) ++ []
   past-Decides = simp (map-append, append-assoc, append-nil)
@@ -242,11 +242,11 @@ length-columns rows run v =
 pub every-place : (rows : List Row) → (length (addAll rows .index) ≡ length rows) × (length (addAll rows .mark) ≡ length rows)
 every-place rows = length-columns rows (addAll rows) (inv rows)
 
--- THEOREM 2: a month is open exactly when no month from it onward Decides
+-- THEOREM 2: a month is open exactly when no month from it onward decides
 blank : Row
 blank = record { x = record { x1 = pos 0; x2 = pos 0; x3 = pos 0 }; decision = Nothing; shown = pos 0 }
 
--- no month from place i onward Decides
+-- no month from place i onward decides
 abbrev pub NoneFrom : List Row → ℕ → Type 0
 NoneFrom rows i = (j : ℕ) (r : Row) → i ≤ j → j < length rows → getD rows j r .decision ≡ Nothing
 
@@ -400,7 +400,7 @@ opens-counts rows =
     )
 
 -- THEOREM 5: what an add answers is the number of marks that it writes as 2.
--- Of any run at all: after a month that Decides, the marks before the open months stand as they were, and as many marks as it answers follow, each 2 ..
+-- Of any run at all: after a month that decides, the marks before the open months stand as they were, and as many marks as it answers follow, each 2 ..
 pub writes-settled : (run : Run) (r : Row) (w : With) → r .decision ≡ Decides w
     → addMonth run r .mark ≡ take (kept run) (run .mark) ++ replicate (settledCount run r) 2
 writes-settled run r w e = rw e (rw replicate-snoc refl)

@@ -12,7 +12,7 @@ use Rattle.hindsight.specs.Rule.{X, Side, first, second, nonzero, oneOf}
 use Rattle.spells.specs.declared.Decision.{Decision}
 use Rattle.spells.specs.declared.Decision.the-variants.{Nothing, Decides}
 use Rattle.hindsight.specs.Columns.{withOf, sideOf, toldNo, valueBy, decisionOf}
-use Rattle.hindsight.specs.Months.{decisionNumber}
+use Rattle.spells.specs.Decisions.{decisionNumber}
 
 -- a test `a == 0` of an i32 is a fact of its bits
 pub bits-zero : (a : ℤ) → SFits w32 a → ofZ w32 a ≡ 0 → nonzero a ≡ false

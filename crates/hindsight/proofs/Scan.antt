@@ -12,7 +12,7 @@ use Rattle.spells.specs.declared.Decision.the-variants.{Nothing, Decides}
 use Rattle.hindsight.specs.Rule.{X, Row, Side, nonzero, oneOf, sideFrom, Deciding, nobody, after, oneEarlier, decidingFor, deciding, Shown}
 use Rattle.hindsight.specs.Columns.{xsFrom, withOf, sideOf, toldNo, decisionOf, rowsFrom}
 
--- what a scan from place i found: the number d of a decision (0: none), the place of the month that Decides, and a side's number
+-- what a scan from place i found: the number d of a decision (0: none), the place of the month that decides, and a side's number
 abbrev pub foundBy : Decision → List X → ℤ → Deciding
 foundBy Nothing before i = nobody
 foundBy (Decides w) before i = after before w i
@@ -88,7 +88,7 @@ told true false s f = refl
 told false true s f = refl
 told false false s f = absurd (f refl)
 
--- the scan for the deciding month, at the month `at`: nobody from i up to it Decides
+-- the scan for the deciding month, at the month `at`: nobody from i up to it decides
 pub record Scanning (f : ℕ → Row) (n i d at : ℕ) : Type 0 where
   pub from : i ≤ at
   pub to : at ≤ n
@@ -118,7 +118,7 @@ scan-next f n i d d' at at' g e h p z =
           ∙ rw (rows-cons f at at' n e h, p, decision-zero d' z, xs-snoc (λ k. f k .x) i at at' e (g .from)) (sym (earlier-snoc (xsFrom (λ k. f k .x) i (at - i)) (f at .x) (deciding (rowsFrom f at' (n - at')))));
     }
 
--- nobody Decides
+-- nobody decides
 pub scan-out : (f : ℕ → Row) (n i d side at : ℕ) → Scanning f n i d at → n ≤ at → Ruled f n i at d side
 scan-out f n i d side at g h =
     let e : n - at ≡ 0 = omega arith in
@@ -129,7 +129,7 @@ scan-out f n i d side at g h =
       sided = λ z. absurd (z (g .none));
     }
 
--- a month that Decides
+-- a month that decides
 pub scan-found : (f : ℕ → Row) (n i d d' side at : ℕ) → Scanning f n i d at → at < n → f at .decision ≡ decisionOf d' → (d' ≡ 0 → ⊥)
     → sideOf side ≡ sideFrom (xsFrom (λ k. f k .x) i (at - i)) (sideOf d') → Ruled f n i at d' side
 scan-found f n i d d' side at g h p z q =

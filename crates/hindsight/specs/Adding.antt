@@ -49,7 +49,7 @@ addAs (Decides w) run r =
 abbrev pub addMonth : Run → Row → Run
 addMonth run r = addAs (r .decision) run r
 
--- what the add answers: "the open months before it plus one if it Decides, else 0"
+-- what the add answers: "the open months before it plus one if it decides, else 0"
 abbrev pub settledAs : Decision → ℕ → ℕ
 settledAs Nothing opens = 0
 settledAs (Decides w) opens = suc opens

@@ -6,22 +6,10 @@ use Rattle.spells.specs.Spells.{stepOf}
 use Rattle.spells.specs.Values.{fresh}
 use Rattle.spells.specs.declared.Running.{Running}
 use Rattle.spells.specs.declared.SpellMonth.{SpellMonth}
-use Rattle.spells.specs.declared.With.{With}
-use Rattle.spells.specs.declared.With.the-variants.{X1, X2, X3}
 use Rattle.spells.specs.declared.Decision.{Decision}
 use Rattle.spells.specs.declared.Decision.the-variants.{Nothing, Decides}
 use Rattle.hindsight.specs.Rule.{Row}
 use Rattle.hindsight.specs.Columns.{rowsOf}
-
--- a decision's number: 0 nothing, 1, 2, 3 with X1, X2, X3
-abbrev pub withNumber : With → ℕ
-withNumber X1 = 1
-withNumber X2 = 2
-withNumber X3 = 3
-
-abbrev pub decisionNumber : Decision → ℕ
-decisionNumber Nothing = 0
-decisionNumber (Decides w) = withNumber w
 
 -- "mark (1 open, 2 settled)", of the month that decides so
 abbrev pub markFor : Decision → ℕ

@@ -15,7 +15,7 @@ pub record X : Type 0 where
   pub x2 : ℤ
   pub x3 : ℤ
 
--- what one month's step gives: its running values, whether and with what it Decides, and the index that it shows itself when it is added
+-- what one month's step gives: its running values, whether and with what it decides, and the index that it shows itself when it is added
 -- (the provisional index of a month that does not decide; of one that does the new X3 if one was established, else its value on the deciding side)
 pub record Row : Type 0 where
   pub x : X
@@ -56,7 +56,7 @@ settledIndex X1 m later = valueOn (sideFrom (m ∷ later) first) m
 settledIndex X2 m later = valueOn (sideFrom (m ∷ later) second) m
 settledIndex X3 m later = m .x3
 
--- "A month's deciding month is the first from it onward that Decides." Nobody, or, after the months before it, one that decides with w and shows the index i
+-- "A month's deciding month is the first from it onward that decides." Nobody, or, after the months before it, one that decides with w and shows the index i
 pub data Deciding : Type 0 where
   nobody : Deciding
   after : List X → With → ℤ → Deciding

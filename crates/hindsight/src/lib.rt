@@ -10,7 +10,8 @@ ghost use Prim.Native.Nat.{ℕ, _-_, _≤_, _<_};
 ghost use lib.ListN.{length, take, drop, set, replicate};
 ghost use Rattle.hindsight.specs.Rule.{nonzero, forwardIndexes, forwardMarks};
 ghost use Rattle.hindsight.specs.Adding.{settledAll};
-ghost use Rattle.hindsight.specs.Months.{withNumber, decisionNumber, markFor};
+ghost use Rattle.spells.specs.Decisions.{withNumber, decisionNumber};
+ghost use Rattle.hindsight.specs.Months.{markFor};
 ghost use Rattle.hindsight.specs.Columns.{xAt, xsFrom, withOf, sideOf, toldNo, valueBy, rowAt, rowsFrom, runFrom, rowOf, Adds};
 
 fn with_number(w: With) -> u8

@@ -16,7 +16,8 @@ use Rattle.spells.specs.Spells.{stepOf}
 use Rattle.spells.proofs.Theorems.{values-kept, fits-in}
 use Rattle.hindsight.specs.Rule.{Row, forwardIndexes, forwardMarks}
 use Rattle.hindsight.specs.Columns.{rowAt, rowsFrom}
-use Rattle.hindsight.specs.Months.{decisionNumber, nextValues, rowOfZ, rowsOfZ}
+use Rattle.spells.specs.Decisions.{decisionNumber}
+use Rattle.hindsight.specs.Months.{nextValues, rowOfZ, rowsOfZ}
 use Rattle.hindsight.proofs.Numbers.{number-is}
 use Rattle.hindsight.proofs.Steps.{Stepping, step-next, step-all}
 use Rattle.runs.specs.Runs.{mostMonths}

@@ -1,8 +1,7 @@
--- What the proofs of `spells` share, and its theorems: `Theorems`, `Mirror` and `WorkedMonths`.
+-- The theorems about a month of spells and its mirror, and what the proofs share.
 pub mod Choices
 pub mod Cases
 pub mod Abates
 pub mod Parts
 pub mod Theorems
 pub mod Mirror
-pub mod WorkedMonths

@@ -1,26 +1,17 @@
--- Document 01, "Worked months", S1 to S6: the spells of single months and the running values, as one table. That every row agrees is
--- `spells-worked` of proofs/WorkedMonths.antt. Assumes nothing.
+-- Document 01, "Worked months", S1 to S6: the spells of single months and the running values, as rows. The crate
+-- `demands` joins them with the water's rows to one table, and its one claim is that every row agrees. Assumes nothing.
 use Prim.Native.Nat.{ℕ}
 use mathlib.Core.List.{List, [], _∷_}
 use lib.IntN.{ℤ, pos, negℤ}
 use Rattle.exact.specs.Worked.{Row, _gives_}
 use Rattle.spells.specs.declared.Running.{Running}
-use Rattle.spells.specs.declared.With.the-variants.{X1, X2, X3}
-use Rattle.spells.specs.declared.Decision.{Decision}
-use Rattle.spells.specs.declared.Decision.the-variants.{Nothing, Decides}
 use Rattle.spells.specs.declared.SpellMonth.{SpellMonth}
+use Rattle.spells.specs.Decisions.{decisionNumber}
 use Rattle.spells.specs.Values.{fresh}
 use Rattle.spells.specs.Spells.{stepOf}
 
 abbrev minus : ℕ → ℤ
 minus n = negℤ (pos n)
-
--- what a month decides with, as a number: 0 nothing, else 1, 2 or 3
-abbrev pub decisionNumber : Decision → ℕ
-decisionNumber Nothing = 0
-decisionNumber (Decides X1) = 1
-decisionNumber (Decides X2) = 2
-decisionNumber (Decides X3) = 3
 
 -- nothing is decided, and the month is open
 abbrev nothing : ℤ

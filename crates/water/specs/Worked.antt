@@ -1,5 +1,5 @@
 -- Document 01, "Worked months": W1 to W4, one row for each figure that they name. "C is 6,000 throughout."
--- That every row agrees is the one claim of proofs/WorkedMonths.antt. Assumes nothing.
+-- The crate `demands` joins them with the spells' rows to one table, and its one claim is that every row agrees. Assumes nothing.
 use Prim.Native.Nat.{ℕ}
 use mathlib.Core.List.{List, [], _∷_}
 use lib.IntN.{pos, negℤ}

@@ -1,0 +1,61 @@
+-- Document 01, "Worked months": the marked cases W1 to W4 and S1 to S6 as ONE table. The water's rows and the single months' rows stand with
+-- their crates; here they are joined by what S5 and S6 say of settling. That every row agrees is the one claim `worked` of
+-- proofs/WorkedMonths.antt. Assumes nothing.
+use Prim.Native.Nat.{ℕ}
+use mathlib.Core.List.{List, [], _∷_, _++_}
+use lib.IntN.{ℤ, pos, negℤ}
+use lib.ListN.{getD}
+use Rattle.exact.specs.Worked.{_gives_}
+use Rattle.exact.specs.Worked.{Row as Line}
+use Rattle.water.specs.Worked.{waterTable}
+use Rattle.spells.specs.Worked.{spellTable}
+use Rattle.spells.specs.declared.Running.{Running}
+use Rattle.hindsight.specs.Rule.{Row, forward}
+use Rattle.hindsight.specs.Columns.{rowsOf}
+use Rattle.hindsight.specs.Adding.{addAll}
+use Rattle.hindsight.specs.Months.{nextValues, rowOfZ}
+
+abbrev minus : ℕ → ℤ
+minus n = negℤ (pos n)
+
+-- "S4: X3 -4,070, others 0; Z 3,590, -1,460, -1,600", and then one month more
+unfoldable pub months : ℤ → List Row
+months z =
+    rowsOf nextValues rowOfZ (record { x1 = pos 0; x2 = pos 0; x3 = minus 4070; v = pos 0 })
+    (pos 3590 ∷ minus 1460 ∷ minus 1600 ∷ z ∷ [])
+
+-- the index that the forward rule says of a place, the index that adding leaves there, and its mark
+abbrev hindsight : List Row → ℕ → ℤ
+hindsight rows i = forward rows i .index
+
+abbrev added : List Row → ℕ → ℤ
+added rows i = getD (addAll rows .index) i (pos 0)
+
+abbrev marked : List Row → ℕ → ℤ
+marked rows i = pos (getD (addAll rows .mark) i 0)
+
+-- the first three months and the one that decides: by hindsight, as added, and their marks
+abbrev settling : List Row → ℤ → ℤ → ℤ → ℤ → List Line
+settling rows a b c d =
+    (hindsight rows 0 gives a)
+    ∷ (hindsight rows 1 gives b)
+    ∷ (hindsight rows 2 gives c)
+    ∷ (hindsight rows 3 gives d)
+    ∷ (added rows 0 gives a)
+    ∷ (added rows 1 gives b)
+    ∷ (added rows 2 gives c)
+    ∷ (added rows 3 gives d)
+    ∷ (marked rows 0 gives pos 2)
+    ∷ (marked rows 1 gives pos 2)
+    ∷ (marked rows 2 gives pos 2)
+    ∷ (marked rows 3 gives pos 2)
+    ∷ []
+
+-- "S5: then Z -1,130: steady, X3 -3,017; the three settle at their X3."
+-- "S6: instead Z 6,273: index 2,091; the three settle at 1,197, -487, -970."
+abbrev pub workedTable : List Line
+workedTable =
+    waterTable
+    ++ (spellTable
+    ++ (settling (months (minus 1130)) (minus 2454) (minus 2688) (minus 2944) (minus 3017)
+    ++ settling (months (pos 6273)) (pos 1197) (minus 487) (minus 970) (pos 2091)))
