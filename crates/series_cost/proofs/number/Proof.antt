@@ -1,0 +1,60 @@
+-- `series_cost::number`: five digits, each below 10. Assumes nothing.
+use Prim.Native.Nat.{_≤_, _<_, _-_}
+use native.Mathlib.Omega.{arith}
+use borrow.Author.Needs.{needs}
+use lib.ListN.{length}
+use Rattle.series_cost.proofs.number.Statement.{statement}
+use Rattle.series_cost.proofs.number.Tie as tie
+
+abbrev Inv-loop : tie.InvT-loop
+Inv-loop s at n₀ i₀ n i = (i ≤ 5) × (n < 100000)
+
+abbrev μ-loop : tie.MeasureT-loop
+μ-loop s at n₀ i₀ n i = 5 - i
+
+loop-holds : tie.Need-loop-holds Inv-loop μ-loop
+loop-holds c = omega arith
+
+mul-n : tie.Need-mul-n Inv-loop μ-loop
+mul-n c = omega arith
+
+add-n : tie.Need-add-n Inv-loop μ-loop
+add-n c = omega arith
+
+shared-slice-read-n : tie.Need-shared-slice-read-n Inv-loop μ-loop
+shared-slice-read-n c = omega arith
+
+cast-n : tie.Need-cast-n Inv-loop μ-loop
+cast-n c = omega arith
+
+add-n-2 : tie.Need-add-n-2 Inv-loop μ-loop
+add-n-2 c = omega arith
+
+add-i : tie.Need-add-i Inv-loop μ-loop
+add-i c = omega arith
+
+loop-less : tie.Need-loop-less Inv-loop μ-loop
+loop-less c = omega arith
+
+loop-again : tie.Need-loop-again Inv-loop μ-loop
+loop-again c = omega arith
+
+returns : tie.Need-returns Inv-loop μ-loop
+returns c = omega arith
+
+pub number-spec : {M : Type 1} → statement M
+number-spec =
+    tie.close
+    (tie.spec
+    Inv-loop
+    μ-loop
+    loop-holds
+    mul-n
+    add-n
+    shared-slice-read-n
+    cast-n
+    add-n-2
+    add-i
+    loop-less
+    loop-again
+    returns)
