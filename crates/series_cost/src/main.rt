@@ -11,6 +11,13 @@ ghost use lib.ListN.{length};
 
 const MOST: usize = 2_400;
 
+// A digit is its byte less 48: modulo 10, its byte and 2.
+fn digit(b: u8) -> usize
+    ensures { λ r. ⌜ r < 10 ⌝ }
+{
+    (b as usize + 2) % 10
+}
+
 // Five decimal digits.
 fn number(s: &[u8], at: usize) -> usize
     requires { ⌜ at + 5 ≤ length (now s) ⌝ }
@@ -19,7 +26,7 @@ fn number(s: &[u8], at: usize) -> usize
     let mut n: usize = 0;
     let mut i = 0;
     while i < 5 {
-        n = n % 10_000 * 10 + (s[at + i] % 10) as usize;
+        n = n % 10_000 * 10 + digit(s[at + i]);
         i += 1;
     }
     n

@@ -2,7 +2,6 @@
 use Prim.Native.Nat.{_≤_, _<_, _-_}
 use native.Mathlib.Omega.{arith}
 use borrow.Author.Needs.{needs}
-use lib.ListN.{length}
 use Rattle.series_cost.proofs.number.Statement.{statement}
 use Rattle.series_cost.proofs.number.Tie as tie
 
@@ -18,17 +17,17 @@ loop-holds c = omega arith
 mul-n : tie.Need-mul-n Inv-loop μ-loop
 mul-n c = omega arith
 
+add-digit : tie.Need-add-digit Inv-loop μ-loop
+add-digit c = omega arith
+
+shared-slice-read-digit : tie.Need-shared-slice-read-digit Inv-loop μ-loop
+shared-slice-read-digit c = omega arith
+
+digit-requires : tie.Need-digit-requires Inv-loop μ-loop
+digit-requires c κs = search needs
+
 add-n : tie.Need-add-n Inv-loop μ-loop
 add-n c = omega arith
-
-shared-slice-read-n : tie.Need-shared-slice-read-n Inv-loop μ-loop
-shared-slice-read-n c = omega arith
-
-cast-n : tie.Need-cast-n Inv-loop μ-loop
-cast-n c = omega arith
-
-add-n-2 : tie.Need-add-n-2 Inv-loop μ-loop
-add-n-2 c = omega arith
 
 add-i : tie.Need-add-i Inv-loop μ-loop
 add-i c = omega arith
@@ -50,10 +49,10 @@ number-spec =
     μ-loop
     loop-holds
     mul-n
+    add-digit
+    shared-slice-read-digit
+    digit-requires
     add-n
-    shared-slice-read-n
-    cast-n
-    add-n-2
     add-i
     loop-less
     loop-again
