@@ -1,205 +1,49 @@
--- THE CLIENT'S THREE DEMANDS, in their order and words, as theorems. They are about the definitions that the promises of the crate `drought`
--- equate each call with, for every input: a call of the code does what is said here because its promise is that equation, and its promise
--- has no `requires`. The words `asked`, `afterAll`, `Accepted`, `rowsOfMonths` are in specs/Months.antt; `forward`, the rule that looks forward
--- from a month, is hindsight's specs/Rule.antt. Assumes nothing.
-use mathlib.Core.Path.{_≡_, refl, sym, ap, _∙_, subst}
-use mathlib.Core.Logic.{_↔_, _⊎_}
-use mathlib.Core.List.{List, [], _∷_, _++_, append-nil}
-use Prim.Native.Nat.{ℕ, zero, suc, _+_, _-_, _≤_, _<_}
-use native.Mathlib.Omega.{arith}
-use lib.IntN.{ℤ, pos, natAbs}
-use lib.ListN.{length, getD, take, replicate, length-append}
-use lib.Seq.{getD-take}
-use Rattle.door.specs.Outcome.{Outcome}
-use Rattle.door.specs.Readings.{reading, month}
-use Rattle.door.specs.declared.Reading.{Reading}
-use Rattle.water.specs.Layers.{SoilFits}
-use Rattle.water.specs.declared.Soil.{Soil}
-use Rattle.water.proofs.Theorems.{month-water-kept}
-use Rattle.spells.specs.Spells.{stepOf}
-use Rattle.hindsight.specs.Rule.{Row, forward, forwardIndexes, forwardMarks}
-use Rattle.hindsight.specs.Adding.{addAll, addTo, addMonth, settledCount}
-use Rattle.hindsight.specs.Adding.{Run as Held}
-use Rattle.hindsight.specs.Adding.{fresh as nothing-held}
-use Rattle.hindsight.specs.Columns.{rowsOf}
-use Rattle.hindsight.specs.Columns.{stateOf as stateAfter}
-use Rattle.hindsight.proofs.Hindsight.{every-index, every-mark, NoneFrom, open-exactly, settled-stays, last-are-open, opens-counts, count, answers-settled, add-append}
-use Rattle.hindsight.proofs.Adding.{series-is-adding}
-use Rattle.runs.specs.Runs.{isRun}
-use Rattle.runs.specs.Ranges.{constantsAt}
-use Rattle.runs.specs.Start.{startRefusal, startOf, freshRun, zeroRun, startedWith}
-use Rattle.runs.specs.declared.Run.{Run}
-use Rattle.runs.specs.declared.Started.{Started}
-use Rattle.runs.proofs.RunLaws.{start-is-run}
-use Rattle.drought.specs.Columns.{Columns, long, columnsFit}
-use Rattle.drought.specs.Refusals.{waterRefusal, zRefusal}
-use Rattle.drought.specs.Figures.{figuresOf, noFigures}
-use Rattle.drought.specs.Asked.{Result, result, refusal, heldBy, taken, takenWater, takenZ, unless, addOutcomes, addWater, addInches, addZ}
-use Rattle.drought.proofs.Readiness.{run-is}
-use Rattle.demands.specs.Months.{Ask, water, inches, anomaly, asked, State, stateOf, after, afterAll, Accepted, Station, stationOf, zFor, soilFor, waterFor, stationNext, stationRow, rowsOfMonths}
-use Rattle.demands.proofs.Took.{Good, Took, took, good-kept, settled-is, held-next}
-use Rattle.demands.proofs.Rows.{rows-long, rows-append}
-use Rattle.demands.proofs.Sequence.{held-all, months-all, values-stay, after-append, accepted-append}
+-- The three demands are met, each as it is stated in specs/Demands.antt. Assumes nothing.
+use mathlib.Core.Path.{_≡_, refl, sym, _∙_}
+use mathlib.Core.List.{List}
+use Prim.Native.Nat.{ℕ}
+use lib.IntN.{ℤ}
+use lib.ListN.{length}
+use Rattle.runs.specs.Start.{startRefusal}
+use Rattle.series.specs.Series.{seriesRefusal, wholeSeries}
+use Rattle.series.proofs.SeriesLaws.{number-of, refused-writes-nothing}
+use Rattle.drought.specs.Columns.{Columns}
+use Rattle.demands.specs.Demands.{Demand1, Demand2, Demand3}
+use Rattle.demands.proofs.Shown.{refused-add, refused-start, figures-are, layers-hold, water-balances, inches-balance, settled-is-hindsight, open-exactly-when, settled-stays-settled, values-never-change, open-are-last, opens-are-counted, settled-are-counted}
+use Rattle.demands.proofs.Honest.{never-refused-7}
+use Rattle.demands.proofs.Singly.{series-as-singly, singly-accepted}
 
--- ---- 1. "Every reading, constant, month and list gets its answer or a numbered refusal. Nobody has to check beforehand. A refused call
--- hands back any run it was given and writes nothing."
+-- a whole series answers with its number, and a refused one leaves both lists as they were
+refused-series : (z index : List ℤ) (mark : List ℕ)
+    → (wholeSeries z index mark .number ≡ seriesRefusal z (length index) (length mark))
+    × ((seriesRefusal z (length index) (length mark) ≡ 0 → ⊥) → (wholeSeries z index mark .index ≡ index) × (wholeSeries z index mark .mark ≡ mark))
+refused-series z index mark =
+    let w = wholeSeries z index mark in
+    let n = number-of z index mark (w .number) (w .index) (w .mark) refl in
+    (n, λ f. refused-writes-nothing z index mark (w .number) (w .index) (w .mark) refl (λ e. f (sym n ∙ e)))
 
--- the number that an add gives, exactly
-abbrev pub numberOf : Run → Ask → Columns → ℕ
-numberOf r (water p pe) cs = waterRefusal (columnsFit cs) (long cs) r (reading p .number) (reading pe .number)
-numberOf r (inches q) cs = waterRefusal (columnsFit cs) (long cs) r (month q .p .number) (month q .pe .number)
-numberOf r (anomaly z) cs = zRefusal (columnsFit cs) (long cs) r z
+pub demand-1 : Demand1
+demand-1 =
+    record {
+      adds = refused-add;
+      starts = refused-start;
+      series = refused-series;
+      honest = never-refused-7;
+    }
 
-abbrev Answers : Run → Columns → ℕ → Result → Type 0
-Answers r cs k b = (b .answer .number ≡ k) × ((k ≡ 0 → ⊥) → (b .answer .run ≡ r) × (b .columns ≡ cs) × (b .answer .settled ≡ 0) × (b .answer .figures ≡ noFigures))
+pub demand-2 : Demand2
+demand-2 = record { figures = figures-are; balances = water-balances; balances-inches = inches-balance; layers = layers-hold }
 
-unless-answers : (k : ℕ) (r : Run) (cs : Columns) (done : Result) → done .answer .number ≡ 0 → Answers r cs k (unless k r cs done)
-unless-answers zero r cs done h = (h, λ f. absurd (f refl))
-unless-answers (suc k) r cs done h = (refl, λ f. (refl, refl, refl, refl))
-
--- an add answers with its number, and where that is a refusal it hands the run back and leaves every lent list as it was
-pub refused-add : (r : Run) (a : Ask) (cs : Columns) → Answers r cs (numberOf r a cs) (asked r a cs)
-unfolding addWater addInches addOutcomes addZ takenWater taken
-refused-add r (water p pe) cs = unless-answers (waterRefusal (columnsFit cs) (long cs) r (reading p .number) (reading pe .number)) r cs (takenWater r (reading p .water) (reading pe .water) cs) refl
-refused-add r (inches q) cs = unless-answers (waterRefusal (columnsFit cs) (long cs) r (month q .p .number) (month q .pe .number)) r cs (takenWater r (month q .p .water) (month q .pe .water) cs) refl
-refused-add r (anomaly z) cs = unless-answers (zRefusal (columnsFit cs) (long cs) r z) r cs (takenZ r z cs) refl
-
--- a start answers with its number, and a refused one with a run of all zeros
-pub refused-start : (cs : List ℤ) (c ss su m : ℤ) → (startOf cs c ss su m .number ≡ startRefusal cs c ss su m) × ((startRefusal cs c ss su m ≡ 0 → ⊥) → startOf cs c ss su m .run ≡ zeroRun)
-unfolding startOf
-refused-start cs c ss su m = go (startRefusal cs c ss su m)
-  where
-    go : (k : ℕ) → (startedWith k (freshRun cs c ss su m) .number ≡ k) × ((k ≡ 0 → ⊥) → startedWith k (freshRun cs c ss su m) .run ≡ zeroRun)
-    go zero = (refl, λ f. absurd (f refl))
-    go (suc k) = (refl, λ f. refl)
-
--- ---- 2. "Water balance, expected precipitation, anomaly Z, the three running indexes and the chance of an ending equal Palmer's 1965 rules
--- as our outline states and rounds them. In each month of water precipitation equals evapotranspiration plus runoff plus the gain in soil
--- storage, and neither layer ever passes its capacity."
-
--- the figures of an accepted month are those that the rules give
-pub figures-are : (r : Run) (a : Ask) (cs : Columns) → asked r a cs .answer .number ≡ 0
-    → asked r a cs .answer .figures ≡ figuresOf (waterFor (stationOf r) a) (zFor (stationOf r) a) (stepOf (r .values) (zFor (stationOf r) a))
-unfolding taken
-figures-are r a cs h = ap (λ (b : Result). b .answer .figures) (took r cs a h .did)
-
--- neither layer passes its capacity
-pub layers-hold : (r : Run) (a : Ask) (cs : Columns) → asked r a cs .answer .number ≡ 0 → SoilFits (asked r a cs .answer .run .soil)
-unfolding taken
-layers-hold r a cs h = let t = took r cs a h in subst (λ (b : Result). SoilFits (b .answer .run .soil)) (sym (t .did)) (t .soil)
-
--- P = ET + RO + the gain in storage: with the storages before and after, and no subtraction
-abbrev Balances : Run → Result → Type 0
-Balances r b =
-    b .answer .figures .water .p + (r .soil .surface + r .soil .underlying)
-    ≡ (b .answer .figures .water .et + b .answer .figures .water .ro) + (b .answer .run .soil .surface + b .answer .run .soil .underlying)
-
-pub water-balances : (r : Run) (p pe : Reading) (cs : Columns) → addWater r p pe cs .answer .number ≡ 0 → Balances r (addWater r p pe cs)
-unfolding taken
-water-balances r p pe cs h =
-    let t = took r cs (water p pe) h in
-    let f = run-is r cs (t .good .fit) (t .good .run) .soil in
-    subst (Balances r) (sym (t .did)) (month-water-kept (r .soil) (reading p .water) (reading pe .water) (constantsAt (r .constants) (r .calendar)) f)
-
--- ---- 3. "Take any accepted months added one by one to a fresh run whose columns nobody else writes."
-module _ (constants : List ℤ) (c ss su m : ℤ) (cs : Columns) (started : startRefusal constants c ss su m ≡ 0) where
-  abbrev fresh : State
-  fresh = record { run = freshRun constants c ss su m; columns = cs }
-
-  abbrev rows : List Ask → List Row
-  rows asks = rowsOfMonths (freshRun constants c ss su m) asks
-
-  -- after the months the columns hold their rows, added one by one
-  held : (asks : List Ask) → Accepted fresh asks → heldBy (afterAll fresh asks .run) (afterAll fresh asks .columns) ≡ addAll (rows asks)
-  held asks h = held-all fresh asks h
-
-  months : (asks : List Ask) → Accepted fresh asks → afterAll fresh asks .run .months ≡ length asks
-  months asks h = months-all fresh asks h ∙ zero-more (length asks)
-    where
-      zero-more : (n : ℕ) → 0 + n ≡ n
-      zero-more n = omega arith
-
-  -- what the columns hold at a month's place
-  index-at : (asks : List Ask) → Accepted fresh asks → (i : ℕ) → i < length asks → getD (afterAll fresh asks .columns .index) i (pos 0) ≡ getD (addAll (rows asks) .index) i (pos 0)
-  index-at asks h i l =
-      let n = months asks h in
-      sym (getD-take (afterAll fresh asks .run .months) (afterAll fresh asks .columns .index) i (pos 0) (omega arith))
-      ∙ ap (λ (u : Held). getD (u .index) i (pos 0)) (held asks h)
-
-  mark-at : (asks : List Ask) → Accepted fresh asks → (i : ℕ) → i < length asks → getD (afterAll fresh asks .columns .mark) i 0 ≡ getD (addAll (rows asks) .mark) i 0
-  mark-at asks h i l =
-      let n = months asks h in
-      sym (getD-take (afterAll fresh asks .run .months) (afterAll fresh asks .columns .mark) i 0 (omega arith))
-      ∙ ap (λ (u : Held). getD (u .mark) i 0) (held asks h)
-
-  -- "After each, every settled index equals the choice made knowing all months so far, by a rule that looks forward from that month."
-  -- So does every mark, and every open month's index
-  pub settled-is-hindsight : (asks : List Ask) → Accepted fresh asks → (i : ℕ) → i < length asks
-      → (getD (afterAll fresh asks .columns .index) i (pos 0) ≡ forward (rows asks) i .index)
-      × (getD (afterAll fresh asks .columns .mark) i 0 ≡ forward (rows asks) i .mark)
-  settled-is-hindsight asks h i l = (index-at asks h i l ∙ every-index (rows asks) i, mark-at asks h i l ∙ every-mark (rows asks) i)
-
-  -- "A month is open exactly when no month from it onward has decided."
-  pub open-exactly-when : (asks : List Ask) → Accepted fresh asks → (i : ℕ) → i < length asks
-      → (getD (afterAll fresh asks .columns .mark) i 0 ≡ 1) ↔ NoneFrom (rows asks) i
-  open-exactly-when asks h i l =
-      let e = open-exactly (rows asks) i (omega (arith, rows-long stationNext stationRow (stationOf (freshRun constants c ss su m)) asks)) in
-      let k = mark-at asks h i l in
-      ((λ p. e .0 (sym k ∙ p)), (λ f. k ∙ e .1 f))
-
-  -- "Later months never change a settled one."
-  pub settled-stays-settled : (asks more : List Ask) → Accepted fresh asks → Accepted (afterAll fresh asks) more → (i : ℕ) → i < length asks
-      → getD (afterAll fresh asks .columns .mark) i 0 ≡ 2
-      → (getD (afterAll (afterAll fresh asks) more .columns .mark) i 0 ≡ 2)
-      × (getD (afterAll (afterAll fresh asks) more .columns .index) i (pos 0) ≡ getD (afterAll fresh asks .columns .index) i (pos 0))
-  settled-stays-settled asks more h k i l e =
-      let j : i < length (asks ++ more) = simp length-append (omega arith) in
-      let all = accepted-append fresh asks more h k in
-      let f = settled-stays (rows asks) (rowsOf stationNext stationRow (stateAfter stationNext (stationOf (freshRun constants c ss su m)) asks) more) i (sym (mark-at asks h i l) ∙ e) in
-      let r = rows-append stationNext stationRow (stationOf (freshRun constants c ss su m)) asks more in
-      let a : addAll (rows (asks ++ more)) ≡ addTo (addAll (rows asks)) (rowsOf stationNext stationRow (stateAfter stationNext (stationOf (freshRun constants c ss su m)) asks) more) = rw r (add-append nothing-held (rows asks) _) in
-      rw (← after-append fresh asks more) (
-        mark-at (asks ++ more) all i j ∙ ap (λ (u : Held). getD (u .mark) i 0) a ∙ f .0,
-        index-at (asks ++ more) all i j ∙ ap (λ (u : Held). getD (u .index) i (pos 0)) a ∙ f .1 ∙ sym (index-at asks h i l),
-      )
-
-  -- nor X1, X2, X3 of any earlier month, settled or open
-  pub values-never-change : (asks more : List Ask) → Accepted fresh asks → Accepted (afterAll fresh asks) more → (i : ℕ) → i < length asks
-      → (getD (afterAll (afterAll fresh asks) more .columns .x1) i (pos 0) ≡ getD (afterAll fresh asks .columns .x1) i (pos 0))
-      × (getD (afterAll (afterAll fresh asks) more .columns .x2) i (pos 0) ≡ getD (afterAll fresh asks .columns .x2) i (pos 0))
-      × (getD (afterAll (afterAll fresh asks) more .columns .x3) i (pos 0) ≡ getD (afterAll fresh asks .columns .x3) i (pos 0))
-  values-never-change asks more h k i l = let n = months asks h in values-stay (afterAll fresh asks) more k i (omega arith)
-
-  -- the run's open months are the last ones, and as many as are marked open
-  pub open-are-last : (asks : List Ask) → Accepted fresh asks
-      → take (length asks) (afterAll fresh asks .columns .mark) ≡ replicate (length asks - afterAll fresh asks .run .opens) 2 ++ replicate (afterAll fresh asks .run .opens) 1
-  open-are-last asks h =
-      let n = months asks h in
-      let u = held asks h in
-      let o : afterAll fresh asks .run .opens ≡ addAll (rows asks) .opens = ap (λ (v : Held). v .opens) u in
-      ap (λ (k : ℕ). take k (afterAll fresh asks .columns .mark)) (sym n)
-      ∙ ap (λ (v : Held). v .mark) u
-      ∙ rw (o, ← rows-long stationNext stationRow (stationOf (freshRun constants c ss su m)) asks) (last-are-open (rows asks))
-
-  pub opens-are-counted : (asks : List Ask) → Accepted fresh asks → afterAll fresh asks .run .opens ≡ count 1 (take (length asks) (afterAll fresh asks .columns .mark))
-  opens-are-counted asks h =
-      let u = held asks h in
-      ap (λ (v : Held). v .opens) u
-      ∙ opens-counts (rows asks)
-      ∙ sym (ap (λ (v : Held). count 1 (v .mark)) u)
-      ∙ ap (λ (k : ℕ). count 1 (take k (afterAll fresh asks .columns .mark))) (months asks h)
-
-  -- an add's settled count is the number of marks that it writes as 2
-  pub settled-are-counted : (asks : List Ask) (a : Ask) → Accepted fresh asks → asked (afterAll fresh asks .run) a (afterAll fresh asks .columns) .answer .number ≡ 0
-      → count 2 (heldBy (after (afterAll fresh asks) a .run) (after (afterAll fresh asks) a .columns) .mark)
-      ≡ count 2 (heldBy (afterAll fresh asks .run) (afterAll fresh asks .columns) .mark) + asked (afterAll fresh asks .run) a (afterAll fresh asks .columns) .answer .settled
-  settled-are-counted asks a h e =
-      let s = afterAll fresh asks in
-      let t = took (s .run) (s .columns) a e in
-      let row = stationRow (stationOf (s .run)) a in
-      let u = held asks h in
-      ap (λ (v : Held). count 2 (v .mark)) (held-next (s .run) a (s .columns) t)
-      ∙ ap (λ (v : Held). count 2 (addMonth v row .mark)) u
-      ∙ answers-settled (rows asks) row
-      ∙ sym (ap (λ (v : Held). count 2 (v .mark) + settledCount v row) u)
-      ∙ ap (λ (k : ℕ). count 2 (heldBy (s .run) (s .columns) .mark) + k) (sym (settled-is (s .run) a (s .columns) t))
+pub demand-3 : (constants : List ℤ) (c ss su m : ℤ) (cs : Columns) → startRefusal constants c ss su m ≡ 0 → Demand3 constants c ss su m cs
+demand-3 constants c ss su m cs started =
+    record {
+      hindsight = settled-is-hindsight constants c ss su m cs started;
+      opens = open-exactly-when constants c ss su m cs started;
+      stays = settled-stays-settled constants c ss su m cs started;
+      values = values-never-change constants c ss su m cs started;
+      settled = settled-are-counted constants c ss su m cs started;
+      counted = opens-are-counted constants c ss su m cs started;
+      last = open-are-last constants c ss su m cs started;
+      singly = series-as-singly constants c ss su m cs started;
+      accepted = singly-accepted constants c ss su m cs started;
+    }

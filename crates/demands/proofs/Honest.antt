@@ -23,7 +23,8 @@ use Rattle.drought.specs.Refusals.{orElse, badZ, full, runRefusal, roomRefusal,
 use Rattle.demands.specs.Months.{Ask, water, anomaly, asked, State, after, afterAll}
 use Rattle.demands.specs.Months.{inches as both-inches}
 use Rattle.demands.proofs.Took.{Good, took, good-kept}
-use Rattle.demands.proofs.Demands.{numberOf, refused-add}
+use Rattle.demands.specs.Demands.{numberOf, Honest, begun}
+use Rattle.demands.proofs.Shown.{refused-add}
 
 zero-or : (k : ℕ) → (k ≡ 0) ⊎ (k ≡ 0 → ⊥)
 zero-or zero = inl refl
@@ -41,10 +42,6 @@ good-after s a g =
 pub good-always : (s : State) (asks : List Ask) → Good (s .run) (s .columns) → Good (afterAll s asks .run) (afterAll s asks .columns)
 good-always s [] g = g
 good-always s (a ∷ later) g = good-always (after s a) later (good-after s a g)
-
--- neither 1 nor 7
-abbrev pub Honest : ℕ → Type 0
-Honest k = (k ≡ 1 → ⊥) × (k ≡ 7 → ⊥)
 
 not-both : (n : ℕ) → n ≡ 0 → Honest n
 not-both n e = ((λ h. omega arith), (λ h. omega arith))
@@ -97,9 +94,6 @@ never-refused r a cs g = subst Honest (sym (refused-add r a cs .0)) (go a)
         (or-honest (cond (zFits z) 0 badZ) (roomRefusal (long cs) r) (two (zFits z) badZ ((λ h. omega arith), (λ h. omega arith))) (room-honest (long cs) r))
 
 -- from a start on: no sequence of calls on honest columns is ever refused 1 or 7
-abbrev begun : List ℤ → ℤ → ℤ → ℤ → ℤ → Columns → State
-begun constants c ss su m cs = record { run = freshRun constants c ss su m; columns = cs }
-
 pub never-refused-7 : (constants : List ℤ) (c ss su m : ℤ) (cs : Columns) → startRefusal constants c ss su m ≡ 0 → columnsFit cs ≡ true → (asks : List Ask) (a : Ask)
     → Honest (asked (afterAll (begun constants c ss su m cs) asks .run) a (afterAll (begun constants c ss su m cs) asks .columns) .answer .number)
 never-refused-7 constants c ss su m cs started fit asks a =

@@ -3,7 +3,8 @@ pub mod Keeps
 pub mod Took
 pub mod Sequence
 pub mod Rows
-pub mod Demands
+pub mod Shown
 pub mod Honest
 pub mod Singly
+pub mod Demands
 pub mod WorkedMonths

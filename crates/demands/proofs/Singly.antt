@@ -27,7 +27,7 @@ use Rattle.demands.specs.Months.{Ask, anomaly, asked, State, after, afte
 use Rattle.demands.proofs.Keeps.{long-kept}
 use Rattle.demands.proofs.Took.{Good, Took, took, good-kept, months-next}
 use Rattle.demands.proofs.Sequence.{held-all, months-all}
-use Rattle.demands.proofs.Demands.{refused-add}
+use Rattle.demands.proofs.Shown.{refused-add}
 
 -- the rows of added Z are those of the whole series
 pub rows-same : (s : Station) (zs : List ℤ) → rowsOf stationNext stationRow s (map anomaly zs) ≡ rowsOf nextValues rowOfZ (s .values) zs

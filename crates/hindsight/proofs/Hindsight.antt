@@ -15,6 +15,7 @@ use Rattle.spells.specs.declared.With.{With}
 use Rattle.spells.specs.declared.Decision.{Decision}
 use Rattle.spells.specs.declared.Decision.the-variants.{Nothing, Decides}
 use Rattle.hindsight.specs.Rule.{X, Row, Deciding, nobody, after, oneEarlier, decidingFor, deciding, Shown, shownBy, settledIndex, forwardOf, forward, forwardAll, indexOf, markOf, forwardIndexes, forwardMarks}
+use Rattle.hindsight.specs.Counts.{NoneFrom, one-if, count}
 use Rattle.hindsight.specs.Adding.{Run, fresh, settledAll, kept, addAs, addMonth, settledCount, settledAs, addTo, addAll}
 
 abbrev pub xOf : Row → X
@@ -246,10 +247,6 @@ every-place rows = length-columns rows (addAll rows) (inv rows)
 blank : Row
 blank = record { x = record { x1 = pos 0; x2 = pos 0; x3 = pos 0 }; decision = Nothing; shown = pos 0 }
 
--- no month from place i onward decides
-abbrev pub NoneFrom : List Row → ℕ → Type 0
-NoneFrom rows i = (j : ℕ) (r : Row) → i ≤ j → j < length rows → getD rows j r .decision ≡ Nothing
-
 none-wait : (rows : List Row) → NoneFrom rows 0 → Wait rows
 none-wait [] f = tt
 none-wait (m ∷ rows) f = (f 0 m (omega arith) (omega arith), none-wait rows (λ j r h k. f (suc j) r (omega arith) (omega arith)))
@@ -359,15 +356,6 @@ last-are-open rows = last-marks rows (addAll rows) (inv rows) .0
 
 pub opens-within : (rows : List Row) → addAll rows .opens ≤ length rows
 opens-within rows = last-marks rows (addAll rows) (inv rows) .1
-
--- how often k stands in a list
-abbrev pub one-if : Bool → ℕ
-one-if true = 1
-one-if false = 0
-
-abbrev pub count : ℕ → List ℕ → ℕ
-count k [] = 0
-count k (m ∷ l) = one-if (eqb m k) + count k l
 
 count-append : (k : ℕ) (l m : List ℕ) → count k (l ++ m) ≡ count k l + count k m
 count-append k [] m = omega arith

@@ -3,3 +3,4 @@ pub mod Rule
 pub mod Adding
 pub mod Columns
 pub mod Months
+pub mod Counts

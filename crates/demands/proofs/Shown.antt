@@ -1,0 +1,198 @@
+-- The theorems of the three demands, one by one. They are stated together, in the demands' order and words, in specs/Demands.antt, and proofs/
+-- Demands.antt puts these together to that statement. Assumes nothing.
+use mathlib.Core.Path.{_≡_, refl, sym, ap, _∙_, subst}
+use mathlib.Core.Logic.{_↔_, _⊎_}
+use mathlib.Core.List.{List, [], _∷_, _++_, append-nil}
+use Prim.Native.Nat.{ℕ, zero, suc, _+_, _-_, _≤_, _<_}
+use native.Mathlib.Omega.{arith}
+use lib.IntN.{ℤ, pos, natAbs}
+use lib.ListN.{length, getD, take, replicate, length-append}
+use lib.Seq.{getD-take}
+use Rattle.door.specs.Outcome.{Outcome}
+use Rattle.door.specs.Readings.{reading, month}
+use Rattle.door.specs.declared.Reading.{Reading}
+use Rattle.door.specs.declared.MonthInches.{MonthInches}
+use Rattle.water.specs.Layers.{SoilFits}
+use Rattle.water.specs.declared.Soil.{Soil}
+use Rattle.water.proofs.Theorems.{month-water-kept}
+use Rattle.spells.specs.Spells.{stepOf}
+use Rattle.hindsight.specs.Rule.{Row, forward}
+use Rattle.hindsight.specs.Counts.{NoneFrom, count}
+use Rattle.hindsight.specs.Adding.{addAll, addTo, addMonth, settledCount}
+use Rattle.hindsight.specs.Adding.{Run as Held}
+use Rattle.hindsight.specs.Adding.{fresh as nothing-held}
+use Rattle.hindsight.specs.Columns.{rowsOf}
+use Rattle.hindsight.specs.Columns.{stateOf as stateAfter}
+use Rattle.hindsight.proofs.Hindsight.{every-index, every-mark, open-exactly, settled-stays, last-are-open, opens-counts, answers-settled, add-append}
+use Rattle.hindsight.proofs.Adding.{series-is-adding}
+use Rattle.runs.specs.Runs.{isRun}
+use Rattle.runs.specs.Ranges.{constantsAt}
+use Rattle.runs.specs.Start.{startRefusal, startOf, freshRun, zeroRun, startedWith}
+use Rattle.runs.specs.declared.Run.{Run}
+use Rattle.runs.specs.declared.Started.{Started}
+use Rattle.runs.proofs.RunLaws.{start-is-run}
+use Rattle.drought.specs.Columns.{Columns, long, columnsFit}
+use Rattle.drought.specs.Refusals.{waterRefusal, zRefusal}
+use Rattle.drought.specs.Figures.{figuresOf, waterFigures, noFigures}
+use Rattle.drought.specs.Asked.{Result, result, refusal, heldBy, soilAfter, taken, takenWater, takenZ, unless, addOutcomes, addWater, addInches, addZ}
+use Rattle.drought.proofs.Readiness.{run-is}
+use Rattle.demands.specs.Months.{Ask, water, inches, anomaly, asked, State, stateOf, after, afterAll, Accepted, Station, stationOf, watered, zFor, soilFor, waterFor, stationNext, stationRow, rowsOfMonths}
+use Rattle.demands.proofs.Took.{Good, Took, took, good-kept, settled-is, held-next}
+use Rattle.demands.specs.Demands.{numberOf, Answers, Balances}
+use Rattle.demands.proofs.Rows.{rows-long, rows-append}
+use Rattle.demands.proofs.Sequence.{held-all, months-all, values-stay, after-append, accepted-append}
+
+-- ---- 1. "Every reading, constant, month and list gets its answer or a numbered refusal. Nobody has to check beforehand. A refused call
+-- hands back any run it was given and writes nothing."
+
+unless-answers : (k : ℕ) (r : Run) (cs : Columns) (done : Result) → done .answer .number ≡ 0 → Answers r cs k (unless k r cs done)
+unless-answers zero r cs done h = (h, λ f. absurd (f refl))
+unless-answers (suc k) r cs done h = (refl, λ f. (refl, refl, refl, refl))
+
+-- an add answers with its number, and where that is a refusal it hands the run back and leaves every lent list as it was
+pub refused-add : (r : Run) (a : Ask) (cs : Columns) → Answers r cs (numberOf r a cs) (asked r a cs)
+unfolding addWater addInches addOutcomes addZ takenWater taken
+refused-add r (water p pe) cs = unless-answers (waterRefusal (columnsFit cs) (long cs) r (reading p .number) (reading pe .number)) r cs (takenWater r (reading p .water) (reading pe .water) cs) refl
+refused-add r (inches q) cs = unless-answers (waterRefusal (columnsFit cs) (long cs) r (month q .p .number) (month q .pe .number)) r cs (takenWater r (month q .p .water) (month q .pe .water) cs) refl
+refused-add r (anomaly z) cs = unless-answers (zRefusal (columnsFit cs) (long cs) r z) r cs (takenZ r z cs) refl
+
+-- a start answers with its number, and a refused one with a run of all zeros
+pub refused-start : (cs : List ℤ) (c ss su m : ℤ) → (startOf cs c ss su m .number ≡ startRefusal cs c ss su m) × ((startRefusal cs c ss su m ≡ 0 → ⊥) → startOf cs c ss su m .run ≡ zeroRun)
+unfolding startOf
+refused-start cs c ss su m = go (startRefusal cs c ss su m)
+  where
+    go : (k : ℕ) → (startedWith k (freshRun cs c ss su m) .number ≡ k) × ((k ≡ 0 → ⊥) → startedWith k (freshRun cs c ss su m) .run ≡ zeroRun)
+    go zero = (refl, λ f. absurd (f refl))
+    go (suc k) = (refl, λ f. refl)
+
+-- ---- 2. "Water balance, expected precipitation, anomaly Z, the three running indexes and the chance of an ending equal Palmer's 1965 rules
+-- as our outline states and rounds them. In each month of water precipitation equals evapotranspiration plus runoff plus the gain in soil
+-- storage, and neither layer ever passes its capacity."
+
+-- the figures of an accepted month are those that the rules give
+pub figures-are : (r : Run) (a : Ask) (cs : Columns) → asked r a cs .answer .number ≡ 0
+    → asked r a cs .answer .figures ≡ figuresOf (waterFor (stationOf r) a) (zFor (stationOf r) a) (stepOf (r .values) (zFor (stationOf r) a))
+unfolding taken
+figures-are r a cs h = ap (λ (b : Result). b .answer .figures) (took r cs a h .did)
+
+-- neither layer passes its capacity
+pub layers-hold : (r : Run) (a : Ask) (cs : Columns) → asked r a cs .answer .number ≡ 0 → SoilFits (asked r a cs .answer .run .soil)
+unfolding taken
+layers-hold r a cs h = let t = took r cs a h in subst (λ (b : Result). SoilFits (b .answer .run .soil)) (sym (t .did)) (t .soil)
+
+-- whatever the amounts were read from
+balanced : (r : Run) (a : Ask) (cs : Columns) (p pe : ℕ) → (t : Took r a cs)
+    → waterFor (stationOf r) a ≡ waterFigures p pe (watered (stationOf r) p pe) → soilFor (stationOf r) a ≡ soilAfter (r .soil) (watered (stationOf r) p pe) → Balances r (asked r a cs)
+unfolding taken
+balanced r a cs p pe t w s =
+    let f = run-is r cs (t .good .fit) (t .good .run) .soil in
+    subst (Balances r) (sym (t .did)) (rw (w, s) (month-water-kept (r .soil) p pe (constantsAt (r .constants) (r .calendar)) f))
+
+pub water-balances : (r : Run) (p pe : Reading) (cs : Columns) → asked r (water p pe) cs .answer .number ≡ 0 → Balances r (asked r (water p pe) cs)
+water-balances r p pe cs h = balanced r (water p pe) cs (reading p .water) (reading pe .water) (took r cs (water p pe) h) refl refl
+
+pub inches-balance : (r : Run) (q : MonthInches) (cs : Columns) → asked r (inches q) cs .answer .number ≡ 0 → Balances r (asked r (inches q) cs)
+inches-balance r q cs h = balanced r (inches q) cs (month q .p .water) (month q .pe .water) (took r cs (inches q) h) refl refl
+
+-- ---- 3. "Take any accepted months added one by one to a fresh run whose columns nobody else writes."
+module _ (constants : List ℤ) (c ss su m : ℤ) (cs : Columns) (started : startRefusal constants c ss su m ≡ 0) where
+  abbrev fresh : State
+  fresh = record { run = freshRun constants c ss su m; columns = cs }
+
+  abbrev rows : List Ask → List Row
+  rows asks = rowsOfMonths (freshRun constants c ss su m) asks
+
+  -- after the months the columns hold their rows, added one by one
+  held : (asks : List Ask) → Accepted fresh asks → heldBy (afterAll fresh asks .run) (afterAll fresh asks .columns) ≡ addAll (rows asks)
+  held asks h = held-all fresh asks h
+
+  months : (asks : List Ask) → Accepted fresh asks → afterAll fresh asks .run .months ≡ length asks
+  months asks h = months-all fresh asks h ∙ zero-more (length asks)
+    where
+      zero-more : (n : ℕ) → 0 + n ≡ n
+      zero-more n = omega arith
+
+  -- what the columns hold at a month's place
+  index-at : (asks : List Ask) → Accepted fresh asks → (i : ℕ) → i < length asks → getD (afterAll fresh asks .columns .index) i (pos 0) ≡ getD (addAll (rows asks) .index) i (pos 0)
+  index-at asks h i l =
+      let n = months asks h in
+      sym (getD-take (afterAll fresh asks .run .months) (afterAll fresh asks .columns .index) i (pos 0) (omega arith))
+      ∙ ap (λ (u : Held). getD (u .index) i (pos 0)) (held asks h)
+
+  mark-at : (asks : List Ask) → Accepted fresh asks → (i : ℕ) → i < length asks → getD (afterAll fresh asks .columns .mark) i 0 ≡ getD (addAll (rows asks) .mark) i 0
+  mark-at asks h i l =
+      let n = months asks h in
+      sym (getD-take (afterAll fresh asks .run .months) (afterAll fresh asks .columns .mark) i 0 (omega arith))
+      ∙ ap (λ (u : Held). getD (u .mark) i 0) (held asks h)
+
+  -- "After each, every settled index equals the choice made knowing all months so far, by a rule that looks forward from that month."
+  -- So does every mark, and every open month's index
+  pub settled-is-hindsight : (asks : List Ask) → Accepted fresh asks → (i : ℕ) → i < length asks
+      → (getD (afterAll fresh asks .columns .index) i (pos 0) ≡ forward (rows asks) i .index)
+      × (getD (afterAll fresh asks .columns .mark) i 0 ≡ forward (rows asks) i .mark)
+  settled-is-hindsight asks h i l = (index-at asks h i l ∙ every-index (rows asks) i, mark-at asks h i l ∙ every-mark (rows asks) i)
+
+  -- "A month is open exactly when no month from it onward has decided."
+  pub open-exactly-when : (asks : List Ask) → Accepted fresh asks → (i : ℕ) → i < length asks
+      → (getD (afterAll fresh asks .columns .mark) i 0 ≡ 1) ↔ NoneFrom (rows asks) i
+  open-exactly-when asks h i l =
+      let e = open-exactly (rows asks) i (omega (arith, rows-long stationNext stationRow (stationOf (freshRun constants c ss su m)) asks)) in
+      let k = mark-at asks h i l in
+      ((λ p. e .0 (sym k ∙ p)), (λ f. k ∙ e .1 f))
+
+  -- "Later months never change a settled one."
+  pub settled-stays-settled : (asks more : List Ask) → Accepted fresh asks → Accepted (afterAll fresh asks) more → (i : ℕ) → i < length asks
+      → getD (afterAll fresh asks .columns .mark) i 0 ≡ 2
+      → (getD (afterAll (afterAll fresh asks) more .columns .mark) i 0 ≡ 2)
+      × (getD (afterAll (afterAll fresh asks) more .columns .index) i (pos 0) ≡ getD (afterAll fresh asks .columns .index) i (pos 0))
+  settled-stays-settled asks more h k i l e =
+      let j : i < length (asks ++ more) = simp length-append (omega arith) in
+      let all = accepted-append fresh asks more h k in
+      let f = settled-stays (rows asks) (rowsOf stationNext stationRow (stateAfter stationNext (stationOf (freshRun constants c ss su m)) asks) more) i (sym (mark-at asks h i l) ∙ e) in
+      let r = rows-append stationNext stationRow (stationOf (freshRun constants c ss su m)) asks more in
+      let a : addAll (rows (asks ++ more)) ≡ addTo (addAll (rows asks)) (rowsOf stationNext stationRow (stateAfter stationNext (stationOf (freshRun constants c ss su m)) asks) more) = rw r (add-append nothing-held (rows asks) _) in
+      rw (← after-append fresh asks more) (
+        mark-at (asks ++ more) all i j ∙ ap (λ (u : Held). getD (u .mark) i 0) a ∙ f .0,
+        index-at (asks ++ more) all i j ∙ ap (λ (u : Held). getD (u .index) i (pos 0)) a ∙ f .1 ∙ sym (index-at asks h i l),
+      )
+
+  -- nor X1, X2, X3 of any earlier month, settled or open
+  pub values-never-change : (asks more : List Ask) → Accepted fresh asks → Accepted (afterAll fresh asks) more → (i : ℕ) → i < length asks
+      → (getD (afterAll (afterAll fresh asks) more .columns .x1) i (pos 0) ≡ getD (afterAll fresh asks .columns .x1) i (pos 0))
+      × (getD (afterAll (afterAll fresh asks) more .columns .x2) i (pos 0) ≡ getD (afterAll fresh asks .columns .x2) i (pos 0))
+      × (getD (afterAll (afterAll fresh asks) more .columns .x3) i (pos 0) ≡ getD (afterAll fresh asks .columns .x3) i (pos 0))
+  values-never-change asks more h k i l = let n = months asks h in values-stay (afterAll fresh asks) more k i (omega arith)
+
+  -- the run's open months are the last ones, and as many as are marked open
+  pub open-are-last : (asks : List Ask) → Accepted fresh asks
+      → take (length asks) (afterAll fresh asks .columns .mark) ≡ replicate (length asks - afterAll fresh asks .run .opens) 2 ++ replicate (afterAll fresh asks .run .opens) 1
+  open-are-last asks h =
+      let n = months asks h in
+      let u = held asks h in
+      let o : afterAll fresh asks .run .opens ≡ addAll (rows asks) .opens = ap (λ (v : Held). v .opens) u in
+      ap (λ (k : ℕ). take k (afterAll fresh asks .columns .mark)) (sym n)
+      ∙ ap (λ (v : Held). v .mark) u
+      ∙ rw (o, ← rows-long stationNext stationRow (stationOf (freshRun constants c ss su m)) asks) (last-are-open (rows asks))
+
+  pub opens-are-counted : (asks : List Ask) → Accepted fresh asks → afterAll fresh asks .run .opens ≡ count 1 (take (length asks) (afterAll fresh asks .columns .mark))
+  opens-are-counted asks h =
+      let u = held asks h in
+      ap (λ (v : Held). v .opens) u
+      ∙ opens-counts (rows asks)
+      ∙ sym (ap (λ (v : Held). count 1 (v .mark)) u)
+      ∙ ap (λ (k : ℕ). count 1 (take k (afterAll fresh asks .columns .mark))) (months asks h)
+
+  -- an add's settled count is the number of marks that it writes as 2
+  pub settled-are-counted : (asks : List Ask) (a : Ask) → Accepted fresh asks → asked (afterAll fresh asks .run) a (afterAll fresh asks .columns) .answer .number ≡ 0
+      → count 2 (heldBy (after (afterAll fresh asks) a .run) (after (afterAll fresh asks) a .columns) .mark)
+      ≡ count 2 (heldBy (afterAll fresh asks .run) (afterAll fresh asks .columns) .mark) + asked (afterAll fresh asks .run) a (afterAll fresh asks .columns) .answer .settled
+  settled-are-counted asks a h e =
+      let s = afterAll fresh asks in
+      let t = took (s .run) (s .columns) a e in
+      let row = stationRow (stationOf (s .run)) a in
+      let u = held asks h in
+      ap (λ (v : Held). count 2 (v .mark)) (held-next (s .run) a (s .columns) t)
+      ∙ ap (λ (v : Held). count 2 (addMonth v row .mark)) u
+      ∙ answers-settled (rows asks) row
+      ∙ sym (ap (λ (v : Held). count 2 (v .mark) + settledCount v row) u)
+      ∙ ap (λ (k : ℕ). count 2 (heldBy (s .run) (s .columns) .mark) + k) (sym (settled-is (s .run) a (s .columns) t))
