@@ -7,4 +7,5 @@ pub mod Shown
 pub mod Honest
 pub mod Singly
 pub mod Demands
+pub mod OneOutcome
 pub mod WorkedMonths
