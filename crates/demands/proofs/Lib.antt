@@ -9,3 +9,4 @@ pub mod Singly
 pub mod Demands
 pub mod OneOutcome
 pub mod WorkedMonths
+pub mod Rejected

@@ -2,10 +2,14 @@
 //
 // Each month is worked out twice. One month: from the storages that the paper prints at the end of the month
 // before. Chained: from the storages that come out here. Both start January 1933 with full storages.
-use super::amounts;
-use super::amounts::Place;
-use super::amounts::Tally;
-use super::months;
+use printed::amounts;
+use printed::months;
+use printed::places;
+use printed::places::Figure;
+use printed::places::Place;
+use printed::places::Run;
+use printed::tally;
+use printed::tally::Tally;
 use water::Constants;
 use water::Month;
 use water::Soil;
@@ -14,12 +18,6 @@ ghost use Prim.Native.Nat.{_<_};
 const MONTHS: usize = 36;
 
 const FIGURES: usize = 11;
-
-// What may be off, in thousandths of an inch: one unit of the last place printed, and three where the paper
-// carried hundredths from month to month.
-const ALLOWED: u64 = 10;
-
-const ALLOWED_CHAINED: u64 = 30;
 
 // Columns 3 to 15 as the scan has them, in hundredths of an inch: P, PE, the change of each layer, Ss, Su and S
 // at the end, PR, R, PL, L, ET, RO.
@@ -170,10 +168,10 @@ fn soil(surface: u32, underlying: u32) -> Soil {
 }
 
 // The storages that the next month starts from.
-fn next_start(chained: bool, month: usize, m: Month) -> Soil
+fn next_start(run: Run, month: usize, m: Month) -> Soil
     requires { ⌜ month < 36 ⌝ }
 {
-    if chained {
+    if places::is_chained(run) {
         return soil(m.surface, m.underlying);
     }
     let surface = amounts::thousandths(printed(month, 4));
@@ -181,66 +179,68 @@ fn next_start(chained: bool, month: usize, m: Month) -> Soil
     soil(surface, underlying)
 }
 
-fn run_number(chained: bool) -> usize {
-    if chained { 1 } else { 0 }
-}
-
-fn allowed(chained: bool) -> u64 {
-    if chained { ALLOWED_CHAINED } else { ALLOWED }
-}
-
-fn place(chained: bool, month: usize, figure: usize) -> Place
-    requires { ⌜ month < 36 ⌝ }
-{
-    Place {
-        run: run_number(chained),
-        year: 1933 + (month / 12) as u64,
-        month: 1 + (month % 12) as u64,
-        figure,
+// Columns 5 to 15, and d.
+fn figure(number: usize) -> Figure {
+    match number {
+        0 => Figure::SurfaceChange,
+        1 => Figure::UnderlyingChange,
+        2 => Figure::Surface,
+        3 => Figure::Underlying,
+        4 => Figure::Storage,
+        5 => Figure::PotentialRecharge,
+        6 => Figure::Recharge,
+        7 => Figure::PotentialLoss,
+        8 => Figure::Loss,
+        9 => Figure::Evapotranspiration,
+        10 => Figure::Runoff,
+        _ => Figure::Departure,
     }
 }
 
+fn place(run: Run, month: usize, number: usize) -> Place
+    requires { ⌜ month < 36 ⌝ }
+{
+    places::placed(run, figure(number), 1933, month)
+}
+
 // Holds columns 5 to 15 of a month to the printed ones.
-fn hold(t: Tally, chained: bool, month: usize, ours: &[i32; 11]) -> Tally
+fn hold(t: Tally, run: Run, month: usize, ours: &[i32; 11]) -> Tally
     requires { ⌜ month < 36 ⌝ }
 {
     let mut tally = t;
-    let mut figure = 0;
-    while figure < FIGURES {
-        let hundredths = printed(month, figure + 2);
-        let at = place(chained, month, figure);
-        tally = amounts::held(tally, at, hundredths, ours[figure], allowed(chained));
-        figure += 1;
+    let mut i = 0;
+    while i < FIGURES {
+        tally = tally::held(tally, place(run, month, i), printed(month, i + 2), ours[i]);
+        i += 1;
     }
     tally
 }
 
 // Holds d to table 6's.
-fn hold_departure(t: Tally, chained: bool, month: usize, m: Month) -> Tally
+fn hold_departure(t: Tally, run: Run, month: usize, m: Month) -> Tally
     requires { ⌜ month < 36 ⌝ }
 {
     let p = amounts::thousandths(printed(month, 0));
     let ours = amounts::minus(amounts::amount(p), m.cafec);
-    let at = place(chained, month, FIGURES);
-    amounts::held(t, at, departure(month), ours, allowed(chained))
+    tally::held(t, place(run, month, FIGURES), departure(month), ours)
 }
 
 // Writes what is off, and answers with each month's Z.
-pub fn run(chained: bool) -> [i32; 40] {
+pub fn run(run: Run) -> [i32; 40] {
     let mut z = [0i32; 40];
     let mut s = soil(1_000, 9_000);
-    let mut tally = amounts::none();
+    let mut tally = tally::none();
     let mut i = 0;
     while i < MONTHS {
         let m = worked(s, i);
         let ours = figures(s, m);
-        tally = hold(tally, chained, i, &ours);
-        tally = hold_departure(tally, chained, i, m);
+        tally = hold(tally, run, i, &ours);
+        tally = hold_departure(tally, run, i, m);
         let anomaly = m.z;
         z[i] = anomaly;
-        s = next_start(chained, i, m);
+        s = next_start(run, i, m);
         i += 1;
     }
-    amounts::write_tally(run_number(chained), tally);
+    tally::write_tally(run, tally);
     z
 }

@@ -1,13 +1,13 @@
 // The spells of central Iowa, 1933 to 1935, from the Z that comes out here, held to table 16.
-use super::amounts;
-use super::amounts::Place;
-use super::series;
+use printed::places;
+use printed::places::Figure;
+use printed::places::Place;
+use printed::places::Run;
+use printed::series;
+use printed::tally;
 ghost use Prim.Native.Nat.{_<_};
 
 const MONTHS: usize = 36;
-
-// What may be off, in thousandths: the paper carried hundredths from month to month.
-const ALLOWED: u64 = 20;
 
 // Table 16, X, in hundredths, as the scan has it.
 const X: [[i32; 12]; 3] = [
@@ -48,26 +48,22 @@ fn printed(month: usize) -> i32
     X[month / 12][month % 12]
 }
 
-fn place(month: usize) -> Place
+fn place(run: Run, month: usize) -> Place
     requires { ⌜ month < 36 ⌝ }
 {
-    Place {
-        run: 2,
-        year: 1933 + (month / 12) as u64,
-        month: 1 + (month % 12) as u64,
-        figure: 12,
-    }
+    places::placed(run, Figure::X, 1933, month)
 }
 
 // December 1932 left a wet spell at 2.87 (table 16).
 pub fn run(z: &[i32; 40]) {
-    let s = series::run(z, 36, series::start(0, 2_870));
+    let run = Run::Years(1933, 1935);
+    let s = series::run(z, MONTHS, 0, 2_870);
     let index = s.index;
-    let mut tally = amounts::none();
+    let mut tally = tally::none();
     let mut i = 0;
     while i < MONTHS {
-        tally = amounts::held(tally, place(i), printed(i), index[i], ALLOWED);
+        tally = tally::held(tally, place(run, i), printed(i), index[i]);
         i += 1;
     }
-    amounts::write_tally(2, tally);
+    tally::write_tally(run, tally);
 }

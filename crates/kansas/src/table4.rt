@@ -4,22 +4,20 @@
 // which the surface layer has what is worked out here, since that layer goes by P and PE alone. Chained: from
 // the storages that come out here at the end of the month before. Both start June 1932 with an empty surface
 // layer, which is what column 5 of that month says.
-use super::amounts;
-use super::amounts::Place;
-use super::amounts::Tally;
-use super::months;
+use printed::amounts;
+use printed::months;
+use printed::places;
+use printed::places::Figure;
+use printed::places::Place;
+use printed::places::Run;
+use printed::tally;
+use printed::tally::Tally;
 use water::Constants;
 use water::Month;
 use water::Soil;
 ghost use Prim.Native.Nat.{_≤_, _<_};
 
 const MONTHS: usize = 36;
-
-// What may be off, in thousandths: one unit of the last place printed, and three where the paper carried
-// hundredths from month to month.
-const ALLOWED: u64 = 10;
-
-const ALLOWED_CHAINED: u64 = 30;
 
 // Columns 2 to 12 and 14 as the scan has them, in hundredths of an inch: PE, PR, PRO, PL, alpha PE, beta PR,
 // gamma S', delta PL, CAFEC, P, d, Z.
@@ -175,10 +173,10 @@ fn soil(surface: u32, underlying: u32) -> Soil {
 }
 
 // The storages that the next month starts from. None follows the last.
-fn next_start(chained: bool, month: usize, m: Month) -> Soil
+fn next_start(run: Run, month: usize, m: Month) -> Soil
     requires { ⌜ month < 36 ⌝ }
 {
-    if chained {
+    if places::is_chained(run) {
         return soil(m.surface, m.underlying);
     }
     if month + 1 >= MONTHS {
@@ -189,67 +187,62 @@ fn next_start(chained: bool, month: usize, m: Month) -> Soil
     soil(surface, whole - surface)
 }
 
-fn run_number(chained: bool) -> usize {
-    if chained { 1 } else { 0 }
-}
-
-fn allowed(chained: bool) -> u64 {
-    if chained { ALLOWED_CHAINED } else { ALLOWED }
-}
-
-fn place(chained: bool, month: usize, figure: usize) -> Place
-    requires { ⌜ month < 36 ⌝ }
-{
-    let calendar = month + 5;
-    Place {
-        run: run_number(chained),
-        year: 1932 + (calendar / 12) as u64,
-        month: 1 + (calendar % 12) as u64,
-        figure,
+// What is compared.
+fn figure(number: usize) -> Figure {
+    match number {
+        0 => Figure::PotentialRecharge,
+        1 => Figure::PotentialLoss,
+        2 => Figure::AlphaPart,
+        3 => Figure::BetaPart,
+        4 => Figure::GammaPart,
+        5 => Figure::DeltaPart,
+        6 => Figure::Cafec,
+        7 => Figure::Departure,
+        8 => Figure::Anomaly,
+        _ => Figure::Storage,
     }
 }
 
+// The first month is June 1932.
+fn place(run: Run, month: usize, number: usize) -> Place
+    requires { ⌜ month < 36 ⌝ }
+{
+    places::placed(run, figure(number), 1932, month + 5)
+}
+
 // Holds the month's figures to the printed ones. The last month has no S.
-fn hold(t: Tally, chained: bool, month: usize, ours: &[i32; 10]) -> Tally
+fn hold(t: Tally, run: Run, month: usize, ours: &[i32; 10]) -> Tally
     requires { ⌜ month < 36 ⌝ }
 {
     let mut tally = t;
-    let mut figure = 0;
-    while figure < 9 {
-        let hundredths = printed(month, column(figure));
-        tally = amounts::held(
+    let mut i = 0;
+    while i < 9 {
+        tally = tally::held(
             tally,
-            place(chained, month, figure),
-            hundredths,
-            ours[figure],
-            allowed(chained),
+            place(run, month, i),
+            printed(month, column(i)),
+            ours[i],
         );
-        figure += 1;
+        i += 1;
     }
     if month + 1 >= MONTHS {
         return tally;
     }
-    amounts::held(
-        tally,
-        place(chained, month, 9),
-        printed(month + 1, 2),
-        ours[9],
-        allowed(chained),
-    )
+    tally::held(tally, place(run, month, 9), printed(month + 1, 2), ours[9])
 }
 
-pub fn run(chained: bool) {
+pub fn run(run: Run) {
     let mut s = soil(0, amounts::thousandths(printed(0, 2)));
-    let mut tally = amounts::none();
+    let mut tally = tally::none();
     let mut i = 0;
     while i < MONTHS {
         let m = worked(s, i, 4);
         let ours = figures(s, i, m);
-        tally = hold(tally, chained, i, &ours);
-        s = next_start(chained, i, m);
+        tally = hold(tally, run, i, &ours);
+        s = next_start(run, i, m);
         i += 1;
     }
-    amounts::write_tally(run_number(chained), tally);
+    tally::write_tally(run, tally);
 }
 
 // Column 14, in thousandths.

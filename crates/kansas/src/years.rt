@@ -1,19 +1,17 @@
 // The spells of western Kansas in two runs of years, held to what the paper prints of them.
-use super::amounts;
-use super::amounts::Place;
-use super::amounts::Tally;
-use super::series;
-use super::series::Series;
 use super::table4;
-ghost use Prim.Native.Nat.{_≤_, _<_};
+use printed::amounts;
+use printed::places;
+use printed::places::Figure;
+use printed::places::Place;
+use printed::places::Run;
+use printed::series;
+use printed::series::Series;
+use printed::tally;
+use printed::tally::Tally;
+ghost use Prim.Native.Nat.{_<_};
 
 const MONTHS: usize = 40;
-
-// What may be off, in thousandths: 20 for an index, which the paper carried in hundredths from month to month, 10
-// for a percent and for V.
-const ALLOWED: u64 = 10;
-
-const ALLOWED_CHAINED: u64 = 20;
 
 // Not printed, not readable, or no month.
 const NO: i32 = 9_999;
@@ -108,40 +106,55 @@ const YEARS_1888: [[i32; 7]; 40] = [
     [422, NO, NO, 421, 0, NO, 421],
 ];
 
-fn printed(run: usize, month: usize, column: usize) -> i32
-    requires { ⌜ (month < 40) × (column < 6) ⌝ }
-{
-    if run == 2 {
-        return YEARS_1932[month][column];
-    }
-    YEARS_1888[month][column + 1]
-}
-
-fn place(run: usize, month: usize, column: usize) -> Place
-    requires { ⌜ (month < 40) × (column < 6) ⌝ }
-{
-    if run == 2 {
-        return Place {
-            run,
-            year: 1932 + ((month + 5) / 12) as u64,
-            month: 1 + ((month + 5) % 12) as u64,
-            figure: column + 10,
-        };
-    }
-    Place {
-        run,
-        year: 1888 + ((month + 3) / 12) as u64,
-        month: 1 + ((month + 3) % 12) as u64,
-        figure: column + 10,
+// The two runs of years are told apart by which is the earlier.
+fn run(early: bool) -> Run {
+    if early {
+        Run::Years(1888, 1891)
+    } else {
+        Run::Years(1932, 1935)
     }
 }
 
-fn allowed(column: usize) -> u64 {
+fn printed_1932(month: usize, column: usize) -> i32
+    requires { ⌜ (month < 40) × (column < 6) ⌝ }
+{
+    YEARS_1932[month][column]
+}
+
+fn printed_1888(month: usize, column: usize) -> i32
+    requires { ⌜ (month < 40) × (column < 7) ⌝ }
+{
+    YEARS_1888[month][column]
+}
+
+fn printed(early: bool, month: usize, column: usize) -> i32
+    requires { ⌜ (month < 40) × (column < 6) ⌝ }
+{
+    if early {
+        return printed_1888(month, column + 1);
+    }
+    printed_1932(month, column)
+}
+
+fn figure(column: usize) -> Figure {
     match column {
-        3 => ALLOWED,
-        4 => ALLOWED,
-        _ => ALLOWED_CHAINED,
+        0 => Figure::X1,
+        1 => Figure::X2,
+        2 => Figure::X3,
+        3 => Figure::Percent,
+        4 => Figure::V,
+        _ => Figure::X,
     }
+}
+
+// The first months are April 1888 and June 1932.
+fn place(early: bool, month: usize, column: usize) -> Place
+    requires { ⌜ month < 40 ⌝ }
+{
+    if early {
+        return places::placed(run(early), figure(column), 1888, month + 3);
+    }
+    places::placed(run(early), figure(column), 1932, month + 5)
 }
 
 fn ours(s: Series, month: usize) -> [i32; 6]
@@ -157,56 +170,51 @@ fn ours(s: Series, month: usize) -> [i32; 6]
     ]
 }
 
+// Holds a figure to the printed one, if there is one.
+fn hold_one(t: Tally, early: bool, month: usize, column: usize, ours: i32) -> Tally
+    requires { ⌜ (month < 40) × (column < 6) ⌝ }
+{
+    let hundredths = printed(early, month, column);
+    if hundredths == NO {
+        return t;
+    }
+    tally::held(t, place(early, month, column), hundredths, ours)
+}
+
 // Holds a month's figures to those that are printed.
-fn hold(t: Tally, run: usize, month: usize, ours: &[i32; 6]) -> Tally
+fn hold(t: Tally, early: bool, month: usize, ours: &[i32; 6]) -> Tally
     requires { ⌜ month < 40 ⌝ }
 {
     let mut tally = t;
     let mut column = 0;
     while column < 6 {
-        tally = hold_one(tally, run, month, column, ours[column]);
+        tally = hold_one(tally, early, month, column, ours[column]);
         column += 1;
     }
     tally
 }
 
-fn hold_one(t: Tally, run: usize, month: usize, column: usize, ours: i32) -> Tally
-    requires { ⌜ (month < 40) × (column < 6) ⌝ }
-{
-    let hundredths = printed(run, month, column);
-    if hundredths == NO {
-        return t;
-    }
-    amounts::held(
-        t,
-        place(run, month, column),
-        hundredths,
-        ours,
-        allowed(column),
-    )
-}
-
-fn compare(run: usize, s: Series) {
-    let mut tally = amounts::none();
+fn compare(early: bool, s: Series) {
+    let mut tally = tally::none();
     let mut i = 0;
     while i < MONTHS {
         let figures = ours(s, i);
-        tally = hold(tally, run, i, &figures);
+        tally = hold(tally, early, i, &figures);
         i += 1;
     }
-    amounts::write_tally(run, tally);
+    tally::write_tally(run(early), tally);
 }
 
 // June 1932 founds a wet spell from nothing, so the run starts fresh.
 pub fn years_1932() {
     let z = table4::anomalies();
-    compare(2, series::run(&z, 36, series::start(0, 0)));
+    compare(false, series::run(&z, 36, 0, 0));
 }
 
 fn anomaly(month: usize) -> i32
     requires { ⌜ month < 40 ⌝ }
 {
-    amounts::tenfold(YEARS_1888[month][0])
+    amounts::tenfold(printed_1888(month, 0))
 }
 
 fn anomalies() -> [i32; 40] {
@@ -222,5 +230,5 @@ fn anomalies() -> [i32; 40] {
 // March 1888 left X1 at 0.27, as the text tells.
 pub fn years_1888() {
     let z = anomalies();
-    compare(3, series::run(&z, 40, series::start(270, 0)));
+    compare(true, series::run(&z, 40, 270, 0));
 }

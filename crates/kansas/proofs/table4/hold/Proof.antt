@@ -1,74 +1,69 @@
--- `kansas::table4::hold` is safe. Assumes nothing.
+-- `kansas::table4::hold` is safe: the loop goes by the nine figures of a month's own row. Assumes nothing.
 use Prim.Native.Nat.{_≤_, _-_}
+use native.Mathlib.Omega.{arith}
 use Rattle.exact.proofs.Held.{held}
 use Rattle.kansas.proofs.table4.hold.Statement.{statement}
 use Rattle.kansas.proofs.table4.hold.Tie as tie
 
 abbrev Inv-loop : tie.InvT-loop
-Inv-loop chained month ours tally₀ figure₀ tally figure = figure ≤ 9
+Inv-loop run month ours tally₀ i₀ tally i = i ≤ 9
 
 abbrev μ-loop : tie.MeasureT-loop
-μ-loop chained month ours tally₀ figure₀ tally figure = 9 - figure
+μ-loop run month ours tally₀ i₀ tally i = 9 - i
 
 loop-holds : tie.Need-loop-holds Inv-loop μ-loop
-loop-holds c = search held
-
-column-requires : tie.Need-column-requires Inv-loop μ-loop
-column-requires c κs = search held
-
-printed-requires : tie.Need-printed-requires Inv-loop μ-loop
-printed-requires c κs = search held
+loop-holds c = omega arith
 
 place-requires : tie.Need-place-requires Inv-loop μ-loop
-place-requires c κs = search held
+place-requires c κs = omega arith
+
+column-requires : tie.Need-column-requires Inv-loop μ-loop
+column-requires c κs = tt
+
+printed-requires : tie.Need-printed-requires Inv-loop μ-loop
+printed-requires c κs = omega arith
 
 mul-held : tie.Need-mul-held Inv-loop μ-loop
-mul-held c = search held
+mul-held c = omega arith
 
 element-copy-out-held : tie.Need-element-copy-out-held Inv-loop μ-loop
 element-copy-out-held c = search held
 
-allowed-requires : tie.Need-allowed-requires Inv-loop μ-loop
-allowed-requires c κs = search held
-
 held-requires : tie.Need-held-requires Inv-loop μ-loop
-held-requires c κs = search held
+held-requires c κs = tt
 
-add-figure : tie.Need-add-figure Inv-loop μ-loop
-add-figure c = search held
+add-i : tie.Need-add-i Inv-loop μ-loop
+add-i c = omega arith
 
 loop-less : tie.Need-loop-less Inv-loop μ-loop
-loop-less c = search held
+loop-less c = omega arith
 
 loop-again : tie.Need-loop-again Inv-loop μ-loop
-loop-again c = search held
+loop-again c = omega arith
 
 add-if1 : tie.Need-add-if1 Inv-loop μ-loop
-add-if1 c = search held
+add-if1 c = omega arith
 
 returns : tie.Need-returns Inv-loop μ-loop
-returns c = search held
+returns c = tt
 
 place-requires-2 : tie.Need-place-requires-2 Inv-loop μ-loop
-place-requires-2 c κs = search held
+place-requires-2 c κs = omega arith
 
 add-printed : tie.Need-add-printed Inv-loop μ-loop
-add-printed c = search held
+add-printed c = omega arith
 
 printed-requires-2 : tie.Need-printed-requires-2 Inv-loop μ-loop
-printed-requires-2 c κs = search held
+printed-requires-2 c κs = omega arith
 
 element-copy-out-held-2 : tie.Need-element-copy-out-held-2 Inv-loop μ-loop
 element-copy-out-held-2 c = search held
 
-allowed-requires-2 : tie.Need-allowed-requires-2 Inv-loop μ-loop
-allowed-requires-2 c κs = search held
-
 held-requires-2 : tie.Need-held-requires-2 Inv-loop μ-loop
-held-requires-2 c κs = search held
+held-requires-2 c κs = tt
 
 returns-2 : tie.Need-returns-2 Inv-loop μ-loop
-returns-2 c = search held
+returns-2 c = tt
 
 pub hold-spec : {M : Type 1} → statement M
 hold-spec =
@@ -77,14 +72,13 @@ hold-spec =
     Inv-loop
     μ-loop
     loop-holds
+    place-requires
     column-requires
     printed-requires
-    place-requires
     mul-held
     element-copy-out-held
-    allowed-requires
     held-requires
-    add-figure
+    add-i
     loop-less
     loop-again
     add-if1
@@ -93,6 +87,5 @@ hold-spec =
     add-printed
     printed-requires-2
     element-copy-out-held-2
-    allowed-requires-2
     held-requires-2
     returns-2)

@@ -1,3 +1,0 @@
--- What the proofs of `iowa` share.
-pub mod Sizes
-pub mod Kept

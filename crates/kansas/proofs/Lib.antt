@@ -1,3 +1,0 @@
--- What the proofs of `kansas` share.
-pub mod Sizes
-pub mod Kept
