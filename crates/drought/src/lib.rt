@@ -115,7 +115,7 @@ pub fn add_water(
     add_answers(run, a, b, x1, x2, x3, index, mark)
 }
 
-// Adds a month of water, from two binary32 inches: 1, 7, 8 or 9, 10.
+// Adds a month of water, from two binary32 inches: 1, 7, 9, 10.
 pub fn add_inches(
     run: Run,
     q: MonthInches,
