@@ -1,0 +1,6 @@
+-- What the proofs share (Sizes), the theorem about a line that is read byte by byte (Lines), that a promise allows one answer (OneAnswer),
+-- and worked lines (Worked).
+pub mod Sizes
+pub mod Lines
+pub mod OneAnswer
+pub mod Worked

@@ -1,0 +1,85 @@
+-- Document 01, the program that "reads one Z a line": "A line is an optional minus and one or more digits, closed by a line feed or the end
+-- of input; such a number outside the range of Z, however long, is 12." A line is the list of its bytes, without the line feed. Assumes
+-- nothing.
+use Prim.Native.Nat.{ℕ, _+_, _*_, _-_}
+use mathlib.Core.Bool.{Bool, true, false, cond, _&&_}
+use mathlib.Core.List.{List, [], _∷_, foldl}
+use lib.IntN.{ℤ, pos, negℤ}
+use lib.Dec.{leb, eqb}
+use Rattle.runs.specs.Runs.{zFits}
+
+-- the bytes of '-', '0' and '9'
+abbrev pub minusSign : ℕ
+minusSign = 45
+
+abbrev pub digitZero : ℕ
+digitZero = 48
+
+abbrev pub digitNine : ℕ
+digitNine = 57
+
+unfoldable pub isDigit : ℕ → Bool
+isDigit b = leb digitZero b && leb b digitNine
+
+-- ---- "an optional minus": whether it is there, and what is left of the line without it
+unfoldable pub negative : List ℕ → Bool
+negative [] = false
+negative (b ∷ bs) = eqb b minusSign
+
+unfoldable pub body : List ℕ → List ℕ
+body [] = []
+body (b ∷ bs) = cond (eqb b minusSign) bs (b ∷ bs)
+
+-- ---- "and one or more digits"
+unfoldable pub oneOrMore : List ℕ → Bool
+oneOrMore [] = false
+oneOrMore (b ∷ bs) = true
+
+unfoldable pub allDigits : List ℕ → Bool
+allDigits [] = true
+allDigits (b ∷ bs) = isDigit b && allDigits bs
+
+unfoldable pub wellFormed : List ℕ → Bool
+wellFormed line = oneOrMore (body line) && allDigits (body line)
+
+-- ---- the number that a well formed line says, of any size
+-- one digit more, to the right of those that make n
+abbrev pub andDigit : ℕ → ℕ → ℕ
+andDigit n b = 10 * n + (b - digitZero)
+
+unfoldable pub natural : List ℕ → ℕ
+natural bs = foldl andDigit 0 bs
+
+unfoldable pub signed : Bool → ℕ → ℤ
+signed true n = negℤ (pos n)
+signed false n = pos n
+
+unfoldable pub value : List ℕ → ℤ
+value line = signed (negative line) (natural (body line))
+
+-- ---- the answer: its number in the table of refusals, and the Z, which is 0 where the line is refused
+pub record Judged : Type 0 where
+  pub number : ℕ
+  pub z : ℤ
+
+-- 0: done
+abbrev pub accepted : ℤ → Judged
+accepted v = record { number = 0; z = v }
+
+abbrev pub refused : ℕ → Judged
+refused k = record { number = k; z = pos 0 }
+
+-- 12: Z outside its range
+abbrev pub outOfRange : ℕ
+outOfRange = 12
+
+-- 13: a line is not a whole number
+abbrev pub notANumber : ℕ
+notANumber = 13
+
+-- a number of which the line is well formed
+unfoldable pub ranged : ℤ → Judged
+ranged v = cond (zFits v) (accepted v) (refused outOfRange)
+
+unfoldable pub judged : List ℕ → Judged
+judged line = cond (wellFormed line) (ranged (value line)) (refused notANumber)

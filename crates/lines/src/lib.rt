@@ -1,0 +1,155 @@
+// A line of input read as a Z, byte by byte, so that a line of any length is judged within fixed memory.
+//
+// Document 01: "A line is an optional minus and one or more digits, closed by a line feed or the end of
+// input; such a number outside the range of Z, however long, is 12."
+
+ghost use mathlib.Core.Path.{_≡_};
+ghost use mathlib.Core.Bool.{true};
+ghost use Rattle.lines.specs.Line.{isDigit, andDigit, judged};
+ghost use Rattle.lines.specs.Reading.{begun, held, opens, fed, finished, readOf};
+
+// A line so far. Its bytes are given one by one, without the line feed.
+pub struct Line {
+    // Whether a minus has come.
+    pub minus: bool,
+    // Whether a digit has come.
+    pub digits: bool,
+    // Whether anything has come that no number has there.
+    pub spoiled: bool,
+    // What the digits say, or one above the range of Z where they say more.
+    pub size: u32,
+}
+
+// What a line says. `readOf` gives each case the paper's number and Z.
+pub enum Read {
+    // 0: a Z within its range.
+    Z(i32),
+    // 12: a whole number outside the range of Z.
+    OutOfRange,
+    // 13: not a whole number.
+    NotANumber,
+}
+
+const MINUS_SIGN: u8 = 45;
+
+const DIGIT_ZERO: u8 = 48;
+
+const DIGIT_NINE: u8 = 57;
+
+const MOST_Z: u32 = 4_000_000;
+
+// Where a size above the range of Z is held.
+const HELD: u32 = MOST_Z + 1;
+
+fn is_digit(b: u8) -> bool
+    ensures { λ r. ⌜ r ≡ isDigit b ⌝ }
+{
+    if b < DIGIT_ZERO {
+        return false;
+    }
+    b <= DIGIT_NINE
+}
+
+// The size after one digit more. A size that is held is let grow no further, so no sum comes near the
+// end of a u32.
+fn grown(size: u32, b: u8) -> u32
+    requires { ⌜ isDigit b ≡ true ⌝ }
+    ensures { λ r. ⌜ r ≡ held (andDigit size b) ⌝ }
+{
+    if size > MOST_Z {
+        return HELD;
+    }
+    let n = 10 * size + ((b - DIGIT_ZERO) as u32);
+    if n > MOST_Z {
+        return HELD;
+    }
+    n
+}
+
+// Whether b is a minus that comes before anything else.
+fn is_opening(l: Line, b: u8) -> bool
+    ensures { λ r. ⌜ r ≡ opens l b ⌝ }
+{
+    if l.minus {
+        return false;
+    }
+    if l.digits {
+        return false;
+    }
+    b == MINUS_SIGN
+}
+
+// Before the first byte.
+pub fn begin() -> Line
+    ensures { λ r. ⌜ r ≡ begun ⌝ }
+{
+    Line {
+        minus: false,
+        digits: false,
+        spoiled: false,
+        size: 0,
+    }
+}
+
+// One byte more.
+pub fn feed(l: Line, b: u8) -> Line
+    ensures { λ r. ⌜ r ≡ fed l b ⌝ }
+{
+    if is_digit(b) {
+        let size = grown(l.size, b);
+        return Line {
+            minus: l.minus,
+            digits: true,
+            spoiled: l.spoiled,
+            size,
+        };
+    }
+    if is_opening(l, b) {
+        return Line {
+            minus: true,
+            digits: false,
+            spoiled: l.spoiled,
+            size: l.size,
+        };
+    }
+    Line {
+        minus: l.minus,
+        digits: l.digits,
+        spoiled: true,
+        size: l.size,
+    }
+}
+
+// The line ends.
+pub fn finish(l: Line) -> Read
+    ensures { λ r. ⌜ readOf r ≡ finished l ⌝ }
+{
+    if l.spoiled {
+        return Read::NotANumber;
+    }
+    if !l.digits {
+        return Read::NotANumber;
+    }
+    let size = l.size;
+    if size > MOST_Z {
+        return Read::OutOfRange;
+    }
+    let z = size as i32;
+    if l.minus {
+        return Read::Z(0 - z);
+    }
+    Read::Z(z)
+}
+
+// A whole line.
+pub fn parse(line: &[u8]) -> Read
+    ensures { λ r. ⌜ readOf r ≡ judged (now (line .entry)) ⌝ }
+{
+    let mut l = begin();
+    let mut i = 0;
+    while i < line.len() {
+        l = feed(l, line[i]);
+        i += 1;
+    }
+    finish(l)
+}
