@@ -2,8 +2,8 @@
 """What a whole series costs as it grows: runs target/bin/series_cost (made by `rt check series_cost`) and prints a table.
 
 Kind 0 is of the ordinary sort, pseudo-random Z. Kind 1 is months that stay open to the end: each scan for the deciding
-month goes to the end. Kind 2 is the worst that was found: they stay open until the last month decides, so that the scan
-for the side goes to the end as well. A figure is the least of five runs, less that of a run of no series.
+month goes to the end. In kind 2 they stay open until the last month decides, so that the scan for the side goes to the
+end as well; under the emulator it measured no slower than kind 1, and why was not looked into. A figure is the least of five runs, less that of a run of no series.
 """
 import os
 import platform
