@@ -33,6 +33,7 @@ pub enum Answer {
 }
 
 // One month's precipitation and PE, in inches.
+#[repr(C)]
 pub struct MonthInches {
     pub p: f32,
     pub pe: f32,

@@ -37,6 +37,7 @@ const NO_SUCH_ROW: u8 = 11;
 const BAD_Z: u8 = 12;
 
 // The water of a month: all 0 for an added Z.
+#[repr(C)]
 pub struct WaterFigures {
     pub p: u32,
     pub pe: u32,
@@ -52,6 +53,7 @@ pub struct WaterFigures {
 }
 
 // A month's figures.
+#[repr(C)]
 pub struct Figures {
     pub water: WaterFigures,
     pub z: i32,
@@ -64,6 +66,7 @@ pub struct Figures {
 }
 
 // What an add answers: 0 or its refusal, the months that it settled, the month's figures, and the run.
+#[repr(C)]
 pub struct Added {
     pub number: u8,
     pub settled: u32,
@@ -72,6 +75,7 @@ pub struct Added {
 }
 
 // What the five columns hold of a month.
+#[repr(C)]
 pub struct Shown {
     pub number: u8,
     pub x1: i32,

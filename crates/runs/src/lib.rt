@@ -16,6 +16,7 @@ ghost use Rattle.runs.specs.Runs.{lengthFits, zFits, soilFits, sizesFit,
 ghost use Rattle.runs.specs.Start.{capacityFits, storagesFit, monthFits, startRefusal, zeroRun, startOf};
 
 // A run, handed in and back by value.
+#[repr(C)]
 pub struct Run {
     // How many months it holds, and how many of them, the last ones, are open.
     pub months: u32,
@@ -28,6 +29,7 @@ pub struct Run {
     pub constants: [i32; MANY_CONSTANTS],
 }
 
+#[repr(C)]
 pub struct Started {
     pub number: u8,
     pub run: Run,

@@ -11,6 +11,7 @@ ghost use Rattle.spells.specs.Values.{mostV, SidesFit, ValuesFit};
 ghost use Rattle.spells.specs.Spells.{turn, percentOf, raised, lowered, largerInSize, provisional, steadyMonth, abatingMonth, founded, unfounded, tried, noSpell, inForce, stepOf};
 
 // The running values, as the month before left them.
+#[repr(C)]
 pub struct Running {
     pub x1: i32,
     pub x2: i32,

@@ -19,6 +19,7 @@ const ONE: i64 = 10_000;
 const ONE_TIMES_ONE: i64 = 100_000_000;
 
 // The soil: its capacity, and what each layer holds.
+#[repr(C)]
 pub struct Soil {
     pub capacity: u32,
     pub surface: u32,

@@ -1,0 +1,48 @@
+-- `card::card_add_water` meets its contract: the two readings, and then what `drought::add_water` gives. Assumes nothing.
+use borrow.Author.Needs.{needs}
+use Rattle.card.proofs.card_add_water.Statement.{statement}
+use Rattle.card.proofs.card_add_water.Tie as tie
+
+reading-of-requires : tie.Need-reading-of-requires
+reading-of-requires c κs = search needs
+
+reading-of-requires-2 : tie.Need-reading-of-requires-2
+reading-of-requires-2 c κs = search needs
+
+add-water-requires : tie.Need-add-water-requires
+add-water-requires c κs = search needs
+
+same-length : tie.Need-same-length
+same-length c = search needs
+
+same-length-2 : tie.Need-same-length-2
+same-length-2 c = search needs
+
+same-length-3 : tie.Need-same-length-3
+same-length-3 c = search needs
+
+same-length-4 : tie.Need-same-length-4
+same-length-4 c = search needs
+
+same-length-5 : tie.Need-same-length-5
+same-length-5 c = search needs
+
+returns : tie.Need-returns
+returns c =
+    let t = c .before .before .before .before .before .before in
+    let d = t .before .before .before .before .before .before in
+    rw (d .before .reading-of .ensures, d .reading-of2 .ensures) at (t .add-water .ensures)
+
+pub card-add-water-spec : {M : Type 1} → statement M
+card-add-water-spec =
+    tie.close
+    (tie.spec
+    reading-of-requires
+    reading-of-requires-2
+    add-water-requires
+    same-length
+    same-length-2
+    same-length-3
+    same-length-4
+    same-length-5
+    returns)

@@ -1,0 +1,25 @@
+-- `card::card_read` meets its contract: the reading, its answer, and the answer's two numbers. Assumes nothing.
+use borrow.Author.Needs.{needs}
+use Rattle.card.proofs.card_read.Statement.{statement}
+use Rattle.card.proofs.card_read.Tie as tie
+
+reading-of-requires : tie.Need-reading-of-requires
+reading-of-requires c κs = search needs
+
+read-requires : tie.Need-read-requires
+read-requires c κs = search needs
+
+number-requires : tie.Need-number-requires
+number-requires c κs = search needs
+
+water-requires : tie.Need-water-requires
+water-requires c κs = search needs
+
+returns : tie.Need-returns
+returns c =
+    let a = c .before .before .read .ensures in
+    rw (c .before .number .ensures, c .water .ensures, ← c .before .before .before .reading-of .ensures) a
+
+pub card-read-spec : {M : Type 1} → statement M
+card-read-spec =
+    tie.close (tie.spec reading-of-requires read-requires number-requires water-requires returns)

@@ -1,0 +1,165 @@
+// The card's library: every call of `drought`, for C to link. include/card.h is its manual.
+//
+// C has no enum that carries a value, so a reading comes in as a struct (specs/Given.antt says what it means)
+// and its answer goes out as one. All else is handed on as it came, and so is each promise.
+use door::Answer;
+use door::MonthInches;
+use door::Reading;
+use drought::Added;
+use drought::Shown;
+use runs::Run;
+use runs::Started;
+ghost use mathlib.Core.Path.{_≡_};
+ghost use Rattle.door.specs.Readings.{reading};
+ghost use Rattle.runs.specs.Start.{startOf};
+ghost use Rattle.series.specs.Series.{filled, wholeSeries};
+ghost use Rattle.drought.specs.Columns.{columns};
+ghost use Rattle.drought.specs.Asked.{result, addWater, addInches, addZ, rowOfRun};
+ghost use Rattle.card.specs.Given.{given, answered};
+
+// A reading as C hands it in: its kind, and the number that this kind reads.
+#[repr(C)]
+pub struct GivenReading {
+    pub kind: u32,
+    pub whole: i32,
+    pub measure: f32,
+}
+
+// A reading's answer: 0, 8 or 9, and thousandths of an inch.
+#[repr(C)]
+pub struct GivenAnswer {
+    pub number: u8,
+    pub water: u32,
+}
+
+// The kinds of a reading. A kind that is none of these is not acceptable.
+const MISSING: u32 = 0;
+
+const WHOLE: u32 = 1;
+
+const INCHES: u32 = 2;
+
+const MILLIMETRES: u32 = 3;
+
+// What a whole reading of no such kind says: it is below 0, and so not acceptable.
+const NO_KIND: i32 = -1;
+
+fn reading_of(g: GivenReading) -> Reading
+    ensures { λ r. ⌜ r ≡ given g ⌝ }
+{
+    let kind = g.kind;
+    if kind == MISSING {
+        return Reading::Missing;
+    }
+    if kind == WHOLE {
+        return Reading::Whole(g.whole);
+    }
+    if kind == INCHES {
+        return Reading::Inches(g.measure);
+    }
+    if kind == MILLIMETRES {
+        return Reading::Millimetres(g.measure);
+    }
+    Reading::Whole(NO_KIND)
+}
+
+// Reads a reading: 8 or 9.
+#[no_mangle]
+pub extern "C" fn card_read(g: GivenReading) -> GivenAnswer
+    ensures { λ a. ⌜ answered a ≡ reading (given g) ⌝ }
+{
+    let a = drought::read(reading_of(g));
+    GivenAnswer {
+        number: door::number(a),
+        water: door::water(a),
+    }
+}
+
+// Starts a run: 2 to 6.
+#[no_mangle]
+pub extern "C" fn card_start(
+    constants: &[i32],
+    capacity: i32,
+    surface: i32,
+    underlying: i32,
+    month: i32,
+) -> Started
+    ensures { λ r. ⌜ r ≡ startOf (now (constants .entry)) capacity surface underlying month ⌝ }
+{
+    drought::start(constants, capacity, surface, underlying, month)
+}
+
+// Adds a month of water, from two readings: 1, 7, 8 or 9, 10.
+#[no_mangle]
+pub extern "C" fn card_add_water(
+    run: Run,
+    p: GivenReading,
+    pe: GivenReading,
+    x1: &mut [i32],
+    x2: &mut [i32],
+    x3: &mut [i32],
+    index: &mut [i32],
+    mark: &mut [u8],
+) -> Added
+    ensures { λ a. ⌜ result a (columns (now (x1 .exit)) (now (x2 .exit)) (now (x3 .exit)) (now (index .exit)) (now (mark .exit))) ≡ addWater run (given p) (given pe) (columns (now (x1 .entry)) (now (x2 .entry)) (now (x3 .entry)) (now (index .entry)) (now (mark .entry))) ⌝ }
+{
+    let a = reading_of(p);
+    let b = reading_of(pe);
+    drought::add_water(run, a, b, x1, x2, x3, index, mark)
+}
+
+// Adds a month of water, from two binary32 inches: 1, 7, 9, 10.
+#[no_mangle]
+pub extern "C" fn card_add_inches(
+    run: Run,
+    q: MonthInches,
+    x1: &mut [i32],
+    x2: &mut [i32],
+    x3: &mut [i32],
+    index: &mut [i32],
+    mark: &mut [u8],
+) -> Added
+    ensures { λ a. ⌜ result a (columns (now (x1 .exit)) (now (x2 .exit)) (now (x3 .exit)) (now (index .exit)) (now (mark .exit))) ≡ addInches run q (columns (now (x1 .entry)) (now (x2 .entry)) (now (x3 .entry)) (now (index .entry)) (now (mark .entry))) ⌝ }
+{
+    drought::add_inches(run, q, x1, x2, x3, index, mark)
+}
+
+// Adds a Z: 1, 7, 12, 10.
+#[no_mangle]
+pub extern "C" fn card_add_z(
+    run: Run,
+    z: i32,
+    x1: &mut [i32],
+    x2: &mut [i32],
+    x3: &mut [i32],
+    index: &mut [i32],
+    mark: &mut [u8],
+) -> Added
+    ensures { λ a. ⌜ result a (columns (now (x1 .exit)) (now (x2 .exit)) (now (x3 .exit)) (now (index .exit)) (now (mark .exit))) ≡ addZ run z (columns (now (x1 .entry)) (now (x2 .entry)) (now (x3 .entry)) (now (index .entry)) (now (mark .entry))) ⌝ }
+{
+    drought::add_z(run, z, x1, x2, x3, index, mark)
+}
+
+// Shows a month's row, from 0 on: 1, 7, 11.
+#[no_mangle]
+pub extern "C" fn card_row(
+    run: Run,
+    i: usize,
+    x1: &[i32],
+    x2: &[i32],
+    x3: &[i32],
+    index: &[i32],
+    mark: &[u8],
+) -> Shown
+    ensures { λ r. ⌜ r ≡ rowOfRun run i (columns (now (x1 .entry)) (now (x2 .entry)) (now (x3 .entry)) (now (index .entry)) (now (mark .entry))) ⌝ }
+{
+    drought::row(run, i, x1, x2, x3, index, mark)
+}
+
+// The whole series of a list of Z: fills indexes and marks. 1, 12.
+#[no_mangle]
+pub extern "C" fn card_whole_series(z: &[i32], index: &mut [i32], mark: &mut [u8]) -> u8
+    ensures { λ r. ⌜ filled r (now (index .exit)) (now (mark .exit)) ≡ wholeSeries (now (z .entry)) (now (index .entry)) (now (mark .entry)) ⌝ }
+{
+    drought::whole_series(z, index, mark)
+}

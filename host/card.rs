@@ -1,0 +1,197 @@
+//! The card's library in Rust: the types and calls of include/card.h, with lists lent as slices, so that what
+//! the header asks of a caller is kept by the types. A program has it as a module and links libcard.a.
+#![allow(dead_code)]
+
+pub const MISSING: u32 = 0;
+pub const WHOLE: u32 = 1;
+pub const INCHES: u32 = 2;
+pub const MILLIMETRES: u32 = 3;
+
+#[repr(C)]
+#[derive(Clone, Copy, Debug)]
+pub struct Reading {
+    pub kind: u32,
+    pub whole: i32,
+    pub measure: f32,
+}
+
+impl Reading {
+    pub const fn missing() -> Reading {
+        Reading { kind: MISSING, whole: 0, measure: 0.0 }
+    }
+    pub const fn whole(thousandths: i32) -> Reading {
+        Reading { kind: WHOLE, whole: thousandths, measure: 0.0 }
+    }
+    pub const fn inches(x: f32) -> Reading {
+        Reading { kind: INCHES, whole: 0, measure: x }
+    }
+    pub const fn millimetres(x: f32) -> Reading {
+        Reading { kind: MILLIMETRES, whole: 0, measure: x }
+    }
+}
+
+#[repr(C)]
+#[derive(Clone, Copy, Debug, PartialEq, Eq)]
+pub struct Answer {
+    pub number: u8,
+    pub water: u32,
+}
+
+#[repr(C)]
+#[derive(Clone, Copy, Debug, PartialEq, Eq)]
+pub struct Soil {
+    pub capacity: u32,
+    pub surface: u32,
+    pub underlying: u32,
+}
+
+#[repr(C)]
+#[derive(Clone, Copy, Debug, PartialEq, Eq)]
+pub struct Values {
+    pub x1: i32,
+    pub x2: i32,
+    pub x3: i32,
+    pub v: i64,
+}
+
+#[repr(C)]
+#[derive(Clone, Copy, Debug, PartialEq, Eq)]
+pub struct Run {
+    pub months: u32,
+    pub opens: u32,
+    pub calendar: u32,
+    pub soil: Soil,
+    pub values: Values,
+    pub constants: [i32; 60],
+}
+
+#[repr(C)]
+#[derive(Clone, Copy, Debug, PartialEq, Eq)]
+pub struct Started {
+    pub number: u8,
+    pub run: Run,
+}
+
+#[repr(C)]
+#[derive(Clone, Copy, Debug, Default, PartialEq, Eq)]
+pub struct Water {
+    pub p: u32,
+    pub pe: u32,
+    pub ls: u32,
+    pub lu: u32,
+    pub et: u32,
+    pub r: u32,
+    pub ro: u32,
+    pub pr: u32,
+    pub pro: u32,
+    pub pl: u32,
+    pub cafec: i32,
+}
+
+#[repr(C)]
+#[derive(Clone, Copy, Debug, Default, PartialEq, Eq)]
+pub struct Figures {
+    pub water: Water,
+    pub z: i32,
+    pub percent: u32,
+    pub x1: i32,
+    pub x2: i32,
+    pub x3: i32,
+    pub index: i32,
+    pub mark: u8,
+}
+
+#[repr(C)]
+#[derive(Clone, Copy, Debug, PartialEq, Eq)]
+pub struct Added {
+    pub number: u8,
+    pub settled: u32,
+    pub figures: Figures,
+    pub run: Run,
+}
+
+#[repr(C)]
+#[derive(Clone, Copy, Debug)]
+pub struct MonthInches {
+    pub p: f32,
+    pub pe: f32,
+}
+
+#[repr(C)]
+#[derive(Clone, Copy, Debug, Default, PartialEq, Eq)]
+pub struct Shown {
+    pub number: u8,
+    pub x1: i32,
+    pub x2: i32,
+    pub x3: i32,
+    pub index: i32,
+    pub mark: u8,
+}
+
+/// The five columns, lent for a call. They may be of any lengths; what does not fit is refused.
+pub struct Columns<'a> {
+    pub x1: &'a mut [i32],
+    pub x2: &'a mut [i32],
+    pub x3: &'a mut [i32],
+    pub index: &'a mut [i32],
+    pub mark: &'a mut [u8],
+}
+
+mod c {
+    use super::*;
+    #[rustfmt::skip]
+    extern "C" {
+        pub fn card_read(reading: Reading) -> Answer;
+        pub fn card_start(constants: *const i32, n: usize, capacity: i32, surface: i32, underlying: i32, month: i32) -> Started;
+        pub fn card_add_water(run: Run, p: Reading, pe: Reading, x1: *mut i32, n1: usize, x2: *mut i32, n2: usize, x3: *mut i32, n3: usize, index: *mut i32, ni: usize, mark: *mut u8, nm: usize) -> Added;
+        pub fn card_add_inches(run: Run, month: MonthInches, x1: *mut i32, n1: usize, x2: *mut i32, n2: usize, x3: *mut i32, n3: usize, index: *mut i32, ni: usize, mark: *mut u8, nm: usize) -> Added;
+        pub fn card_add_z(run: Run, z: i32, x1: *mut i32, n1: usize, x2: *mut i32, n2: usize, x3: *mut i32, n3: usize, index: *mut i32, ni: usize, mark: *mut u8, nm: usize) -> Added;
+        pub fn card_row(run: Run, row: usize, x1: *const i32, n1: usize, x2: *const i32, n2: usize, x3: *const i32, n3: usize, index: *const i32, ni: usize, mark: *const u8, nm: usize) -> Shown;
+        pub fn card_whole_series(z: *const i32, nz: usize, index: *mut i32, ni: usize, mark: *mut u8, nm: usize) -> u8;
+    }
+}
+
+// Each call below lends slices that the borrow checker holds apart, each with its own length, and a slice's
+// pointer is never null: that is all that include/card.h asks of a caller.
+
+pub fn read(reading: Reading) -> Answer {
+    unsafe { c::card_read(reading) }
+}
+
+pub fn start(constants: &[i32], capacity: i32, surface: i32, underlying: i32, month: i32) -> Started {
+    unsafe { c::card_start(constants.as_ptr(), constants.len(), capacity, surface, underlying, month) }
+}
+
+#[rustfmt::skip]
+pub fn add_water(run: Run, p: Reading, pe: Reading, k: &mut Columns) -> Added {
+    unsafe {
+        c::card_add_water(run, p, pe, k.x1.as_mut_ptr(), k.x1.len(), k.x2.as_mut_ptr(), k.x2.len(), k.x3.as_mut_ptr(), k.x3.len(), k.index.as_mut_ptr(), k.index.len(), k.mark.as_mut_ptr(), k.mark.len())
+    }
+}
+
+#[rustfmt::skip]
+pub fn add_inches(run: Run, month: MonthInches, k: &mut Columns) -> Added {
+    unsafe {
+        c::card_add_inches(run, month, k.x1.as_mut_ptr(), k.x1.len(), k.x2.as_mut_ptr(), k.x2.len(), k.x3.as_mut_ptr(), k.x3.len(), k.index.as_mut_ptr(), k.index.len(), k.mark.as_mut_ptr(), k.mark.len())
+    }
+}
+
+#[rustfmt::skip]
+pub fn add_z(run: Run, z: i32, k: &mut Columns) -> Added {
+    unsafe {
+        c::card_add_z(run, z, k.x1.as_mut_ptr(), k.x1.len(), k.x2.as_mut_ptr(), k.x2.len(), k.x3.as_mut_ptr(), k.x3.len(), k.index.as_mut_ptr(), k.index.len(), k.mark.as_mut_ptr(), k.mark.len())
+    }
+}
+
+#[rustfmt::skip]
+pub fn row(run: Run, row: usize, k: &Columns) -> Shown {
+    unsafe {
+        c::card_row(run, row, k.x1.as_ptr(), k.x1.len(), k.x2.as_ptr(), k.x2.len(), k.x3.as_ptr(), k.x3.len(), k.index.as_ptr(), k.index.len(), k.mark.as_ptr(), k.mark.len())
+    }
+}
+
+pub fn whole_series(z: &[i32], index: &mut [i32], mark: &mut [u8]) -> u8 {
+    unsafe {
+        c::card_whole_series(z.as_ptr(), z.len(), index.as_mut_ptr(), index.len(), mark.as_mut_ptr(), mark.len())
+    }
+}
