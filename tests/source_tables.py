@@ -487,4 +487,5 @@ def main():
         print('\n'.join(line for line in text.split('\n') if ' compared, ' in line))
 
 
-main()
+if __name__ == '__main__':
+    main()

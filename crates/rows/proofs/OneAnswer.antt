@@ -1,0 +1,23 @@
+-- Any two outcomes of `lay_out`, each an answer and what the list holds at the end, that its promise allows are the same, and so of
+-- `lay_refusal`: the promise says outright what both are. Assumes nothing.
+use mathlib.Core.Path.{_≡_, sym, _∙_}
+use mathlib.Core.List.{List}
+use Prim.Native.Nat.{ℕ, _+_, _≤_}
+use lib.ListN.{length}
+use Rattle.rows.specs.Text.{rowText, refusedText, laid, mostRow}
+use Rattle.rows.specs.declared.Row.{Row}
+
+-- the promise of a call that lays a text out: it answers r, and leaves q in the list that was o
+pub record Allowed (text : List ℕ) (at : ℕ) (o : List ℕ) (r : ℕ) (q : List ℕ) : Type 0 where
+  pub ends : r ≡ at + length text
+  pub within : r ≤ at + mostRow
+  pub holds : q ≡ laid text at o
+
+one-text : {text : List ℕ} {at : ℕ} {o : List ℕ} {r s : ℕ} {p q : List ℕ} → Allowed text at o r p → Allowed text at o s q → (r ≡ s) × (p ≡ q)
+one-text a b = (a .ends ∙ sym (b .ends), a .holds ∙ sym (b .holds))
+
+pub one-row : (row : Row) {at : ℕ} {o : List ℕ} {r s : ℕ} {p q : List ℕ} → Allowed (rowText row) at o r p → Allowed (rowText row) at o s q → (r ≡ s) × (p ≡ q)
+one-row row a b = one-text a b
+
+pub one-refusal : (line number : ℕ) {at : ℕ} {o : List ℕ} {r s : ℕ} {p q : List ℕ} → Allowed (refusedText line number) at o r p → Allowed (refusedText line number) at o s q → (r ≡ s) × (p ≡ q)
+one-refusal line number a b = one-text a b
