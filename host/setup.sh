@@ -8,41 +8,47 @@
 OUT=target/host
 mkdir -p "$OUT"
 
-# needs COMMAND PACKAGE..: installs the packages where the command is not there.
-needs() {
-    command -v "$1" >/dev/null 2>&1 && return 0
-    missing=$1
-    shift
+# install PACKAGE..
+install() {
     if [ "$(id -u)" -ne 0 ] || ! command -v apt-get >/dev/null 2>&1; then
-        echo "setup: $missing is missing; on Debian: apt-get install $*" >&2
+        echo "setup: missing; on Debian, as root: apt-get install $*" >&2
         exit 1
     fi
     echo "setup: installing $*" >&2
     if ! { apt-get update && DEBIAN_FRONTEND=noninteractive apt-get install -y --no-install-recommends "$@"; } >"$OUT/apt.log" 2>&1; then
         tail -5 "$OUT/apt.log" >&2
-        echo "setup: could not install $*" >&2
         exit 1
     fi
 }
 
+# wants COMMAND PACKAGE..: puts the packages on the list where the command is not there.
+wanted=
+wants() {
+    command -v "$1" >/dev/null 2>&1 && return
+    shift
+    wanted="$wanted $*"
+}
+
 static='-C target-feature=+crt-static'
 if [ "$(uname -m)" = x86_64 ]; then
-    needs cc gcc libc6-dev
-    needs rustc rustc
+    wants cc gcc libc6-dev
+    wants rustc rustc
     CC='cc -static'
     RUSTC="rustc --edition 2021 $static"
     RUN=
 else
-    command -v dpkg >/dev/null 2>&1 && [ "$(id -u)" -eq 0 ] && dpkg --add-architecture amd64
-    needs qemu-x86_64 qemu-user
-    needs x86_64-linux-gnu-gcc gcc-x86-64-linux-gnu
-    # Debian's rustc, whose library for x86-64 is a package beside it; another rustc may have none.
+    wants qemu-x86_64 qemu-user
+    wants x86_64-linux-gnu-gcc gcc-x86-64-linux-gnu
+    # Debian's rustc, beside which its library for x86-64 can be installed: another may have none.
     [ -d /usr/lib/rustlib/x86_64-unknown-linux-gnu/lib ] ||
-        needs no-such-rustc rustc-web libstd-rust-web-dev:amd64 libc6-dev:amd64
+        wanted="$wanted rustc-web libstd-rust-web-dev:amd64 libc6-dev:amd64"
+    [ -z "$wanted" ] || [ "$(id -u)" -ne 0 ] || dpkg --add-architecture amd64
     CC='x86_64-linux-gnu-gcc -static'
     RUSTC="/usr/bin/rustc --edition 2021 --target x86_64-unknown-linux-gnu -C linker=x86_64-linux-gnu-gcc $static"
     RUN=qemu-x86_64
 fi
+# shellcheck disable=SC2086
+[ -z "$wanted" ] || install $wanted
 
 rt staticlib card >"$OUT/staticlib.log" 2>&1 || {
     tail -20 "$OUT/staticlib.log" >&2
