@@ -25,19 +25,23 @@ def expected(data):
         lines.pop()
     anomalies = []
     for number, line in enumerate(lines, 1):
-        refusal = judged(line) or (10 if number > 2400 else 0)
+        refusal, z = judged(line)
+        if refusal == 0 and number > 2400:
+            refusal = 10
         if refusal:
             return 'refused %d %d\n' % (number, refusal)
-        anomalies.append(int(line))
+        anomalies.append(z)
     return ''.join(row + '\n' for row in sample.rows(anomalies))
 
 
 def judged(line):
-    """0, or why a line is refused."""
+    """0 and a line's Z, or why it is refused."""
     if not re.fullmatch(rb'-?[0-9]+', line):
-        return 13
-    digits = line.lstrip(b'-').lstrip(b'0')
-    return 12 if len(digits) > 7 or int(digits or b'0') > 4000000 else 0
+        return 13, 0
+    digits = line.lstrip(b'-').lstrip(b'0') or b'0'
+    if len(digits) > 7 or int(digits) > 4000000:
+        return 12, 0
+    return 0, -int(digits) if line.startswith(b'-') else int(digits)
 
 
 def printed(data, pieces):
@@ -128,7 +132,8 @@ def drawn(seed):
     draw = random.Random(seed)
     lines = []
     for _ in range(draw.randint(0, 30)):
-        line = b'%d' % draw.randint(-10 ** draw.randint(1, 9), 10 ** draw.randint(1, 7))
+        size = 10 ** (9 if draw.random() < 0.02 else draw.randint(1, 6))
+        line = b'%d' % draw.randint(-size, size)
         if draw.random() < 0.04:
             at = draw.randint(0, len(line))
             line = line[:at] + bytes([draw.choice(b'-+ \r\t0xX\0\x80\xff')]) + line[at:]

@@ -1,0 +1,14 @@
+-- A reading whose kind is none of the four is not acceptable, whatever its numbers: it is answered 9. Assumes nothing.
+use mathlib.Core.Path.{_≡_, refl}
+use Prim.Native.Nat.{ℕ, _<_}
+use native.Mathlib.Omega.{arith}
+use borrow.Author.Tests.{ne-eqb}
+use Rattle.door.specs.Outcome.{refused, notAcceptable}
+use Rattle.door.specs.Readings.{reading, whole}
+use Rattle.card.specs.Given.{given, missingKind, wholeKind, inchesKind, millimetresKind}
+use Rattle.card.specs.declared.GivenReading.{GivenReading}
+
+pub no-kind : (g : GivenReading) → 3 < g .kind → reading (given g) ≡ refused notAcceptable
+unfolding given reading whole
+no-kind g h =
+    simp (ne-eqb (g .kind) missingKind (λ e. omega arith), ne-eqb (g .kind) wholeKind (λ e. omega arith), ne-eqb (g .kind) inchesKind (λ e. omega arith), ne-eqb (g .kind) millimetresKind (λ e. omega arith))

@@ -1,0 +1,13 @@
+-- Any two answers that the promise of `card_read` allows are the same: both numbers are the outcome's. The other promises are those of
+-- `drought`, of which `demands` shows it. Assumes nothing.
+use mathlib.Core.Path.{_≡_, sym, ap, _∙_}
+use Prim.Native.Nat.{ℕ}
+use Rattle.door.specs.Outcome.{Outcome}
+use Rattle.card.specs.Given.{answered}
+use Rattle.card.specs.declared.GivenAnswer.{GivenAnswer}
+
+from : Outcome → GivenAnswer
+from o = record { number = o .number; water = o .water }
+
+pub one-answer : (o : Outcome) (a b : GivenAnswer) → answered a ≡ o → answered b ≡ o → a ≡ b
+one-answer o a b p q = ap from (p ∙ sym q)

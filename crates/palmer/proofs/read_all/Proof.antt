@@ -1,0 +1,83 @@
+-- `palmer::read_all` is safe and ends: the reads that are left are counted down. Assumes nothing.
+use borrow.Author.Needs.{needs}
+use mathlib.Core.Path.{_≡_, refl, _∙_}
+use native.Mathlib.Omega.{arith}
+use lib.ListN.{length}
+use Rattle.palmer.proofs.read_all.Statement.{statement}
+use Rattle.palmer.proofs.read_all.Tie as tie
+
+abbrev Inv-loop : tie.InvT-loop
+Inv-loop buffer₀ x1₀ x2₀ x3₀ index₀ mark₀ percent₀ heard₀ buffer x1 x2 x3 index mark percent heard =
+    (length buffer ≡ length buffer₀) × (length x1 ≡ length x1₀) × (length x2 ≡ length x2₀) × (length x3 ≡ length x3₀) × (length index ≡ length index₀) × (length mark ≡ length mark₀) × (length percent ≡ length percent₀)
+
+abbrev μ-loop : tie.MeasureT-loop
+μ-loop buffer₀ x1₀ x2₀ x3₀ index₀ mark₀ percent₀ heard₀ buffer x1 x2 x3 index mark percent heard = heard .left
+
+begin-requires : tie.Need-begin-requires Inv-loop μ-loop
+begin-requires c κs = search needs
+
+loop-holds : tie.Need-loop-holds Inv-loop μ-loop
+loop-holds c = (refl, refl, refl, refl, refl, refl, refl)
+
+read-some-requires : tie.Need-read-some-requires Inv-loop μ-loop
+read-some-requires c κs = omega arith
+
+loop-less : tie.Need-loop-less Inv-loop μ-loop
+loop-less c = (c .before .before .before .before .before .before .before .before .before .before) .read-some .ensures
+
+loop-again : tie.Need-loop-again Inv-loop μ-loop
+loop-again c =
+    let r = c .before .before .before .before .before .before .before .before .before .before in
+    let v = (r .before .before .before .before .before .before .before .before .before .before .before) .loop .inv in (
+      r .read-some .kept .1 .1 .0 ∙ v .0,
+      r .read-some .kept .1 .1 .1 .0 ∙ v .1,
+      r .read-some .kept .1 .1 .1 .1 .0 ∙ v .2,
+      r .read-some .kept .1 .1 .1 .1 .1 .0 ∙ v .3,
+      r .read-some .kept .1 .1 .1 .1 .1 .1 .0 ∙ v .4,
+      r .read-some .kept .1 .1 .1 .1 .1 .1 .1 .0 ∙ v .5,
+      r .read-some .kept .1 .1 .1 .1 .1 .1 .1 .1 .0 ∙ v .6,
+    )
+
+same-length : tie.Need-same-length Inv-loop μ-loop
+same-length c = c .before .before .loop .inv .0
+
+same-length-2 : tie.Need-same-length-2 Inv-loop μ-loop
+same-length-2 c = c .before .before .loop .inv .1
+
+same-length-3 : tie.Need-same-length-3 Inv-loop μ-loop
+same-length-3 c = c .before .before .loop .inv .2
+
+same-length-4 : tie.Need-same-length-4 Inv-loop μ-loop
+same-length-4 c = c .before .before .loop .inv .3
+
+same-length-5 : tie.Need-same-length-5 Inv-loop μ-loop
+same-length-5 c = c .before .before .loop .inv .4
+
+same-length-6 : tie.Need-same-length-6 Inv-loop μ-loop
+same-length-6 c = c .before .before .loop .inv .5
+
+same-length-7 : tie.Need-same-length-7 Inv-loop μ-loop
+same-length-7 c = c .before .before .loop .inv .6
+
+returns : tie.Need-returns Inv-loop μ-loop
+returns c = search needs
+
+pub read-all-spec : {M : Type 1} → statement M
+read-all-spec =
+    tie.close
+    (tie.spec
+    Inv-loop
+    μ-loop
+    begin-requires
+    loop-holds
+    read-some-requires
+    loop-less
+    loop-again
+    same-length
+    same-length-2
+    same-length-3
+    same-length-4
+    same-length-5
+    same-length-6
+    same-length-7
+    returns)
