@@ -6,7 +6,7 @@ use Rattle.door.specs.Outcome.{Outcome}
 use Rattle.card.specs.Given.{answered}
 use Rattle.card.specs.declared.GivenAnswer.{GivenAnswer}
 
-from : Outcome → GivenAnswer
+abbrev from : Outcome → GivenAnswer
 from o = record { number = o .number; water = o .water }
 
 pub one-answer : (o : Outcome) (a b : GivenAnswer) → answered a ≡ o → answered b ≡ o → a ≡ b
