@@ -29,6 +29,7 @@ wants() {
     wanted="$wanted $*"
 }
 
+wants python3 python3
 static='-C target-feature=+crt-static'
 if [ "$(uname -m)" = x86_64 ]; then
     wants cc gcc libc6-dev
