@@ -1,0 +1,533 @@
+//! Document 01 in plain Rust, written from that document alone and in its order, for the library to be compared
+//! with and measured against. The sentences quoted in the comments are the document's. It shares the library's
+//! data types and nothing else. A call borrows the run and changes it only where it does what it was asked.
+#![allow(dead_code)]
+
+use crate::card::{self, Columns, Figures, MonthInches, Reading, Run, Shown, Soil, Values, Water};
+
+// ---- Quantities --------------------------------------------------------------------------------------------
+
+/// "A run holds 0 to 2,400 months."
+pub const MOST_MONTHS: usize = 2_400;
+/// "Z given directly: -4,000,000 to 4,000,000."
+pub const MOST_Z: i32 = 4_000_000;
+/// "The surface layer holds 1,000."
+const SURFACE: u32 = 1_000;
+/// "Alpha, beta, delta 0 to 10,000; gamma 0 to 50,000; K 0 to 100,000."
+const MOST_CONSTANT: [i32; 5] = [10_000, 10_000, 50_000, 10_000, 100_000];
+/// "mark (1 open, 2 settled)"
+pub const OPEN: u8 = 1;
+pub const SETTLED: u8 = 2;
+
+/// "Nearest" means the nearest whole number, halves away from zero. The divisor is above 0.
+#[inline]
+fn nearest(n: i64, d: i64) -> i64 {
+    let half = d / 2;
+    (if n < 0 { n - half } else { n + half }) / d
+}
+
+// ---- Refusals ----------------------------------------------------------------------------------------------
+
+/// The table of refusal numbers, without 0 (done) and 13 (the program's).
+#[derive(Clone, Copy, Debug, PartialEq, Eq)]
+#[repr(u8)]
+pub enum Refusal {
+    Lengths = 1,
+    NotSixty = 2,
+    Constant = 3,
+    Capacity = 4,
+    Storage = 5,
+    StartMonth = 6,
+    NotARun = 7,
+    Missing = 8,
+    NotAcceptable = 9,
+    Full = 10,
+    NoRow = 11,
+    BadZ = 12,
+}
+
+// ---- Readings at the door ----------------------------------------------------------------------------------
+
+/// A number from 0 to `most` as fraction / 2^halvings. "Negative zero is 0. NaN, infinities, negatives and
+/// anything above the range are refused."
+#[inline]
+fn parts(x: f32, most: f32) -> Result<(u64, u32), Refusal> {
+    let bits = x.to_bits();
+    if bits == 0x8000_0000 {
+        return Ok((0, 149));
+    }
+    // From 0 up, bits are in the order of their numbers; infinity, NaN and the sign bit come above.
+    if bits > most.to_bits() {
+        return Err(Refusal::NotAcceptable);
+    }
+    let fraction = u64::from(bits & 0x007f_ffff);
+    match bits >> 23 {
+        0 => Ok((fraction, 149)),
+        exponent => Ok((fraction | 0x0080_0000, 150 - exponent)),
+    }
+}
+
+/// "Inches as an IEEE 754 binary32 number (0 to 100)": "the nearest thousandth of an inch to the exact value of
+/// the number".
+#[inline]
+pub fn inches(x: f32) -> Result<u32, Refusal> {
+    let (fraction, halvings) = parts(x, 100.0)?;
+    // Here 1000 x fraction is below 2^34, so with more halvings than 35 the answer is 0.
+    if halvings > 35 {
+        return Ok(0);
+    }
+    Ok(((1000 * fraction + (1 << (halvings - 1))) >> halvings) as u32)
+}
+
+/// "Millimetres as binary32 (0 to 2,540)": "for millimetres that is value x 5000/127".
+#[inline]
+pub fn millimetres(x: f32) -> Result<u32, Refusal> {
+    let (fraction, halvings) = parts(x, 2540.0)?;
+    // Here 5000 x fraction is below 2^37, so with more halvings than 35 the answer is 0.
+    if halvings > 35 {
+        return Ok(0);
+    }
+    let divisor = 127u64 << halvings;
+    Ok(((5000 * fraction + divisor / 2) / divisor) as u32)
+}
+
+/// "A reading is one of four: whole thousandths (0 to 100,000)", inches, millimetres, "or missing". Any other
+/// kind is not acceptable.
+#[inline]
+pub fn read(reading: &Reading) -> Result<u32, Refusal> {
+    match reading.kind {
+        card::MISSING => Err(Refusal::Missing),
+        card::WHOLE if (0..=100_000).contains(&reading.whole) => Ok(reading.whole as u32),
+        card::INCHES => inches(reading.measure),
+        card::MILLIMETRES => millimetres(reading.measure),
+        _ => Err(Refusal::NotAcceptable),
+    }
+}
+
+// ---- One month of water ------------------------------------------------------------------------------------
+
+/// Nearest to the amount "x Su / C, at most Su". The product is at most 100,000 x 29,000, so it fits.
+#[inline]
+fn underlying_loss(amount: u32, soil: &Soil) -> u32 {
+    ((amount * soil.underlying + soil.capacity / 2) / soil.capacity).min(soil.underlying)
+}
+
+/// A month of water from the start storages, with the month's five constants: its water figures and its Z. The
+/// storages become those at its end.
+fn water_month(soil: &mut Soil, constants: &[i32], p: u32, pe: u32) -> (Water, i32) {
+    let mut w = Water { p, pe, ..Water::default() };
+
+    // "Potentials, from the start storages."
+    w.pro = soil.surface + soil.underlying;
+    w.pr = soil.capacity - w.pro;
+    let pls = pe.min(soil.surface);
+    w.pl = pls + underlying_loss(pe - pls, soil);
+
+    if p < pe {
+        // "Ls = smaller of Ss and PE - P. Lu = nearest to (PE - P - Ls) x Su / C, at most Su."
+        w.ls = soil.surface.min(pe - p);
+        w.lu = underlying_loss(pe - p - w.ls, soil);
+        w.et = p + w.ls + w.lu;
+        soil.surface -= w.ls;
+        soil.underlying -= w.lu;
+    } else {
+        // "The excess P - PE fills the surface layer, then the underlying layer; the rest is RO."
+        let excess = p - pe;
+        let upper = excess.min(SURFACE - soil.surface);
+        let lower = (excess - upper).min(soil.capacity - SURFACE - soil.underlying);
+        w.et = pe;
+        w.r = upper + lower;
+        w.ro = excess - w.r;
+        soil.surface += upper;
+        soil.underlying += lower;
+    }
+
+    // "N = alpha PE + beta PR + gamma PRO - delta PL."
+    let times = |constant: usize, amount: u32| i64::from(constants[constant]) * i64::from(amount);
+    let n = times(0, pe) + times(1, w.pr) + times(2, w.pro) - times(3, w.pl);
+    w.cafec = nearest(n, 10_000) as i32;
+    // "Rounded once, from N and not from the rounded CAFEC."
+    let z = nearest(i64::from(constants[4]) * (10_000 * i64::from(p) - n), 100_000_000);
+    (w, z as i32)
+}
+
+// ---- One month of spells -----------------------------------------------------------------------------------
+
+/// What became of the spell in force.
+#[derive(Clone, Copy, Debug, PartialEq, Eq)]
+pub enum Course {
+    NoSpell,
+    Steady,
+    Abating,
+    Ended,
+}
+
+/// Which of the running indexes a month decides with.
+#[derive(Clone, Copy, Debug, PartialEq, Eq)]
+pub enum Decides {
+    Nothing,
+    WithX1,
+    WithX2,
+    WithX3,
+}
+
+/// A month of spells: the values that it leaves, and how it came to them.
+#[derive(Clone, Copy, Debug)]
+pub struct Step {
+    pub values: Values,
+    pub percent: u32,
+    pub course: Course,
+    pub decides: Decides,
+}
+
+/// "next(x) = nearest to (2691 x + 1000 Z) / 3000."
+#[inline]
+fn next(x: i32, z: i32) -> i32 {
+    nearest(2691 * i64::from(x) + 1000 * i64::from(z), 3000) as i32
+}
+
+/// One month of spells from last month's values.
+#[inline]
+pub fn spell_month(last: &Values, z: i32) -> Step {
+    let x3 = i64::from(last.x3);
+    // "A drought is in force if last month's X3 is below -500, a wet spell if above 500."
+    if x3 < -500 {
+        let u = i64::from(z) + 150;
+        let v = u + last.v;
+        let e = -2691 * x3 - 1_500_000;
+        let q = e + 1000 * last.v;
+        if v <= 0 {
+            steady(last, z)
+        } else if 1000 * u >= e {
+            no_spell(last, z, Course::Ended)
+        } else {
+            abating(last, z, v, nearest(100_000 * v, q))
+        }
+    } else if x3 > 500 {
+        // "Wet spell: the mirror." V and Q are below 0 where it abates.
+        let u = i64::from(z) - 150;
+        let v = u + last.v;
+        let e = -2691 * x3 + 1_500_000;
+        let q = e + 1000 * last.v;
+        if v >= 0 {
+            steady(last, z)
+        } else if 1000 * u <= e {
+            no_spell(last, z, Course::Ended)
+        } else {
+            abating(last, z, v, nearest(-100_000 * v, -q))
+        }
+    } else {
+        // "Otherwise there is none, and X3 and V are read as 0."
+        no_spell(last, z, Course::NoSpell)
+    }
+}
+
+/// "X3 = next(X3), X1 = X2 = V = 0, percent 0. This month decides with X3."
+#[inline]
+fn steady(last: &Values, z: i32) -> Step {
+    let values = Values { x1: 0, x2: 0, x3: next(last.x3, z), v: 0 };
+    Step { values, percent: 0, course: Course::Steady, decides: Decides::WithX3 }
+}
+
+/// "X3 = next(X3), V kept, X1 = larger of 0 and next(X1), X2 = smaller of 0 and next(X2)." The percent is "held
+/// within 1 to 99. Nothing is decided."
+#[inline]
+fn abating(last: &Values, z: i32, v: i64, percent: i64) -> Step {
+    let values = Values { x1: next(last.x1, z).max(0), x2: next(last.x2, z).min(0), x3: next(last.x3, z), v };
+    Step { values, percent: percent.clamp(1, 99) as u32, course: Course::Abating, decides: Decides::Nothing }
+}
+
+/// "No spell, or one just ended: X1 and X2 as in 'abating'; percent 0 unless just ended."
+#[inline]
+fn no_spell(last: &Values, z: i32, course: Course) -> Step {
+    let x1 = next(last.x1, z).max(0);
+    let x2 = next(last.x2, z).min(0);
+    // "X1 at least 1,000: X3 = X1, then X1 = X2 = 0." "Else X2 at most -1,000: likewise with X2."
+    let (values, decides) = if x1 >= 1_000 {
+        (Values { x1: 0, x2: 0, x3: x1, v: 0 }, Decides::WithX1)
+    } else if x2 <= -1_000 {
+        (Values { x1: 0, x2: 0, x3: x2, v: 0 }, Decides::WithX2)
+    } else {
+        // "Else X1 = 0: decides with X2. Else X2 = 0: decides with X1. Else nothing is decided."
+        let decides = match (x1, x2) {
+            (0, _) => Decides::WithX2,
+            (_, 0) => Decides::WithX1,
+            _ => Decides::Nothing,
+        };
+        (Values { x1, x2, x3: 0, v: 0 }, decides)
+    };
+    Step { values, percent: if course == Course::Ended { 100 } else { 0 }, course, decides }
+}
+
+/// The month's own index as it is added: what it decides, or else the provisional one: "X3 if nonzero, else the
+/// larger in size of X1 and X2, X2 on a tie."
+#[inline]
+fn own_index(step: &Step) -> i32 {
+    let Values { x1, x2, x3, .. } = step.values;
+    match step.decides {
+        // "Decides with X3", or "the index is the new X3", or the provisional one.
+        Decides::WithX3 => x3,
+        _ if x3 != 0 => x3,
+        Decides::WithX1 => x1,
+        Decides::WithX2 => x2,
+        Decides::Nothing if x1 > -x2 => x1,
+        Decides::Nothing => x2,
+    }
+}
+
+// ---- Hindsight ---------------------------------------------------------------------------------------------
+
+/// "Exactly one of X1, X2 nonzero gives the side."
+#[inline]
+fn side(x1: i32, x2: i32) -> Decides {
+    match (x1 != 0, x2 != 0) {
+        (true, false) => Decides::WithX1,
+        (false, true) => Decides::WithX2,
+        _ => Decides::Nothing,
+    }
+}
+
+/// Settles the months `first..month` of the columns, where `month` decides. It goes back from the deciding month,
+/// so the side that it has met last is the first one from each month onward.
+fn settle(k: &mut Columns, first: usize, month: usize, decides: Decides) {
+    let index = &mut k.index[first..month];
+    if decides == Decides::WithX3 {
+        index.copy_from_slice(&k.x3[first..month]);
+    } else {
+        let mut held = decides;
+        let values = k.x1[first..month].iter().zip(&k.x2[first..month]);
+        for (index, (&x1, &x2)) in index.iter_mut().zip(values).rev() {
+            let own = side(x1, x2);
+            if own != Decides::Nothing {
+                held = own;
+            }
+            *index = if held == Decides::WithX1 { x1 } else { x2 };
+        }
+    }
+    k.mark[first..month].fill(SETTLED);
+}
+
+// ---- What can be asked -------------------------------------------------------------------------------------
+
+/// What an add answers where it is not refused.
+#[derive(Clone, Copy, Debug)]
+pub struct Added {
+    pub figures: Figures,
+    pub settled: u32,
+}
+
+fn constants_in_range(constants: &[i32]) -> bool {
+    constants
+        .chunks_exact(5)
+        .all(|month| month.iter().zip(&MOST_CONSTANT).all(|(c, most)| (0..=*most).contains(c)))
+}
+
+/// "Start a run." "Order at a start, which takes no columns: 2 to 6."
+pub fn start(constants: &[i32], capacity: i32, surface: i32, underlying: i32, month: i32) -> Result<Run, Refusal> {
+    let constants: &[i32; 60] = constants.try_into().map_err(|_| Refusal::NotSixty)?;
+    if !constants_in_range(constants) {
+        return Err(Refusal::Constant);
+    }
+    if !(1_000..=30_000).contains(&capacity) {
+        return Err(Refusal::Capacity);
+    }
+    if !(0..=1_000).contains(&surface) || !(0..=capacity - 1_000).contains(&underlying) {
+        return Err(Refusal::Storage);
+    }
+    if !(1..=12).contains(&month) {
+        return Err(Refusal::StartMonth);
+    }
+    Ok(Run {
+        months: 0,
+        opens: 0,
+        calendar: month as u32,
+        soil: Soil { capacity: capacity as u32, surface: surface as u32, underlying: underlying as u32 },
+        // "A fresh run has X1 = X2 = X3 = V = 0."
+        values: Values { x1: 0, x2: 0, x3: 0, v: 0 },
+        constants: *constants,
+    })
+}
+
+/// Refusals 1 and 7, and otherwise the column length.
+#[inline]
+fn check(run: &Run, k: &Columns) -> Result<usize, Refusal> {
+    let length = k.x1.len();
+    let others = [k.x2.len(), k.x3.len(), k.index.len(), k.mark.len()];
+    if length == 0 || length > MOST_MONTHS || others != [length; 4] {
+        return Err(Refusal::Lengths);
+    }
+    if is_run(run, length) {
+        Ok(length)
+    } else {
+        Err(Refusal::NotARun)
+    }
+}
+
+/// The paragraph "Not a run", turned round.
+fn is_run(run: &Run, length: usize) -> bool {
+    let Soil { capacity, surface, underlying } = run.soil;
+    let Values { x1, x2, x3, v } = run.values;
+    run.months as usize <= length
+        && run.opens <= run.months
+        && (1..=12).contains(&run.calendar)
+        && (1_000..=30_000).contains(&capacity)
+        && surface <= SURFACE
+        && underlying <= capacity - SURFACE
+        && (0..=13_000_000).contains(&x1)
+        && (-13_000_000..=0).contains(&x2)
+        && (-13_000_000..=13_000_000).contains(&x3)
+        && v.unsigned_abs() <= 4_000_150 * u64::from(run.months)
+        && (v <= 0 || x3 < 0)
+        && (v >= 0 || x3 > 0)
+        && constants_in_range(&run.constants)
+}
+
+/// Adds a month whose water and Z are known. The month's place is there.
+fn add(run: &mut Run, water: Water, z: i32, k: &mut Columns) -> Added {
+    let month = run.months as usize;
+    let step = spell_month(&run.values, z);
+    let index = own_index(&step);
+    let Values { x1, x2, x3, .. } = step.values;
+    let mut mark = OPEN;
+    let mut settled = 0;
+    // "The number of months settled by this call, its own included: the open months before it plus one if it
+    // decides, else 0."
+    if step.decides == Decides::Nothing {
+        run.opens += 1;
+    } else {
+        settle(k, month - run.opens as usize, month, step.decides);
+        mark = SETTLED;
+        settled = run.opens + 1;
+        run.opens = 0;
+    }
+    k.x1[month] = x1;
+    k.x2[month] = x2;
+    k.x3[month] = x3;
+    k.index[month] = index;
+    k.mark[month] = mark;
+    run.months += 1;
+    run.calendar = run.calendar % 12 + 1;
+    run.values = step.values;
+    Added { figures: Figures { water, z, percent: step.percent, x1, x2, x3, index, mark }, settled }
+}
+
+/// An add of water whose readings are known. Refusal 10 is the last.
+fn add_amounts(run: &mut Run, p: u32, pe: u32, k: &mut Columns) -> Result<Added, Refusal> {
+    if run.months as usize == k.x1.len() {
+        return Err(Refusal::Full);
+    }
+    let first = 5 * (run.calendar as usize - 1);
+    let (water, z) = water_month(&mut run.soil, &run.constants[first..first + 5], p, pe);
+    Ok(add(run, water, z, k))
+}
+
+/// "Add a month of water." "At an add of water: 1, 7, precipitation 8 or 9, PE 8 or 9, 10."
+pub fn add_water(run: &mut Run, p: &Reading, pe: &Reading, k: &mut Columns) -> Result<Added, Refusal> {
+    check(run, k)?;
+    let p = read(p)?;
+    let pe = read(pe)?;
+    add_amounts(run, p, pe, k)
+}
+
+/// "One month's precipitation and PE may arrive together as two binary32 inches."
+pub fn add_inches(run: &mut Run, month: MonthInches, k: &mut Columns) -> Result<Added, Refusal> {
+    check(run, k)?;
+    let p = inches(month.p)?;
+    let pe = inches(month.pe)?;
+    add_amounts(run, p, pe, k)
+}
+
+/// "Add a Z (storage stays, the calendar moves on)." "At an add of Z: 1, 7, 12, 10."
+pub fn add_z(run: &mut Run, z: i32, k: &mut Columns) -> Result<Added, Refusal> {
+    let length = check(run, k)?;
+    if !(-MOST_Z..=MOST_Z).contains(&z) {
+        return Err(Refusal::BadZ);
+    }
+    if run.months as usize == length {
+        return Err(Refusal::Full);
+    }
+    // "For an added Z all those before Z are 0."
+    Ok(add(run, Water::default(), z, k))
+}
+
+/// "Show a month's row (what the five columns hold there)." "Row: 1, 7, 11." "Rows are numbered from 0."
+pub fn row(run: &Run, row: usize, k: &Columns) -> Result<Shown, Refusal> {
+    check(run, k)?;
+    if row >= run.months as usize {
+        return Err(Refusal::NoRow);
+    }
+    Ok(Shown { number: 0, x1: k.x1[row], x2: k.x2[row], x3: k.x3[row], index: k.index[row], mark: k.mark[row] })
+}
+
+/// The months of a whole series, before hindsight.
+struct Series {
+    x1: [i32; MOST_MONTHS],
+    x2: [i32; MOST_MONTHS],
+    x3: [i32; MOST_MONTHS],
+    decides: [Decides; MOST_MONTHS],
+}
+
+/// "Whole series (a list of Z, filling a list of indexes and one of marks, equal in length, as adding them singly
+/// to a fresh run would": "1, 12". It reckons all months first and then fills the lists forward.
+pub fn whole_series(z: &[i32], index: &mut [i32], mark: &mut [u8]) -> Result<(), Refusal> {
+    let length = z.len();
+    if length == 0 || length > MOST_MONTHS || index.len() != length || mark.len() != length {
+        return Err(Refusal::Lengths);
+    }
+    if !z.iter().all(|z| (-MOST_Z..=MOST_Z).contains(z)) {
+        return Err(Refusal::BadZ);
+    }
+    let mut series = Series {
+        x1: [0; MOST_MONTHS],
+        x2: [0; MOST_MONTHS],
+        x3: [0; MOST_MONTHS],
+        decides: [Decides::Nothing; MOST_MONTHS],
+    };
+    let mut values = Values { x1: 0, x2: 0, x3: 0, v: 0 };
+    for (month, &z) in z.iter().enumerate() {
+        let step = spell_month(&values, z);
+        values = step.values;
+        series.x1[month] = values.x1;
+        series.x2[month] = values.x2;
+        series.x3[month] = values.x3;
+        series.decides[month] = step.decides;
+        index[month] = own_index(&step);
+    }
+    let mut first = 0;
+    for month in 0..length {
+        // "A month's deciding month is the first from it onward that decides."
+        if series.decides[month] != Decides::Nothing {
+            fill(&series, index, first, month);
+            first = month + 1;
+        }
+    }
+    // "With none, the month is open."
+    mark[..first].fill(SETTLED);
+    mark[first..].fill(OPEN);
+    Ok(())
+}
+
+/// Fills in the indexes of the months `first..deciding`, going forward.
+fn fill(series: &Series, index: &mut [i32], first: usize, deciding: usize) {
+    // "If it decides with X3, the month's index is its own X3."
+    if series.decides[deciding] == Decides::WithX3 {
+        index[first..deciding].copy_from_slice(&series.x3[first..deciding]);
+        return;
+    }
+    // "Otherwise go forward from the month itself: the first month before the deciding one with exactly one of
+    // X1, X2 nonzero gives the side; with none, the deciding month gives it." `waiting` is the first month without
+    // a side.
+    let mut waiting = first;
+    for month in first..=deciding {
+        let side =
+            if month < deciding { side(series.x1[month], series.x2[month]) } else { series.decides[deciding] };
+        if side == Decides::Nothing {
+            continue;
+        }
+        let own = if side == Decides::WithX1 { &series.x1 } else { &series.x2 };
+        let end = deciding.min(month + 1);
+        // "The index is the month's own value on that side."
+        index[waiting..end].copy_from_slice(&own[waiting..end]);
+        waiting = end;
+    }
+}
