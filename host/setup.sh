@@ -21,12 +21,17 @@ install() {
     fi
 }
 
-# wants COMMAND PACKAGE..: puts the packages on the list where the command is not there.
+# wants COMMAND PACKAGE..: puts the packages on the list where the command is not there; `provide` installs the list.
 wanted=
 wants() {
     command -v "$1" >/dev/null 2>&1 && return
     shift
     wanted="$wanted $*"
+}
+provide() {
+    # shellcheck disable=SC2086
+    [ -z "$wanted" ] || install $wanted
+    wanted=
 }
 
 wants python3 python3
@@ -48,8 +53,7 @@ else
     RUSTC="/usr/bin/rustc --edition 2021 --target x86_64-unknown-linux-gnu -C linker=x86_64-linux-gnu-gcc $static"
     RUN=qemu-x86_64
 fi
-# shellcheck disable=SC2086
-[ -z "$wanted" ] || install $wanted
+provide
 
 rt staticlib card >"$OUT/staticlib.log" 2>&1 || {
     tail -20 "$OUT/staticlib.log" >&2
