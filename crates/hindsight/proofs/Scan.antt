@@ -1,49 +1,21 @@
--- Looking forward from month i: the scan for the deciding month, and the scan for the side. Each scan's invariant is a record, with lemmas
+-- Looking forward from month i: the scan for the deciding month, and the scan for the side. What both have passed is one record, with lemmas
 -- for its first turn, the next and the ways out. Assumes nothing.
-use mathlib.Core.Path.{_≡_, refl, sym, ap, _∙_}
+use mathlib.Core.Path.{_≡_, refl, ap, _∙_}
 use mathlib.Core.Bool.{Bool, true, false}
 use mathlib.Core.List.{List, [], _∷_, _++_}
 use Prim.Native.Nat.{ℕ, zero, suc, _+_, _-_, _≤_, _<_}
 use native.Mathlib.Omega.{arith}
+use borrow.Author.Count.{below-more}
 use lib.IntN.{ℤ}
 use Rattle.spells.specs.declared.With.{With}
-use Rattle.spells.specs.declared.Decision.{Decision}
 use Rattle.spells.specs.declared.Decision.the-variants.{Nothing, Decides}
-use Rattle.hindsight.specs.Rule.{X, Row, Side, nonzero, oneOf, sideFrom, Deciding, nobody, after, oneEarlier, decidingFor, deciding, Shown}
+use Rattle.hindsight.specs.Rule.{X, Row, Side, nonzero, oneOf, sideFrom, nobody, after, oneEarlier, deciding, Shown}
 use Rattle.hindsight.specs.Columns.{xsFrom, withOf, sideOf, toldNo, decisionOf, rowsFrom}
-
--- what a scan from place i found: the number d of a decision (0: none), the place of the month that decides, and a side's number
-abbrev pub foundBy : Decision → List X → ℤ → Deciding
-foundBy Nothing before i = nobody
-foundBy (Decides w) before i = after before w i
-
-pub record Ruled (f : ℕ → Row) (n i at d side : ℕ) : Type 0 where
-  pub from : i ≤ at
-  pub to : at ≤ n
-  pub found : deciding (rowsFrom f i (n - i)) ≡ foundBy (decisionOf d) (xsFrom (λ k. f k .x) i (at - i)) (f at .shown)
-  pub sided : (d ≡ 0 → ⊥) → sideOf side ≡ sideFrom (xsFrom (λ k. f k .x) i (at - i)) (sideOf d)
 
 -- a mark and an index are those that are shown
 pub record Says (s : Shown) (mark : ℕ) (index : ℤ) : Type 0 where
   pub mark-is : mark ≡ s .mark
   pub index-is : index ≡ s .index
-
--- months before a deciding month
-abbrev pub earlier : List X → Deciding → Deciding
-earlier [] d = d
-earlier (m ∷ l) d = oneEarlier m (earlier l d)
-
-earlier-snoc : (l : List X) (m : X) (d : Deciding) → earlier (l ++ (m ∷ [])) d ≡ earlier l (oneEarlier m d)
-earlier-snoc [] m d = refl
-earlier-snoc (a ∷ l) m d = ap (oneEarlier a) (earlier-snoc l m d)
-
-earlier-nobody : (l : List X) → earlier l nobody ≡ nobody
-earlier-nobody [] = refl
-earlier-nobody (a ∷ l) = ap (oneEarlier a) (earlier-nobody l)
-
-earlier-after : (l : List X) (w : With) (s : ℤ) → earlier l (after [] w s) ≡ after l w s
-earlier-after [] w s = refl
-earlier-after (a ∷ l) w s = ap (oneEarlier a) (earlier-after l w s)
 
 -- a list of places, from its first and to its last
 pub xs-cons : (x : ℕ → X) (k k' to : ℕ) → k' ≡ suc k → k < to → xsFrom x k (to - k) ≡ x k ∷ xsFrom x k' (to - k')
@@ -61,12 +33,6 @@ xs-long x i (suc k) = rw (add i k) (ap (λ (l : List X). x i ∷ l) (xs-long x (
   where
     add : (i k : ℕ) → i + suc k ≡ suc i + k
     add i k = omega arith
-
-xs-snoc : (x : ℕ → X) (i at at' : ℕ) → at' ≡ suc at → i ≤ at → xsFrom x i (at' - i) ≡ xsFrom x i (at - i) ++ (x at ∷ [])
-xs-snoc x i at at' e h =
-    let l : at' - i ≡ suc (at - i) = omega arith in
-    let m : i + (at - i) ≡ at = omega arith in
-    rw l (xs-long x i (at - i) ∙ rw m refl)
 
 -- numbers of decisions and of sides
 pub decision-zero : (d : ℕ) → d ≡ 0 → decisionOf d ≡ Nothing
@@ -88,74 +54,98 @@ told true false s f = refl
 told false true s f = refl
 told false false s f = absurd (f refl)
 
--- the scan for the deciding month, at the month `at`: nobody from i up to it decides
-pub record Scanning (f : ℕ → Row) (n i d at : ℕ) : Type 0 where
-  pub from : i ≤ at
-  pub to : at ≤ n
-  pub none : d ≡ 0
-  pub passed : deciding (rowsFrom f i (n - i)) ≡ earlier (xsFrom (λ k. f k .x) i (at - i)) (deciding (rowsFrom f at (n - at)))
+-- the number of the side that month k gives, 0 if none
+abbrev pub side : (ℕ → Row) → ℕ → ℕ
+side f k = toldNo (nonzero (f k .x .x1)) (nonzero (f k .x .x2)) 0
 
--- the scan for the side, at the month k: no month from i up to it gives one
-pub record Siding (x : ℕ → X) (i at k : ℕ) : Type 0 where
-  pub from : i ≤ k
-  pub to : k ≤ at
-  pub same : (s : Side) → sideFrom (xsFrom x i (at - i)) s ≡ sideFrom (xsFrom x k (at - k)) s
+-- what the scans for the months before i have passed: from i on, no month before `ahead` decides, and none before `sided` gives a side
+pub record Passed (f : ℕ → Row) (n i ahead sided : ℕ) : Type 0 where
+  pub to : ahead ≤ n
+  pub undecided : (j : ℕ) → j < ahead → i ≤ j → f j .decision ≡ Nothing
+  pub unsided : (j : ℕ) → j < sided → i ≤ j → side f j ≡ 0
 
-pub scan-first : (f : ℕ → Row) (n i : ℕ) → i ≤ n → Scanning f n i 0 i
-scan-first f n i h =
-    let e : i - i ≡ 0 = omega arith in
-    record { from = omega arith; to = h; none = refl; passed = rw e refl }
+-- the two scans for month i, at `ahead` and at `sided`: both have come up to the month
+pub record Scanning (f : ℕ → Row) (n i ahead sided : ℕ) : Type 0 where
+  pub passed : Passed f n i ahead sided
+  pub ahead-from : i ≤ ahead
+  pub sided-from : i ≤ sided
 
--- a month that does not decide is passed
-pub scan-next : (f : ℕ → Row) (n i d d' at at' : ℕ) → Scanning f n i d at → at' ≡ suc at → at < n → f at .decision ≡ decisionOf d' → d' ≡ 0 → Scanning f n i d' at'
-scan-next f n i d d' at at' g e h p z =
+pub passed-first : (f : ℕ → Row) (n : ℕ) → Passed f n 0 0 0
+passed-first f n = record { to = omega arith; undecided = λ j l h. absurd (omega arith); unsided = λ j l h. absurd (omega arith) }
+
+-- a scan goes on where it stood, or at the month
+pub scan-first : (f : ℕ → Row) (n i ahead sided ahead' sided' : ℕ) → Passed f n i ahead sided → i < n → ahead' ≡ ahead + (i - ahead) → sided' ≡ sided + (i - sided)
+    → Scanning f n i ahead' sided'
+scan-first f n i ahead sided ahead' sided' p m a s =
     record {
-      from = omega (arith, g .from);
-      to = omega arith;
-      none = z;
-      passed =
-          g .passed
-          ∙ rw (rows-cons f at at' n e h, p, decision-zero d' z, xs-snoc (λ k. f k .x) i at at' e (g .from)) (sym (earlier-snoc (xsFrom (λ k. f k .x) i (at - i)) (f at .x) (deciding (rowsFrom f at' (n - at')))));
+      passed = record { to = omega arith; undecided = λ j l h. p .undecided j (omega arith) h; unsided = λ j l h. p .unsided j (omega arith) h };
+      ahead-from = omega arith;
+      sided-from = omega arith;
     }
 
--- nobody decides
-pub scan-out : (f : ℕ → Row) (n i d side at : ℕ) → Scanning f n i d at → n ≤ at → Ruled f n i at d side
-scan-out f n i d side at g h =
-    let e : n - at ≡ 0 = omega arith in
-    record {
-      from = g .from;
-      to = g .to;
-      found = g .passed ∙ rw (e, decision-zero d (g .none)) (earlier-nobody (xsFrom (λ k. f k .x) i (at - i)));
-      sided = λ z. absurd (z (g .none));
-    }
+-- nobody of the k months from i on decides
+nobody-decides : (f : ℕ → Row) (i k : ℕ) → ((j : ℕ) → j < i + k → i ≤ j → f j .decision ≡ Nothing) → deciding (rowsFrom f i k) ≡ nobody
+nobody-decides f i zero u = refl
+nobody-decides f i (suc k) u = rw (u i (omega arith) (omega arith)) (ap (oneEarlier (f i .x)) (nobody-decides f (suc i) k (λ j l h. u j (omega arith) (omega arith))))
 
--- a month that decides
-pub scan-found : (f : ℕ → Row) (n i d d' side at : ℕ) → Scanning f n i d at → at < n → f at .decision ≡ decisionOf d' → (d' ≡ 0 → ⊥)
-    → sideOf side ≡ sideFrom (xsFrom (λ k. f k .x) i (at - i)) (sideOf d') → Ruled f n i at d' side
-scan-found f n i d d' side at g h p z q =
-    record {
-      from = g .from;
-      to = omega arith;
-      found = g .passed ∙ rw (rows-cons f at (suc at) n refl h, p, decision-some d' z) (earlier-after (xsFrom (λ k. f k .x) i (at - i)) (withOf d') (f at .shown));
-      sided = λ _. q;
-    }
+-- the month `at` decides, and none of the k from i up to it
+first-decides : (f : ℕ → Row) (w : With) (n at i k : ℕ) → at ≡ i + k → at < n → ((j : ℕ) → j < at → i ≤ j → f j .decision ≡ Nothing) → f at .decision ≡ Decides w
+    → deciding (rowsFrom f i (n - i)) ≡ after (xsFrom (λ j. f j .x) i k) w (f at .shown)
+first-decides f w n at i zero e h u d =
+    let i-at : i ≡ at = omega arith in
+    rw (i-at, rows-cons f at (suc at) n refl h, d) refl
+first-decides f w n at i (suc k) e h u d =
+    rw (rows-cons f i (suc i) n refl (omega arith), u i (omega arith) (omega arith))
+    (ap (oneEarlier (f i .x)) (first-decides f w n at (suc i) k (omega arith) h (λ j l m. u j l (omega arith)) d))
 
--- the side
-pub side-first : (x : ℕ → X) (i at : ℕ) → i ≤ at → Siding x i at i
-side-first x i at h = record { from = omega arith; to = h; same = λ s. refl }
+-- the k months from i up to `from` give no side, so it is that of the months from there on
+unsided-from : (f : ℕ → Row) (s : Side) (from to i k : ℕ) → from ≡ i + k → from ≤ to → ((j : ℕ) → j < from → i ≤ j → side f j ≡ 0)
+    → sideFrom (xsFrom (λ j. f j .x) i (to - i)) s ≡ sideFrom (xsFrom (λ j. f j .x) from (to - from)) s
+unsided-from f s from to i zero e h u = let i-from : i ≡ from = omega arith in rw i-from refl
+unsided-from f s from to i (suc k) e h u =
+    rw (xs-cons (λ j. f j .x) i (suc i) to refl (omega arith))
+    (untold (nonzero (f i .x .x1)) (nonzero (f i .x .x2)) (sideFrom (xsFrom (λ j. f j .x) (suc i) (to - suc i)) s) (u i (omega arith) (omega arith)) ∙ unsided-from f s from to (suc i) k (omega arith) h (λ j l m. u j l (omega arith)))
 
-pub side-next : (x : ℕ → X) (i at k k' : ℕ) → Siding x i at k → k' ≡ suc k → k < at → toldNo (nonzero (x k .x1)) (nonzero (x k .x2)) 0 ≡ 0 → Siding x i at k'
-side-next x i at k k' g e h z =
-    record {
-      from = omega (arith, g .from);
-      to = omega arith;
-      same = λ s. g .same s ∙ rw (xs-cons x k k' at e h) (untold (nonzero (x k .x1)) (nonzero (x k .x2)) (sideFrom (xsFrom x k' (at - k')) s) z);
-    }
+module _ (f : ℕ → Row) (n i ahead sided : ℕ) (g : Scanning f n i ahead sided) where
+  -- a month that does not decide is passed
+  pub scan-next : ahead < n → f ahead .decision ≡ Nothing → Scanning f n i (ahead + 1) sided
+  scan-next l z =
+      record {
+        passed = record { to = omega arith; undecided = below-more (λ j. i ≤ j → f j .decision ≡ Nothing) ahead (g .passed .undecided) (λ _. z); unsided = g .passed .unsided };
+        ahead-from = omega arith;
+        sided-from = g .sided-from;
+      }
 
-pub side-found : (x : ℕ → X) (i at k : ℕ) → Siding x i at k → k < at → (toldNo (nonzero (x k .x1)) (nonzero (x k .x2)) 0 ≡ 0 → ⊥)
-    → (s : Side) → sideOf (toldNo (nonzero (x k .x1)) (nonzero (x k .x2)) 0) ≡ sideFrom (xsFrom x i (at - i)) s
-side-found x i at k g h z s =
-    rw (g .same s, xs-cons x k (suc k) at refl h) (told (nonzero (x k .x1)) (nonzero (x k .x2)) (sideFrom (xsFrom x (suc k) (at - suc k)) s) z)
+  -- a month that gives no side is passed
+  pub side-next : side f sided ≡ 0 → Scanning f n i ahead (sided + 1)
+  side-next z =
+      record {
+        passed = record { to = g .passed .to; undecided = g .passed .undecided; unsided = below-more (λ j. i ≤ j → side f j ≡ 0) sided (g .passed .unsided) (λ _. z) };
+        ahead-from = g .ahead-from;
+        sided-from = omega arith;
+      }
 
-pub side-out : (x : ℕ → X) (i at k : ℕ) → Siding x i at k → at ≤ k → (s : Side) → s ≡ sideFrom (xsFrom x i (at - i)) s
-side-out x i at k g h s = let e : at - k ≡ 0 = omega (arith, g .to) in rw (g .same s, e) refl
+  -- what is passed for the next month
+  pub passed-next : Passed f n (i + 1) ahead sided
+  passed-next =
+      record { to = g .passed .to; undecided = λ j l h. g .passed .undecided j l (omega arith); unsided = λ j l h. g .passed .unsided j l (omega arith) }
+
+  -- nobody decides
+  pub scan-out : n ≤ ahead → deciding (rowsFrom f i (n - i)) ≡ nobody
+  scan-out h = nobody-decides f i (n - i) (λ j l m. g .passed .undecided j (omega arith) m)
+
+  -- a month that decides
+  pub scan-found : (w : With) → ahead < n → f ahead .decision ≡ Decides w → deciding (rowsFrom f i (n - i)) ≡ after (xsFrom (λ k. f k .x) i (ahead - i)) w (f ahead .shown)
+  scan-found w h d = first-decides f w n ahead i (ahead - i) (omega arith) h (g .passed .undecided) d
+
+  -- a month that gives the side
+  pub side-found : sided < ahead → (side f sided ≡ 0 → ⊥) → (s : Side) → sideOf (side f sided) ≡ sideFrom (xsFrom (λ k. f k .x) i (ahead - i)) s
+  side-found h z s =
+      rw (unsided-from f s sided ahead i (sided - i) (omega arith) (omega arith) (g .passed .unsided), xs-cons (λ k. f k .x) sided (suc sided) ahead refl h)
+      (told (nonzero (f sided .x .x1)) (nonzero (f sided .x .x2)) (sideFrom (xsFrom (λ k. f k .x) (suc sided) (ahead - suc sided)) s) z)
+
+  -- none does
+  pub side-out : ahead ≤ sided → (s : Side) → s ≡ sideFrom (xsFrom (λ k. f k .x) i (ahead - i)) s
+  side-out h s =
+      let e : ahead - ahead ≡ 0 = omega arith in
+      rw (unsided-from f s ahead ahead i (ahead - i) (omega arith) (omega arith) (λ j l m. g .passed .unsided j (omega arith) m), e) refl

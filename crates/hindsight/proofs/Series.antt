@@ -7,10 +7,10 @@ use native.Mathlib.Omega.{arith}
 use lib.IntN.{ℤ, pos}
 use lib.ListN.{length, take, drop, set, getD, length-map, drop-of-length-le, length-set}
 use lib.Seq.{take-all}
-use Rattle.hindsight.specs.Rule.{X, Row, Side, sideFrom, settledIndex, Deciding, after, deciding, Shown, shownBy, forward, forwardAll, forwardIndexes, forwardMarks, indexOf, markOf}
+use Rattle.hindsight.specs.Rule.{Row, sideFrom, after, deciding, shownBy, forward, forwardAll, forwardIndexes, forwardMarks, indexOf, markOf}
 use Rattle.hindsight.specs.Columns.{xsFrom, withOf, sideOf, valueBy, decisionOf, rowsFrom}
 use Rattle.hindsight.proofs.Hindsight.{getD-forwardAll, getD-map, length-forwardAll}
-use Rattle.hindsight.proofs.Scan.{foundBy, Ruled, Says, decision-zero, decision-some, xs-cons}
+use Rattle.hindsight.proofs.Scan.{Says, Scanning, decision-some, xs-cons, scan-out, scan-found}
 use Rattle.hindsight.proofs.Back.{valued}
 
 -- the forward rule at place i reads the months from i on
@@ -28,23 +28,28 @@ forward-from f j (suc n) (suc i) h =
 forward-at : (f : ℕ → Row) (n i : ℕ) → i < n → forward (rowsFrom f 0 n) i ≡ shownBy (f i .shown) (deciding (rowsFrom f i (n - i)))
 forward-at f n i h = let a : 0 + i ≡ i = omega arith in rw a at (forward-from f 0 n i h)
 
--- what a scan found, at each of its three answers
-module _ (f : ℕ → Row) (n i at d side : ℕ) (r : Ruled f n i at d side) (h : i < n) where
-  pub says-open : d ≡ 0 → Says (forward (rowsFrom f 0 n) i) 1 (f i .shown)
-  says-open z = rw (forward-at f n i h, r .found, decision-zero d z) (record { mark-is = refl; index-is = refl })
+-- what the scans found, at each of their three answers
+module _ (f : ℕ → Row) (n i ahead sided : ℕ) (g : Scanning f n i ahead sided) (h : i < n) where
+  pub says-open : n ≤ ahead → Says (forward (rowsFrom f 0 n) i) 1 (f i .shown)
+  says-open l = rw (forward-at f n i h, scan-out f n i ahead sided g l) (record { mark-is = refl; index-is = refl })
 
-  pub says-own : (d ≡ 0 → ⊥) → at ≡ i → Says (forward (rowsFrom f 0 n) i) 2 (f i .shown)
-  says-own z e =
-      let a : at - i ≡ 0 = omega arith in
-      rw (forward-at f n i h, r .found, decision-some d z, a) (record { mark-is = refl; index-is = ap (λ (k : ℕ). f k .shown) (sym e) })
+  module _ (d : ℕ) (l : ahead < n) (p : f ahead .decision ≡ decisionOf d) (z : d ≡ 0 → ⊥) where
+    found : deciding (rowsFrom f i (n - i)) ≡ after (xsFrom (λ k. f k .x) i (ahead - i)) (withOf d) (f ahead .shown)
+    found = scan-found f n i ahead sided g (withOf d) l (p ∙ decision-some d z)
 
-  pub says-settled : (d ≡ 0 → ⊥) → (at ≡ i → ⊥) → (v : ℤ) → v ≡ valueBy (withOf d) (sideOf side) (f i .x) → Says (forward (rowsFrom f 0 n) i) 2 v
-  says-settled z e v p =
-      let l : i < at = omega (arith, r .from) in
-      let q : sideOf side ≡ sideFrom (f i .x ∷ xsFrom (λ k. f k .x) (suc i) (at - suc i)) (sideOf d) =
-      rw (xs-cons (λ k. f k .x) i (suc i) at refl l) at (r .sided z) in
-      rw (forward-at f n i h, r .found, decision-some d z, xs-cons (λ k. f k .x) i (suc i) at refl l)
-      (record { mark-is = refl; index-is = p ∙ rw q (valued d (f i .x) (xsFrom (λ k. f k .x) (suc i) (at - suc i))) })
+    pub says-own : ahead ≡ i → Says (forward (rowsFrom f 0 n) i) 2 (f i .shown)
+    says-own e =
+        let a : ahead - i ≡ 0 = omega arith in
+        rw (forward-at f n i h, found, a) (record { mark-is = refl; index-is = ap (λ (k : ℕ). f k .shown) (sym e) })
+
+    pub says-settled : (ahead ≡ i → ⊥) → (side : ℕ) → sideOf side ≡ sideFrom (xsFrom (λ k. f k .x) i (ahead - i)) (sideOf d)
+        → (v : ℤ) → v ≡ valueBy (withOf d) (sideOf side) (f i .x) → Says (forward (rowsFrom f 0 n) i) 2 v
+    says-settled e side s v q =
+        let m : i < ahead = omega arith in
+        let r : sideOf side ≡ sideFrom (f i .x ∷ xsFrom (λ k. f k .x) (suc i) (ahead - suc i)) (sideOf d) =
+        rw (xs-cons (λ k. f k .x) i (suc i) ahead refl m) at s in
+        rw (forward-at f n i h, found, xs-cons (λ k. f k .x) i (suc i) ahead refl m)
+        (record { mark-is = refl; index-is = q ∙ rw r (valued d (f i .x) (xsFrom (λ k. f k .x) (suc i) (ahead - suc i))) })
 
 -- a column that is filled from the front
 fill-next : {A : Type 0} (l l₀ : List A) (i : ℕ) (d : A) → length l ≡ length l₀ → i < length l → set (take i l ++ drop i l₀) i (getD l i d) ≡ take (suc i) l ++ drop (suc i) l₀

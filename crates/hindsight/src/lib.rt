@@ -6,7 +6,7 @@ use spells::Decision;
 use spells::With;
 ghost use mathlib.Core.Path.{_≡_};
 ghost use mathlib.Core.List.{_++_};
-ghost use Prim.Native.Nat.{ℕ, _-_, _≤_, _<_};
+ghost use Prim.Native.Nat.{ℕ, _+_, _-_, _≤_, _<_};
 ghost use lib.ListN.{length, take, drop, set, replicate};
 ghost use Rattle.hindsight.specs.Rule.{nonzero, forwardIndexes, forwardMarks};
 ghost use Rattle.hindsight.specs.Adding.{settledAll};
@@ -148,8 +148,17 @@ pub fn add(
     }
 }
 
+// The later of two places: b - a is 0 where b is not after a.
+fn later(a: usize, b: usize) -> usize
+    ensures { λ r. ⌜ r ≡ a + (b - a) ⌝ }
+{
+    if a < b { b } else { a }
+}
+
 // The whole series: index and mark of every month. For each month a scan goes forward for its deciding month,
-// and from there another, from the month itself, for the side; both are left by the label.
+// and from there another, from the month itself, for the side; both are left by the label. Neither goes back: of the
+// months from the next one up to where a scan stands none decides, or none gives a side, so for the next month it
+// goes on from there, or from that month if it is later. All the scans together are linear in the months.
 pub fn look_forward(
     x1: &[i32],
     x2: &[i32],
@@ -163,36 +172,38 @@ pub fn look_forward(
     ensures indexes { λ _. ⌜ now (index .exit) ≡ forwardIndexes (rowsFrom (rowAt (now (x1 .entry)) (now (x2 .entry)) (now (x3 .entry)) (now (by .entry)) (now (shown .entry))) 0 (length (now (by .entry)))) ⌝ }
     ensures marks { λ _. ⌜ now (mark .exit) ≡ forwardMarks (rowsFrom (rowAt (now (x1 .entry)) (now (x2 .entry)) (now (x3 .entry)) (now (by .entry)) (now (shown .entry))) 0 (length (now (by .entry)))) ⌝ }
 {
+    let mut ahead = 0;
+    let mut sided = 0;
     let mut i = 0;
     'months: while i < by.len() {
         let mut v = shown[i];
         let mut m: u8 = 1;
-        let mut at = i;
-        'deciding: while at < by.len() {
-            let d = by[at];
+        ahead = later(ahead, i);
+        sided = later(sided, i);
+        'deciding: while ahead < by.len() {
+            let d = by[ahead];
             if d != 0 {
                 m = 2;
-                if at == i {
+                if ahead == i {
                     break 'deciding;
                 }
                 let a = x1[i];
                 let b = x2[i];
                 let c = x3[i];
-                let mut k = i;
-                while k < at {
-                    let e = x1[k];
-                    let f = x2[k];
+                while sided < ahead {
+                    let e = x1[sided];
+                    let f = x2[sided];
                     let s = told(e, f, 0);
                     if s != 0 {
                         v = value(a, b, c, d, s);
                         break 'deciding;
                     }
-                    k += 1;
+                    sided += 1;
                 }
                 v = value(a, b, c, d, d);
                 break 'deciding;
             }
-            at += 1;
+            ahead += 1;
         }
         index[i] = v;
         mark[i] = m;

@@ -1,44 +1,51 @@
--- `hindsight::look_forward` meets its contract. Invariants: `Filling` of the loop over the months, `Scanning` of the scan for the deciding month, `Siding` of the scan for the side. Assumes nothing.
-use mathlib.Core.Path.{_≡_, refl, sym, ap, _∙_}
+-- `hindsight::look_forward` meets its contract. Invariants: `Scanning` of both scans, `Filling` and `Passed` of the loop over the months. Assumes nothing.
+use mathlib.Core.Path.{_≡_, refl, sym, _∙_}
 use mathlib.Core.Logic.{⊎-elim}
-use Prim.Native.Nat.{ℕ, suc, _+_, _-_, _≤_, _<_}
+use Prim.Native.Nat.{ℕ, _+_, _-_, _<_}
 use native.Mathlib.Omega.{arith}
 use borrow.Author.Needs.{needs}
-use lib.IntN.{ℤ, pos}
+use lib.IntN.{pos}
 use mir.Syntax.{w32}
-use mir.Val.{SFits, ofZ, toZ}
+use mir.Val.{SFits, toZ}
 use mir.Facts.{toZ-ofZ}
 use lib.ListN.{length, getD}
 use denote.Ref.{now}
-use Rattle.hindsight.specs.Rule.{nonzero, forward}
-use Rattle.hindsight.specs.Columns.{xAt, rowAt, rowsFrom, sideOf, withOf, toldNo, valueBy}
-use Rattle.hindsight.proofs.Scan.{Says, Scanning, Siding, scan-first, scan-next, scan-out, scan-found, side-first, side-next, side-found, side-out}
+use Rattle.hindsight.specs.Rule.{Row, forward}
+use Rattle.hindsight.specs.Columns.{rowAt, rowsFrom, sideOf, withOf, valueBy}
+use Rattle.hindsight.proofs.Scan.{side, Says, Passed, Scanning, decision-zero, passed-first, passed-next, scan-first, scan-next, side-next, side-found, side-out}
 use Rattle.hindsight.proofs.Series.{Filling, filling-first, filling-next, filling-all, says-open, says-own, says-settled}
 use Rattle.hindsight.proofs.look_forward.Statement.{statement}
 use Rattle.hindsight.proofs.look_forward.Tie as tie
 
 abbrev Inv-loop : tie.InvT-loop
-Inv-loop x1 x2 x3 by shown index mark i v₀ m at d a b c k₀ v k = Siding (xAt x1 x2 x3) i at k
+Inv-loop x1 x2 x3 by shown index mark ahead sided₀ i v₀ m d a b c sided v = Scanning (rowAt x1 x2 x3 by shown) (length by) i ahead sided
 
 abbrev μ-loop : tie.MeasureT-loop
-μ-loop x1 x2 x3 by shown index mark i v₀ m at d a b c k₀ v k = at - k
+μ-loop x1 x2 x3 by shown index mark ahead sided₀ i v₀ m d a b c sided v = ahead - sided
 
 abbrev Inv-deciding : tie.InvT-deciding
-Inv-deciding x1 x2 x3 by shown index mark i v₀ m₀ at₀ v m at = Scanning (rowAt x1 x2 x3 by shown) (length by) i 0 at × (v ≡ v₀) × (m ≡ m₀)
+Inv-deciding x1 x2 x3 by shown index mark ahead₀ sided₀ i v₀ m₀ ahead sided v m = Scanning (rowAt x1 x2 x3 by shown) (length by) i ahead sided × (v ≡ v₀) × (m ≡ m₀)
 
 abbrev μ-deciding : tie.MeasureT-deciding
-μ-deciding x1 x2 x3 by shown index mark i v₀ m₀ at₀ v m at = length by - at
+μ-deciding x1 x2 x3 by shown index mark ahead₀ sided₀ i v₀ m₀ ahead sided v m = length by - ahead
 
 abbrev Inv-months : tie.InvT-months
-Inv-months x1 x2 x3 by shown index₀ mark₀ i₀ index mark i = Filling (rowsFrom (rowAt x1 x2 x3 by shown) 0 (length by)) index₀ mark₀ index mark (length by) i
+Inv-months x1 x2 x3 by shown index₀ mark₀ ahead₀ sided₀ i₀ index mark ahead sided i = Filling (rowsFrom (rowAt x1 x2 x3 by shown) 0 (length by)) index₀ mark₀ index mark (length by) i × Passed (rowAt x1 x2 x3 by shown) (length by) i ahead sided
 
 abbrev μ-months : tie.MeasureT-months
-μ-months x1 x2 x3 by shown index₀ mark₀ i₀ index mark i = length by - i
+μ-months x1 x2 x3 by shown index₀ mark₀ ahead₀ sided₀ i₀ index mark ahead sided i = length by - i
+
+-- the months that the columns hold, and how many they are
+abbrev row : tie.Start Inv-loop μ-loop Inv-deciding μ-deciding Inv-months μ-months → ℕ → Row
+row s = rowAt (now (s .args .x1)) (now (s .args .x2)) (now (s .args .x3)) (now (s .args .by)) (now (s .args .shown))
+
+abbrev many : tie.Start Inv-loop μ-loop Inv-deciding μ-deciding Inv-months μ-months → ℕ
+many s = length (now (s .args .by))
 
 months-holds : tie.Need-months-holds Inv-loop μ-loop Inv-deciding μ-deciding Inv-months μ-months
 months-holds c =
     let s = c .before .before in
-    filling-first (rowAt (now (s .args .x1)) (now (s .args .x2)) (now (s .args .x3)) (now (s .args .by)) (now (s .args .shown))) (length (now (s .args .by))) (now (s .args .index)) (now (s .args .mark)) (s .pre .4) (s .pre .5)
+    (filling-first (row s) (many s) (now (s .args .index)) (now (s .args .mark)) (s .pre .4) (s .pre .5), passed-first (row s) (many s))
 
 mul-v : tie.Need-mul-v Inv-loop μ-loop Inv-deciding μ-deciding Inv-months μ-months
 mul-v c = omega arith
@@ -46,11 +53,17 @@ mul-v c = omega arith
 shared-slice-copy-out-v : tie.Need-shared-slice-copy-out-v Inv-loop μ-loop Inv-deciding μ-deciding Inv-months μ-months
 shared-slice-copy-out-v c = omega arith
 
+later-requires : tie.Need-later-requires Inv-loop μ-loop Inv-deciding μ-deciding Inv-months μ-months
+later-requires c κs = search needs
+
+later-requires-2 : tie.Need-later-requires-2 Inv-loop μ-loop Inv-deciding μ-deciding Inv-months μ-months
+later-requires-2 c κs = search needs
+
 deciding-holds : tie.Need-deciding-holds Inv-loop μ-loop Inv-deciding μ-deciding Inv-months μ-months
 deciding-holds c =
-    let mo = c .before .before in
+    let mo = c .before .before .before .before in
     let s = mo .before .before .before in
-    (scan-first (rowAt (now (s .args .x1)) (now (s .args .x2)) (now (s .args .x3)) (now (s .args .by)) (now (s .args .shown))) (length (now (s .args .by))) (mo .months .i) (omega arith), refl, refl)
+    (scan-first (row s) (many s) (mo .months .i) (mo .months .ahead) (mo .months .sided) (c .before .later .result) (c .later2 .result) (mo .months .inv .1) (c .before .before .before .months-test .taken) (omega arith) (omega arith), refl, refl)
 
 shared-slice-read-d : tie.Need-shared-slice-read-d Inv-loop μ-loop Inv-deciding μ-deciding Inv-months μ-months
 shared-slice-read-d c = omega arith
@@ -75,10 +88,7 @@ shared-slice-copy-out-c c = omega arith
 
 loop-holds : tie.Need-loop-holds Inv-loop μ-loop Inv-deciding μ-deciding Inv-months μ-months
 loop-holds c =
-    let mo = c .before .before .before .before .before .before .before .before .before .before in
-    let ad = c .before .before .before .before .before .before .before in
-    let s = mo .before .before .before in
-    side-first (xAt (now (s .args .x1)) (now (s .args .x2)) (now (s .args .x3))) (mo .months .i) (ad .deciding .at) (ad .deciding .inv .0 .from)
+    c .before .before .before .before .before .before .before .deciding .inv .0
 
 mul-e : tie.Need-mul-e Inv-loop μ-loop Inv-deciding μ-deciding Inv-months μ-months
 mul-e c = omega arith
@@ -98,8 +108,8 @@ told-requires c κs = search needs
 value-requires : tie.Need-value-requires Inv-loop μ-loop Inv-deciding μ-deciding Inv-months μ-months
 value-requires c κs = search needs
 
-add-k : tie.Need-add-k Inv-loop μ-loop Inv-deciding μ-deciding Inv-months μ-months
-add-k c = omega arith
+add-sided : tie.Need-add-sided Inv-loop μ-loop Inv-deciding μ-deciding Inv-months μ-months
+add-sided c = omega arith
 
 loop-less : tie.Need-loop-less Inv-loop μ-loop Inv-deciding μ-deciding Inv-months μ-months
 loop-less c = omega arith
@@ -107,20 +117,19 @@ loop-less c = omega arith
 loop-again : tie.Need-loop-again Inv-loop μ-loop Inv-deciding μ-deciding Inv-months μ-months
 loop-again c =
     let lp = c .before .before .before .before .before in
-    let ad = c .before .before .before .before .before .before .before .before .before .before .before .before .before in
-    let mo = ad .before .before .before in
+    let ad = lp .before .before .before .before .before .before .before .before in
+    let mo = ad .before .before .before .before .before in
     let s = mo .before .before .before in
-    let ze : SFits w32 (getD (now (s .args .x1)) (lp .loop .k) (pos 0)) = record { sfits = c .before .before .before .e .given } in
-    let zf : SFits w32 (getD (now (s .args .x2)) (lp .loop .k) (pos 0)) = record { sfits = c .before .before .f .given } in
-    let t : c .before .told .result ≡ toldNo (nonzero (getD (now (s .args .x1)) (lp .loop .k) (pos 0))) (nonzero (getD (now (s .args .x2)) (lp .loop .k) (pos 0))) 0 =
-    rw (toZ-ofZ ze, toZ-ofZ zf) at (c .before .told .ensures) in
-    side-next (xAt (now (s .args .x1)) (now (s .args .x2)) (now (s .args .x3))) (mo .months .i) (ad .deciding .at) (lp .loop .k) _ (lp .loop .inv) (omega arith) (c .before .before .before .before .loop-test .taken) (sym t ∙ c .if3 .left)
+    let ze : SFits w32 (getD (now (s .args .x1)) (lp .loop .sided) (pos 0)) = record { sfits = c .before .before .before .e .given } in
+    let zf : SFits w32 (getD (now (s .args .x2)) (lp .loop .sided) (pos 0)) = record { sfits = c .before .before .f .given } in
+    let t : c .before .told .result ≡ side (row s) (lp .loop .sided) = rw (toZ-ofZ ze, toZ-ofZ zf) at (c .before .told .ensures) in
+    side-next (row s) (many s) (mo .months .i) (ad .deciding .ahead) (lp .loop .sided) (lp .loop .inv) (sym t ∙ c .if3 .left)
 
 value-requires-2 : tie.Need-value-requires-2 Inv-loop μ-loop Inv-deciding μ-deciding Inv-months μ-months
 value-requires-2 c κs = search needs
 
-add-at : tie.Need-add-at Inv-loop μ-loop Inv-deciding μ-deciding Inv-months μ-months
-add-at c = omega arith
+add-ahead : tie.Need-add-ahead Inv-loop μ-loop Inv-deciding μ-deciding Inv-months μ-months
+add-ahead c = omega arith
 
 deciding-less : tie.Need-deciding-less Inv-loop μ-loop Inv-deciding μ-deciding Inv-months μ-months
 deciding-less c = omega arith
@@ -128,9 +137,9 @@ deciding-less c = omega arith
 deciding-again : tie.Need-deciding-again Inv-loop μ-loop Inv-deciding μ-deciding Inv-months μ-months
 deciding-again c =
     let ad = c .before .before .before in
-    let mo = ad .before .before .before in
+    let mo = ad .before .before .before .before .before in
     let s = mo .before .before .before in
-    (rw (c .if1 .left) at (scan-next (rowAt (now (s .args .x1)) (now (s .args .x2)) (now (s .args .x3)) (now (s .args .by)) (now (s .args .shown))) (length (now (s .args .by))) (mo .months .i) 0 (getD (now (s .args .by)) (ad .deciding .at) 0) (ad .deciding .at) (ad .deciding .at + 1) (ad .deciding .inv .0) (omega arith) (c .before .before .deciding-test .taken) refl (c .if1 .left)), ad .deciding .inv .1, ad .deciding .inv .2)
+    (scan-next (row s) (many s) (mo .months .i) (ad .deciding .ahead) (ad .deciding .sided) (ad .deciding .inv .0) (c .before .before .deciding-test .taken) (decision-zero (getD (now (s .args .by)) (ad .deciding .ahead) 0) (c .if1 .left)), ad .deciding .inv .1, ad .deciding .inv .2)
 
 mul-v-2 : tie.Need-mul-v-2 Inv-loop μ-loop Inv-deciding μ-deciding Inv-months μ-months
 mul-v-2 c = omega arith
@@ -147,55 +156,58 @@ add-i c = omega arith
 months-less : tie.Need-months-less Inv-loop μ-loop Inv-deciding μ-deciding Inv-months μ-months
 months-less c = omega arith
 
--- where the four ways out of the scan meet, what stands in v and m is what the forward rule says of month i
-says : (c : tie.Left-deciding Inv-loop μ-loop Inv-deciding μ-deciding Inv-months μ-months)
-    → Says (forward (rowsFrom (rowAt (now (c .before .before .before .before .before .before .before .args .x1)) (now (c .before .before .before .before .before .before .before .args .x2)) (now (c .before .before .before .before .before .before .before .args .x3)) (now (c .before .before .before .before .before .before .before .args .by)) (now (c .before .before .before .before .before .before .before .args .shown))) 0 (length (now (c .before .before .before .before .before .before .before .args .by)))) (c .before .before .before .before .months .i))
-    (c .deciding-test .m) (toZ w32 (c .deciding-test .v))
-says c =
+-- where the four ways out of the scans meet: what stands in v and m is what the forward rule says of month i, and the scans have passed what they left
+leaves : (c : tie.Left-deciding Inv-loop μ-loop Inv-deciding μ-deciding Inv-months μ-months)
+    → Says (forward (rowsFrom (row (c .before .before .before .before .before .before .before .before .before)) 0 (many (c .before .before .before .before .before .before .before .before .before))) (c .before .before .before .before .before .before .months .i)) (c .deciding-test .m) (toZ w32 (c .deciding-test .v))
+    × Passed (row (c .before .before .before .before .before .before .before .before .before)) (many (c .before .before .before .before .before .before .before .before .before)) (c .before .before .before .before .before .before .months .i + 1) (c .before .deciding .ahead) (c .deciding-test .sided)
+leaves c =
     let ad = c .before in
-    let mo = ad .before .before .before in
+    let mo = ad .before .before .before .before .before in
     let s = mo .before .before .before in
-    let h : mo .months .i < length (now (s .args .by)) = ad .before .before .months-test .taken in
-    let z : SFits w32 (getD (now (s .args .shown)) (mo .months .i) (pos 0)) = record { sfits = ad .before .v .given } in
+    let i = mo .months .i in
+    let ahead = ad .deciding .ahead in
+    let sided = ad .deciding .sided in
+    let d = getD (now (s .args .by)) ahead 0 in
+    let g = ad .deciding .inv .0 in
+    let h : i < many s = ad .before .before .before .before .months-test .taken in
+    let z : SFits w32 (getD (now (s .args .shown)) i (pos 0)) = record { sfits = ad .before .before .before .v .given } in
     ⊎-elim (λ w.
-    rw (w .2 ∙ ad .deciding .inv .2, w .1 ∙ ad .deciding .inv .1, toZ-ofZ z)
-    (says-open (rowAt (now (s .args .x1)) (now (s .args .x2)) (now (s .args .x3)) (now (s .args .by)) (now (s .args .shown))) (length (now (s .args .by))) (mo .months .i) (ad .deciding .at) 0 0 (scan-out (rowAt (now (s .args .x1)) (now (s .args .x2)) (now (s .args .x3)) (now (s .args .by)) (now (s .args .shown))) (length (now (s .args .by))) (mo .months .i) 0 0 (ad .deciding .at) (ad .deciding .inv .0) (w .0 .left)) h refl))
+    rw (w .1, w .2 ∙ ad .deciding .inv .1, w .3 ∙ ad .deciding .inv .2, toZ-ofZ z)
+    (says-open (row s) (many s) i ahead sided g h (w .0 .left), passed-next (row s) (many s) i ahead sided g))
     (⊎-elim (λ w.
-    rw (w .5, w .4 ∙ ad .deciding .inv .1, toZ-ofZ z)
-    (says-own (rowAt (now (s .args .x1)) (now (s .args .x2)) (now (s .args .x3)) (now (s .args .by)) (now (s .args .shown))) (length (now (s .args .by))) (mo .months .i) (ad .deciding .at) (getD (now (s .args .by)) (ad .deciding .at) 0) (getD (now (s .args .by)) (ad .deciding .at) 0)
-    (scan-found (rowAt (now (s .args .x1)) (now (s .args .x2)) (now (s .args .x3)) (now (s .args .by)) (now (s .args .shown))) (length (now (s .args .by))) (mo .months .i) 0 (getD (now (s .args .by)) (ad .deciding .at) 0) (getD (now (s .args .by)) (ad .deciding .at) 0) (ad .deciding .at) (ad .deciding .inv .0) (w .0 .taken) refl (w .2 .taken)
-    (side-out (xAt (now (s .args .x1)) (now (s .args .x2)) (now (s .args .x3))) (mo .months .i) (ad .deciding .at) (mo .months .i) (side-first (xAt (now (s .args .x1)) (now (s .args .x2)) (now (s .args .x3))) (mo .months .i) (ad .deciding .at) (ad .deciding .inv .0 .from)) (omega arith) (sideOf (getD (now (s .args .by)) (ad .deciding .at) 0))))
-    h (w .2 .taken) (w .3 .taken)))
+    rw (w .4, w .5 ∙ ad .deciding .inv .1, w .6, toZ-ofZ z)
+    (says-own (row s) (many s) i ahead sided g h d (w .0 .taken) refl (w .2 .taken) (w .3 .taken), passed-next (row s) (many s) i ahead sided g))
     (⊎-elim (λ w.
-    let za : SFits w32 (getD (now (s .args .x1)) (mo .months .i) (pos 0)) = record { sfits = w .4 .given } in
-    let zb : SFits w32 (getD (now (s .args .x2)) (mo .months .i) (pos 0)) = record { sfits = w .5 .given } in
-    let zc : SFits w32 (getD (now (s .args .x3)) (mo .months .i) (pos 0)) = record { sfits = w .6 .given } in
-    let ze : SFits w32 (getD (now (s .args .x1)) (w .7 .k) (pos 0)) = record { sfits = w .9 .given } in
-    let zf : SFits w32 (getD (now (s .args .x2)) (w .7 .k) (pos 0)) = record { sfits = w .10 .given } in
-    let t : w .11 .result ≡ toldNo (nonzero (getD (now (s .args .x1)) (w .7 .k) (pos 0))) (nonzero (getD (now (s .args .x2)) (w .7 .k) (pos 0))) 0 =
-    rw (toZ-ofZ ze, toZ-ofZ zf) at (w .11 .ensures) in
-    let u : w .13 .result ≡ valueBy (withOf (getD (now (s .args .by)) (ad .deciding .at) 0)) (sideOf (w .11 .result)) (xAt (now (s .args .x1)) (now (s .args .x2)) (now (s .args .x3)) (mo .months .i)) = rw (toZ-ofZ za, toZ-ofZ zb, toZ-ofZ zc) at (w .13 .ensures) in
-    rw (w .15, w .14, toZ-ofZ (record { sfits = w .13 .ok }))
-    (says-settled (rowAt (now (s .args .x1)) (now (s .args .x2)) (now (s .args .x3)) (now (s .args .by)) (now (s .args .shown))) (length (now (s .args .by))) (mo .months .i) (ad .deciding .at) (getD (now (s .args .by)) (ad .deciding .at) 0) (w .11 .result)
-    (scan-found (rowAt (now (s .args .x1)) (now (s .args .x2)) (now (s .args .x3)) (now (s .args .by)) (now (s .args .shown))) (length (now (s .args .by))) (mo .months .i) 0 (getD (now (s .args .by)) (ad .deciding .at) 0) (w .11 .result) (ad .deciding .at) (ad .deciding .inv .0) (w .0 .taken) refl (w .2 .taken)
-    (rw t (side-found (xAt (now (s .args .x1)) (now (s .args .x2)) (now (s .args .x3))) (mo .months .i) (ad .deciding .at) (w .7 .k) (w .7 .inv) (w .8 .taken) (λ q. w .12 .taken (t ∙ q)) (sideOf (getD (now (s .args .by)) (ad .deciding .at) 0)))))
-    h (w .2 .taken) (w .3 .left) (w .13 .result) u)) (λ w.
-    let za : SFits w32 (getD (now (s .args .x1)) (mo .months .i) (pos 0)) = record { sfits = w .4 .given } in
-    let zb : SFits w32 (getD (now (s .args .x2)) (mo .months .i) (pos 0)) = record { sfits = w .5 .given } in
-    let zc : SFits w32 (getD (now (s .args .x3)) (mo .months .i) (pos 0)) = record { sfits = w .6 .given } in
-    let u : w .9 .result ≡ valueBy (withOf (getD (now (s .args .by)) (ad .deciding .at) 0)) (sideOf (getD (now (s .args .by)) (ad .deciding .at) 0)) (xAt (now (s .args .x1)) (now (s .args .x2)) (now (s .args .x3)) (mo .months .i)) = rw (toZ-ofZ za, toZ-ofZ zb, toZ-ofZ zc) at (w .9 .ensures) in
-    rw (w .11, w .10, toZ-ofZ (record { sfits = w .9 .ok }))
-    (says-settled (rowAt (now (s .args .x1)) (now (s .args .x2)) (now (s .args .x3)) (now (s .args .by)) (now (s .args .shown))) (length (now (s .args .by))) (mo .months .i) (ad .deciding .at) (getD (now (s .args .by)) (ad .deciding .at) 0) (getD (now (s .args .by)) (ad .deciding .at) 0)
-    (scan-found (rowAt (now (s .args .x1)) (now (s .args .x2)) (now (s .args .x3)) (now (s .args .by)) (now (s .args .shown))) (length (now (s .args .by))) (mo .months .i) 0 (getD (now (s .args .by)) (ad .deciding .at) 0) (getD (now (s .args .by)) (ad .deciding .at) 0) (ad .deciding .at) (ad .deciding .inv .0) (w .0 .taken) refl (w .2 .taken)
-    (side-out (xAt (now (s .args .x1)) (now (s .args .x2)) (now (s .args .x3))) (mo .months .i) (ad .deciding .at) (w .7 .k) (w .7 .inv) (w .8 .left) (sideOf (getD (now (s .args .by)) (ad .deciding .at) 0))))
-    h (w .2 .taken) (w .3 .left) (w .9 .result) u))))
+    let za : SFits w32 (getD (now (s .args .x1)) i (pos 0)) = record { sfits = w .4 .given } in
+    let zb : SFits w32 (getD (now (s .args .x2)) i (pos 0)) = record { sfits = w .5 .given } in
+    let zc : SFits w32 (getD (now (s .args .x3)) i (pos 0)) = record { sfits = w .6 .given } in
+    let k = w .7 .sided in
+    let ze : SFits w32 (getD (now (s .args .x1)) k (pos 0)) = record { sfits = w .9 .given } in
+    let zf : SFits w32 (getD (now (s .args .x2)) k (pos 0)) = record { sfits = w .10 .given } in
+    let t : w .11 .result ≡ side (row s) k = rw (toZ-ofZ ze, toZ-ofZ zf) at (w .11 .ensures) in
+    let u : w .13 .result ≡ valueBy (withOf d) (sideOf (w .11 .result)) (row s i .x) = rw (toZ-ofZ za, toZ-ofZ zb, toZ-ofZ zc) at (w .13 .ensures) in
+    rw (w .14, w .15, w .16, toZ-ofZ (record { sfits = w .13 .ok })) (
+      says-settled (row s) (many s) i ahead k (w .7 .inv) h d (w .0 .taken) refl (w .2 .taken) (w .3 .left) (w .11 .result)
+          (rw t (side-found (row s) (many s) i ahead k (w .7 .inv) (w .8 .taken) (λ q. w .12 .taken (t ∙ q)) (sideOf d))) (w .13 .result) u,
+      passed-next (row s) (many s) i ahead k (w .7 .inv),
+    )) (λ w.
+    let za : SFits w32 (getD (now (s .args .x1)) i (pos 0)) = record { sfits = w .4 .given } in
+    let zb : SFits w32 (getD (now (s .args .x2)) i (pos 0)) = record { sfits = w .5 .given } in
+    let zc : SFits w32 (getD (now (s .args .x3)) i (pos 0)) = record { sfits = w .6 .given } in
+    let k = w .7 .sided in
+    let u : w .9 .result ≡ valueBy (withOf d) (sideOf d) (row s i .x) = rw (toZ-ofZ za, toZ-ofZ zb, toZ-ofZ zc) at (w .9 .ensures) in
+    rw (w .10, w .11, w .12, toZ-ofZ (record { sfits = w .9 .ok })) (
+      says-settled (row s) (many s) i ahead k (w .7 .inv) h d (w .0 .taken) refl (w .2 .taken) (w .3 .left) d
+          (side-out (row s) (many s) i ahead k (w .7 .inv) (w .8 .left) (sideOf d)) (w .9 .result) u,
+      passed-next (row s) (many s) i ahead k (w .7 .inv),
+    ))))
     (c .deciding-test .came)
 
 months-again : tie.Need-months-again Inv-loop μ-loop Inv-deciding μ-deciding Inv-months μ-months
 months-again c =
-    let mo = c .before .before .before .before in
+    let mo = c .before .before .before .before .before .before in
     let s = mo .before .before .before in
-    filling-next (rowAt (now (s .args .x1)) (now (s .args .x2)) (now (s .args .x3)) (now (s .args .by)) (now (s .args .shown))) (length (now (s .args .by))) (now (s .args .index)) (now (s .args .mark)) (s .pre .4) (s .pre .5) (mo .months .index) (mo .months .mark) (mo .months .i) _ (c .deciding-test .m) (toZ w32 (c .deciding-test .v)) (mo .months .inv) (omega arith) (c .before .before .before .months-test .taken) (says c)
+    (filling-next (row s) (many s) (now (s .args .index)) (now (s .args .mark)) (s .pre .4) (s .pre .5) (mo .months .index) (mo .months .mark) (mo .months .i) _ (c .deciding-test .m) (toZ w32 (c .deciding-test .v)) (mo .months .inv .0) (omega arith) (c .before .before .before .before .before .months-test .taken) (leaves c .0), leaves c .1)
 
 same-length : tie.Need-same-length Inv-loop μ-loop Inv-deciding μ-deciding Inv-months μ-months
 same-length c = omega arith
@@ -207,7 +219,7 @@ returns : tie.Need-returns Inv-loop μ-loop Inv-deciding μ-deciding Inv-months 
 returns c =
     let mo = c .before in
     let s = mo .before .before .before in
-    filling-all (rowAt (now (s .args .x1)) (now (s .args .x2)) (now (s .args .x3)) (now (s .args .by)) (now (s .args .shown))) (length (now (s .args .by))) (now (s .args .index)) (now (s .args .mark)) (s .pre .4) (s .pre .5) (mo .months .index) (mo .months .mark) (mo .months .i) (mo .months .inv) (c .months-test .left)
+    filling-all (row s) (many s) (now (s .args .index)) (now (s .args .mark)) (s .pre .4) (s .pre .5) (mo .months .index) (mo .months .mark) (mo .months .i) (mo .months .inv .0) (c .months-test .left)
 
 pub look-forward-spec : {M : Type 1} → statement M
 look-forward-spec =
@@ -222,6 +234,8 @@ look-forward-spec =
     months-holds
     mul-v
     shared-slice-copy-out-v
+    later-requires
+    later-requires-2
     deciding-holds
     shared-slice-read-d
     mul-a
@@ -237,11 +251,11 @@ look-forward-spec =
     shared-slice-copy-out-f
     told-requires
     value-requires
-    add-k
+    add-sided
     loop-less
     loop-again
     value-requires-2
-    add-at
+    add-ahead
     deciding-less
     deciding-again
     mul-v-2
