@@ -1,10 +1,11 @@
 -- The laws of the ranges: what the tests of the sixty constants and of the calendar say, place by place. Assumes nothing.
 use mathlib.Core.Path.{_≡_, refl, sym, _∙_}
-use mathlib.Core.Bool.{true, false, _&&_, and-false}
+use mathlib.Core.Bool.{true, false, _&&_, and-false, and-assoc}
 use mathlib.Core.List.{List}
 use mathlib.Core.Logic.{⊎-elim}
-use Prim.Native.Nat.{ℕ, zero, suc, _-_, _%_, _≤_, _<_}
+use Prim.Native.Nat.{ℕ, zero, suc, _+_, _-_, _%_, _≤_, _<_}
 use native.Mathlib.Nat.{not-suc-le-zero, le-of-suc-le-suc, eq-or-lt-of-le}
+use native.Mathlib.Numerals.{add-one, add-two, add-three, add-four, add-five}
 use native.Mathlib.Omega.{arith}
 use borrow.Author.Tests.{leb-true, le-leb}
 use lib.Dec.{leb}
@@ -13,7 +14,7 @@ use lib.ListN.{getD}
 use lib.Signed.{leZ, _≤ℤ_}
 use Rattle.exact.proofs.Z.{zs, zs-abs, is-Z, le-yes}
 use Rattle.water.specs.Layers.{leastCapacity, mostCapacity, surfaceHolds, underlyingHolds}
-use Rattle.runs.specs.Ranges.{manyOfAMonth, lastMonth, limitOf, constantFits, constantsFitTo, calendarFits}
+use Rattle.runs.specs.Ranges.{manyOfAMonth, lastMonth, limitOf, constantFits, fiveFit, constantsFitTo, calendarFits}
 use Rattle.runs.specs.Start.{upTo, capacityFits, storagesFit, monthFits}
 use Rattle.runs.proofs.Outcomes.{first, second, both}
 
@@ -61,18 +62,26 @@ fits-last : (l : List ℤ) (k : ℕ) → constantsFitTo l (suc k) ≡ (constants
 unfolding constantsFitTo
 fits-last l k = refl
 
-pub fits-next : (l : List ℤ) (k : ℕ) → constantsFitTo l k ≡ true → constantFits l k ≡ true → constantsFitTo l (suc k) ≡ true
-fits-next l k p q = fits-last l k ∙ both p q
+-- a month's five more
+fits-five : (l : List ℤ) (k : ℕ) → constantsFitTo l (k + manyOfAMonth) ≡ (constantsFitTo l k && fiveFit l k)
+unfolding constantsFitTo fiveFit
+fits-five l k = simp (add-one, add-two, add-three, add-four, add-five, and-assoc)
 
--- one that does not fit spoils all
-pub one-spoils : (l : List ℤ) (i n : ℕ) → i < n → constantFits l i ≡ false → constantsFitTo l n ≡ false
-one-spoils l i zero h e = absurd (not-suc-le-zero h)
-one-spoils l i (suc n) h e =
-    fits-last l n
-    ∙ ⊎-elim
-    (λ (b : i ≡ n). rw (rw b at e) (and-false (constantsFitTo l n)))
-    (λ (b : i < n). rw (one-spoils l i n b e))
-    (eq-or-lt-of-le (le-of-suc-le-suc h))
+pub five-more : (l : List ℤ) (k : ℕ) → constantsFitTo l k ≡ true → fiveFit l k ≡ true → constantsFitTo l (k + manyOfAMonth) ≡ true
+five-more l k p q = fits-five l k ∙ both p q
+
+-- places that do not all fit spoil all
+some-spoil : (l : List ℤ) (k n : ℕ) → k ≤ n → constantsFitTo l k ≡ false → constantsFitTo l n ≡ false
+some-spoil l k zero h e = let z : k ≡ 0 = omega arith in rw z at e
+some-spoil l k (suc n) h e =
+    ⊎-elim
+    (λ (b : k ≡ suc n). rw b at e)
+    (λ (b : k < suc n). fits-last l n ∙ rw (some-spoil l k n (le-of-suc-le-suc b) e))
+    (eq-or-lt-of-le h)
+
+-- a month's five do
+pub five-spoil : (l : List ℤ) (k n : ℕ) → k + manyOfAMonth ≤ n → fiveFit l k ≡ false → constantsFitTo l n ≡ false
+five-spoil l k n h e = some-spoil l (k + manyOfAMonth) n h (fits-five l k ∙ rw e (and-false (constantsFitTo l k)))
 
 -- where all fit, each does
 pub each-fits : (l : List ℤ) (i n : ℕ) → i < n → constantsFitTo l n ≡ true → constantFits l i ≡ true

@@ -28,6 +28,10 @@ limitOf (suc (suc (suc (suc n)))) = mostK
 unfoldable pub constantFits : List ℤ → ℕ → Bool
 constantFits l i = leZ (pos 0) (getD l i (pos 0)) && leZ (getD l i (pos 0)) (pos (limitOf (i % manyOfAMonth)))
 
+-- so are a month's five, from place k on
+unfoldable pub fiveFit : List ℤ → ℕ → Bool
+fiveFit l k = constantFits l k && constantFits l (k + 1) && constantFits l (k + 2) && constantFits l (k + 3) && constantFits l (k + 4)
+
 -- so are all below place k
 unfoldable pub constantsFitTo : List ℤ → ℕ → Bool
 constantsFitTo l zero = true

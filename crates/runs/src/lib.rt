@@ -6,12 +6,12 @@ use water::Constants;
 use water::Soil;
 ghost use mathlib.Core.Path.{_≡_};
 ghost use mathlib.Core.Bool.{Bool, true, _&&_};
-ghost use Prim.Native.Nat.{ℕ, _≤_, _<_};
+ghost use Prim.Native.Nat.{ℕ, _+_, _%_, _≤_, _<_};
 ghost use lib.IntN.{pos, natAbs};
 ghost use lib.Signed.{_≤ℤ_, leZ};
 ghost use lib.Dec.{leb};
 ghost use lib.ListN.{length};
-ghost use Rattle.runs.specs.Ranges.{manyConstants, manyOfAMonth, limitOf, constantFits, constantsFit, constantsAt, calendarFits, nextCalendar};
+ghost use Rattle.runs.specs.Ranges.{manyConstants, manyOfAMonth, limitOf, constantFits, fiveFit, constantsFit, constantsAt, calendarFits, nextCalendar};
 ghost use Rattle.runs.specs.Runs.{lengthFits, zFits, soilFits, sizesFit, signsFit, vFits, isRun};
 ghost use Rattle.runs.specs.Start.{capacityFits, storagesFit, monthFits, startRefusal, zeroRun, startOf};
 
@@ -103,19 +103,46 @@ fn limit_of(place: usize) -> u32
     MOST_SHARE
 }
 
-// The sixty constants are each in range.
+// The constant at i, which stands at this place of its month, is in range.
+fn fits_at(c: &[i32], i: usize, place: usize) -> bool
+    requires { ⌜ (i < length (now c)) × (i % manyOfAMonth ≡ place) ⌝ }
+    ensures { λ r. ⌜ r ≡ constantFits (now (c .entry)) i ⌝ }
+{
+    let x = c[i];
+    signed_between(0, x, limit_of(place))
+}
+
+// A month's five constants, from this place on, are in range.
+fn five_fit(c: &[i32], at: usize) -> bool
+    requires { ⌜ (at + manyOfAMonth ≤ length (now c)) × (at % manyOfAMonth ≡ 0) ⌝ }
+    ensures { λ r. ⌜ r ≡ fiveFit (now (c .entry)) at ⌝ }
+{
+    if !fits_at(c, at, 0) {
+        return false;
+    }
+    if !fits_at(c, at + 1, 1) {
+        return false;
+    }
+    if !fits_at(c, at + 2, 2) {
+        return false;
+    }
+    if !fits_at(c, at + 3, 3) {
+        return false;
+    }
+    fits_at(c, at + 4, 4)
+}
+
+// The sixty constants are each in range: month by month, so that each is held to a number known beforehand.
 pub fn constants_fit(c: &[i32]) -> bool
     requires { ⌜ manyConstants ≤ length (now c) ⌝ }
     ensures { λ r. ⌜ r ≡ constantsFit (now (c .entry)) ⌝ }
 {
     let mut i = 0;
     while i < MANY_CONSTANTS {
-        let x = c[i];
-        let most = limit_of(i % MANY_OF_A_MONTH);
-        if !signed_between(0, x, most) {
+        if !five_fit(c, i) {
             return false;
         }
-        i += 1;
+        i += MANY_OF_A_MONTH;
     }
     true
 }
