@@ -15,10 +15,12 @@ install() {
         exit 1
     fi
     echo "setup: installing $*" >&2
-    if ! { apt-get update && DEBIAN_FRONTEND=noninteractive apt-get install -y --no-install-recommends "$@"; } >"$OUT/apt.log" 2>&1; then
-        tail -5 "$OUT/apt.log" >&2
-        exit 1
-    fi
+    for pause in 5 20 0; do
+        { apt-get update && DEBIAN_FRONTEND=noninteractive apt-get install -y --no-install-recommends "$@"; } >"$OUT/apt.log" 2>&1 && return
+        sleep "$pause"
+    done
+    tail -5 "$OUT/apt.log" >&2
+    exit 1
 }
 
 # wants COMMAND PACKAGE..: puts the packages on the list where the command is not there; `provide` installs the list.
