@@ -33,18 +33,18 @@ module _ (r : Run) (cs : Columns) (fit : columnsFit cs ≡ true) (is : isRun (lo
   pub run-is : RunFits (long cs) r
   run-is = run-fits (long cs) r is
 
-  pub ready : r .months < long cs → Ready r cs
+  pub ready : r .months < long cs → Ready (r .months) (r .opens) (r .values) cs
   ready room =
       let l = lengths-are (long cs) (length (cs .x2)) (length (cs .x3)) (length (cs .index)) (length (cs .mark)) fit in
       record {
-        opens = run-is .opens;
+        opens-fit = run-is .opens;
         room = room;
         most = l .4;
         x2 = l .0;
         x3 = l .1;
         index = l .2;
         mark = l .3;
-        values = values-fit (long cs) r (l .4) run-is;
+        values-fit = values-fit (long cs) r (l .4) run-is;
       }
 
   pub watered : Watered r

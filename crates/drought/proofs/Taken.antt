@@ -1,5 +1,6 @@
--- What `add_month` puts together is `taken`: the step, the row that hindsight adds, and the columns that it leaves. Assumes nothing.
-use mathlib.Core.Path.{_≡_, subst}
+-- What `add_spells` leaves is `Spells`: the step, the row that hindsight adds, and the columns that it leaves; and what `add_month` puts
+-- together of it is `taken`. Assumes nothing.
+use mathlib.Core.Path.{_≡_, ap, subst}
 use mathlib.Core.List.{List}
 use Prim.Native.Nat.{ℕ, suc, _≤_}
 use native.Mathlib.Omega.{arith}
@@ -9,6 +10,7 @@ use Rattle.water.specs.declared.Soil.{Soil}
 use Rattle.spells.specs.Spells.{stepOf}
 use Rattle.spells.specs.declared.Decision.{Decision}
 use Rattle.spells.specs.declared.Decision.the-variants.{Nothing, Decides}
+use Rattle.spells.specs.declared.Running.{Running}
 use Rattle.spells.specs.declared.SpellMonth.{SpellMonth}
 use Rattle.hindsight.specs.Rule.{Row}
 use Rattle.hindsight.specs.Adding.{addAs, addMonth, settledAs, settledCount}
@@ -21,7 +23,9 @@ use Rattle.runs.specs.Ranges.{nextCalendar}
 use Rattle.runs.specs.declared.Run.{Run}
 use Rattle.drought.specs.Columns.{Columns, columns}
 use Rattle.drought.specs.Figures.{figuresOf}
-use Rattle.drought.specs.Asked.{result, heldBy, taken}
+use Rattle.drought.specs.Asked.{result, heldIn, taken}
+use Rattle.drought.specs.Spelled.{Spells}
+use Rattle.drought.specs.declared.Spelled.{Spelled}
 use Rattle.drought.specs.declared.WaterFigures.{WaterFigures}
 use Rattle.drought.specs.declared.Figures.{Figures}
 
@@ -44,32 +48,45 @@ settled-as (Decides w) n = omega arith
 pub settled-most : (run : Held) (r : Row) → settledCount run r ≤ suc (run .opens)
 settled-most run r = settled-as (r .decision) (run .opens)
 
-module _ (r : Run) (soil : Soil) (w : WaterFigures) (z : ℤ) (cs : Columns) (s : SpellMonth) (by : ℕ) where
+module _ (months opens : ℕ) (cs : Columns) (s : SpellMonth) (by : ℕ) where
+  -- what hindsight's add leaves in the columns, and its two counts
   abbrev pub Wrote : List ℤ → List ℤ → List ℤ → List ℤ → List ℕ → ℕ → ℕ → Type 0
-  Wrote x1 x2 x3 index mark opens settled =
-      (x1 ≡ set (cs .x1) (r .months) (s .after .x1))
-      × (x2 ≡ set (cs .x2) (r .months) (s .after .x2))
-      × (x3 ≡ set (cs .x3) (r .months) (s .after .x3))
-      × Adds (heldBy r cs) (rowOf (s .after .x1) (s .after .x2) (s .after .x3) by (s .index)) (r .months) (cs .index) index (cs .mark) mark opens settled
+  Wrote x1 x2 x3 index mark left settled =
+      (x1 ≡ set (cs .x1) months (s .after .x1))
+      × (x2 ≡ set (cs .x2) months (s .after .x2))
+      × (x3 ≡ set (cs .x3) months (s .after .x3))
+      × Adds (heldIn months opens cs) (rowOf (s .after .x1) (s .after .x2) (s .after .x3) by (s .index)) months (cs .index) index (cs .mark) mark left settled
 
-  pub taken-is : (x1 x2 x3 index : List ℤ) (mark : List ℕ) (opens settled months calendar : ℕ) (f : Figures)
-      → s ≡ stepOf (r .values) z
+  pub spelled-is : (values : Running) (w : WaterFigures) (z : ℤ) (x1 x2 x3 index : List ℤ) (mark : List ℕ) (left settled : ℕ) (f : Figures)
+      → s ≡ stepOf values z
       → by ≡ decisionNumber (s .decision)
-      → Wrote x1 x2 x3 index mark opens settled
+      → Wrote x1 x2 x3 index mark left settled
       → f ≡ figuresOf w z s
-      → months ≡ suc (r .months)
-      → calendar ≡ nextCalendar (r .calendar)
-      → result
-      (record {
-        number = 0;
-        settled = settled;
-        figures = f;
-        run = record { months = months; opens = opens; calendar = calendar; soil = soil; values = s .after; constants = r .constants };
-      })
-      (columns x1 x2 x3 index mark)
-      ≡ taken r soil w z cs
-  unfolding taken
-  taken-is x1 x2 x3 index mark opens settled months calendar f e d g h m k =
-      let a : Adds (heldBy r cs) (rowFor s) (r .months) (cs .index) index (cs .mark) mark opens settled =
-      subst (λ (row : Row). Adds (heldBy r cs) row (r .months) (cs .index) index (cs .mark) mark opens settled) (row-is s by d) (g .3) in
-      rw (← e, g .0, g .1, g .2, a .index-is, a .mark-is, a .opens-is, a .settled-is, h, m, k)
+      → Spells months opens values w z cs (record { settled = settled; opens = left; figures = f; values = s .after }) (columns x1 x2 x3 index mark)
+  spelled-is values w z x1 x2 x3 index mark left settled f e d g h =
+      let a : Adds (heldIn months opens cs) (rowFor s) months (cs .index) index (cs .mark) mark left settled =
+      subst (λ (row : Row). Adds (heldIn months opens cs) row months (cs .index) index (cs .mark) mark left settled) (row-is s by d) (g .3) in
+      record {
+        values-are = ap (λ (m : SpellMonth). m .after) e;
+        opens-are = rw (← e) (a .opens-is);
+        settled-are = rw (← e) (a .settled-is);
+        figures-are = rw (← e) h;
+        columns-are = rw (← e, g .0, g .1, g .2, a .index-is, a .mark-is);
+      }
+
+-- put together with the run's storages, calendar and constants it is `taken`
+pub taken-is : (r : Run) (soil : Soil) (w : WaterFigures) (z : ℤ) (cs : Columns) (t : Spelled) (after : Columns) (months calendar : ℕ)
+    → Spells (r .months) (r .opens) (r .values) w z cs t after
+    → months ≡ suc (r .months)
+    → calendar ≡ nextCalendar (r .calendar)
+    → result
+    (record {
+      number = 0;
+      settled = t .settled;
+      figures = t .figures;
+      run = record { months = months; opens = t .opens; calendar = calendar; soil = soil; values = t .values; constants = r .constants };
+    })
+    after
+    ≡ taken r soil w z cs
+unfolding taken
+taken-is r soil w z cs t after months calendar p m k = rw (p .values-are, p .opens-are, p .settled-are, p .figures-are, p .columns-are, m, k)

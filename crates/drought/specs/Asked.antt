@@ -38,9 +38,12 @@ result a cs = record { answer = a; columns = cs }
 abbrev pub refusal : ℕ → Run → Added
 refusal k r = record { number = k; settled = 0; figures = noFigures; run = r }
 
--- the run that the columns hold, as hindsight has it
+-- the run that the columns hold, of so many months and so many open ones, as hindsight has it
+abbrev pub heldIn : ℕ → ℕ → Columns → Held
+heldIn months opens cs = runFrom (cs .x1) (cs .x2) (cs .x3) (cs .index) (cs .mark) months opens
+
 abbrev pub heldBy : Run → Columns → Held
-heldBy r cs = runFrom (cs .x1) (cs .x2) (cs .x3) (cs .index) (cs .mark) (r .months) (r .opens)
+heldBy r cs = heldIn (r .months) (r .opens) cs
 
 -- "An add writes the new month's place in the five columns, and index and mark of the open months it settles, and nothing else."
 abbrev pub written : Columns → ℕ → SpellMonth → Held → Columns

@@ -4,3 +4,4 @@ pub mod Refusals
 pub mod Figures
 pub mod Ready
 pub mod Asked
+pub mod Spelled

@@ -5,21 +5,22 @@ use Prim.Native.Nat.{ℕ, _≤_, _<_}
 use lib.ListN.{length}
 use Rattle.water.specs.Layers.{SoilFits}
 use Rattle.spells.specs.Values.{ValuesFit}
+use Rattle.spells.specs.declared.Running.{Running}
 use Rattle.runs.specs.Ranges.{constantsFit, calendarFits}
 use Rattle.runs.specs.Runs.{mostMonths}
 use Rattle.runs.specs.declared.Run.{Run}
 use Rattle.drought.specs.Columns.{Columns, long}
 
 -- a run and columns that a month can be added to
-pub record Ready (r : Run) (cs : Columns) : Type 0 where
-  pub opens : r .opens ≤ r .months
-  pub room : r .months < long cs
+pub record Ready (months opens : ℕ) (values : Running) (cs : Columns) : Type 0 where
+  pub opens-fit : opens ≤ months
+  pub room : months < long cs
   pub most : long cs ≤ mostMonths
   pub x2 : length (cs .x2) ≡ long cs
   pub x3 : length (cs .x3) ≡ long cs
   pub index : length (cs .index) ≡ long cs
   pub mark : length (cs .mark) ≡ long cs
-  pub values : ValuesFit (r .values)
+  pub values-fit : ValuesFit values
 
 -- .. and a month of water
 pub record Watered (r : Run) : Type 0 where

@@ -8,6 +8,7 @@ use door::MonthInches;
 use door::Reading;
 use runs::Run;
 use runs::Started;
+use spells::Running;
 use spells::SpellMonth;
 use water::Month;
 use water::Soil;
@@ -23,6 +24,7 @@ ghost use Rattle.drought.specs.Columns.{columns, lengthsFit};
 ghost use Rattle.drought.specs.Refusals.{runRefusal, roomRefusal, waterRefusal, zRefusal, rowRefusal};
 ghost use Rattle.drought.specs.Figures.{waterFigures, noWater, figuresOf};
 ghost use Rattle.drought.specs.Ready.{Ready, Watered};
+ghost use Rattle.drought.specs.Spelled.{Spells};
 ghost use Rattle.drought.specs.Asked.{result, refusal, taken, takenWater, addOutcomes, addWater, addInches, addZ, rowOfRun};
 
 // Refusals.
@@ -344,10 +346,19 @@ fn figures_of(water: WaterFigures, z: i32, s: SpellMonth) -> Figures
     }
 }
 
-// A month of spells, written to the columns, and the run with it added.
-fn add_month(
-    run: Run,
-    soil: Soil,
+// What a month of spells leaves beside the columns.
+struct Spelled {
+    settled: u32,
+    opens: u32,
+    figures: Figures,
+    values: Running,
+}
+
+// A month of spells, written to the columns. Of the run it takes what spells need.
+fn add_spells(
+    months: u32,
+    opens: u32,
+    values: Running,
     water: WaterFigures,
     z: i32,
     x1: &mut [i32],
@@ -355,12 +366,11 @@ fn add_month(
     x3: &mut [i32],
     index: &mut [i32],
     mark: &mut [u8],
-) -> Added
-    requires { ⌜ Ready run (columns (now x1) (now x2) (now x3) (now index) (now mark)) ⌝ }
+) -> Spelled
+    requires { ⌜ Ready months opens values (columns (now x1) (now x2) (now x3) (now index) (now mark)) ⌝ }
     requires { ⌜ natAbs z ≤ mostZ ⌝ }
-    ensures { λ a. ⌜ result a (columns (now (x1 .exit)) (now (x2 .exit)) (now (x3 .exit)) (now (index .exit)) (now (mark .exit))) ≡ taken run soil water z (columns (now (x1 .entry)) (now (x2 .entry)) (now (x3 .entry)) (now (index .entry)) (now (mark .entry))) ⌝ }
+    ensures { λ t. ⌜ Spells months opens values water z (columns (now (x1 .entry)) (now (x2 .entry)) (now (x3 .entry)) (now (index .entry)) (now (mark .entry))) t (columns (now (x1 .exit)) (now (x2 .exit)) (now (x3 .exit)) (now (index .exit)) (now (mark .exit))) ⌝ }
 {
-    let values = run.values;
     let s = spells::step(values, z);
     let after = s.after;
     let d = s.decision;
@@ -369,8 +379,6 @@ fn add_month(
     let b = after.x2;
     let c = after.x3;
     let shown = s.index;
-    let months = run.months;
-    let opens = run.opens;
     let t = hindsight::add(
         x1,
         x2,
@@ -386,18 +394,57 @@ fn add_month(
         shown,
     );
     let figures = figures_of(water, z, s);
+    Spelled {
+        settled: t.settled as u32,
+        opens: t.opens as u32,
+        figures,
+        values: after,
+    }
+}
+
+// A month of spells, and the run with it added.
+fn add_month(
+    run: Run,
+    soil: Soil,
+    water: WaterFigures,
+    z: i32,
+    x1: &mut [i32],
+    x2: &mut [i32],
+    x3: &mut [i32],
+    index: &mut [i32],
+    mark: &mut [u8],
+) -> Added
+    requires { ⌜ Ready (run .months) (run .opens) (run .values) (columns (now x1) (now x2) (now x3) (now index) (now mark)) ⌝ }
+    requires { ⌜ natAbs z ≤ mostZ ⌝ }
+    ensures { λ a. ⌜ result a (columns (now (x1 .exit)) (now (x2 .exit)) (now (x3 .exit)) (now (index .exit)) (now (mark .exit))) ≡ taken run soil water z (columns (now (x1 .entry)) (now (x2 .entry)) (now (x3 .entry)) (now (index .entry)) (now (mark .entry))) ⌝ }
+{
+    let values = run.values;
+    let s = add_spells(
+        run.months,
+        run.opens,
+        values,
+        water,
+        z,
+        x1,
+        x2,
+        x3,
+        index,
+        mark,
+    );
+    let figures = s.figures;
+    let moved = s.values;
     let constants = run.constants;
     let next = Run {
-        months: months + 1,
-        opens: t.opens as u32,
+        months: run.months + 1,
+        opens: s.opens,
         calendar: runs::next_calendar(run.calendar),
         soil,
-        values: after,
+        values: moved,
         constants,
     };
     Added {
         number: 0,
-        settled: t.settled as u32,
+        settled: s.settled,
         figures,
         run: next,
     }
@@ -414,7 +461,7 @@ fn add_measured(
     index: &mut [i32],
     mark: &mut [u8],
 ) -> Added
-    requires { ⌜ Ready run (columns (now x1) (now x2) (now x3) (now index) (now mark)) ⌝ }
+    requires { ⌜ Ready (run .months) (run .opens) (run .values) (columns (now x1) (now x2) (now x3) (now index) (now mark)) ⌝ }
     requires { ⌜ Watered run ⌝ }
     requires { ⌜ (p ≤ mostReading) × (pe ≤ mostReading) ⌝ }
     ensures { λ a. ⌜ result a (columns (now (x1 .exit)) (now (x2 .exit)) (now (x3 .exit)) (now (index .exit)) (now (mark .exit))) ≡ takenWater run p pe (columns (now (x1 .entry)) (now (x2 .entry)) (now (x3 .entry)) (now (index .entry)) (now (mark .entry))) ⌝ }
