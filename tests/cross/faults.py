@@ -1,0 +1,60 @@
+"""Faults put into the reference, one at a time; the cross-check must end with a difference. Run by tests/cross/faults."""
+import os
+import shutil
+import subprocess
+import sys
+
+ROOM = 'target/host/faults'
+
+# a name, and what is changed to what
+FAULTS = [
+    ('next(x) by 2690', '2691 * i64::from(x) + 1000', '2690 * i64::from(x) + 1000'),
+    ('halves below zero toward zero', 'if n < 0 { n - half }', 'if n < 0 { n - half + 1 }'),
+    ('negative zero refused', 'if bits == 0x8000_0000 {', 'if bits == 0x8000_0001 {'),
+    ('a thousandth cut, not rounded', '(1000 * fraction + (1 << (halvings - 1)))', '(1000 * fraction)'),
+    ('the loss from below not capped', '.min(soil.underlying)\n', '\n'),
+    ('runoff before the lower layer is full', '.min(soil.capacity - SURFACE - soil.underlying)', '.min(soil.capacity - SURFACE - soil.underlying) / 2'),
+    ('Z from the rounded CAFEC', '(10_000 * i64::from(p) - n), 100_000_000)', '(10_000 * (i64::from(p) - i64::from(w.cafec))), 100_000_000)'),
+    ('-500 taken as a drought', 'if x3 < -500 {', 'if x3 <= -500 {'),
+    ('steady only below 0', 'if v <= 0 {', 'if v < 0 {'),
+    ('ended only above E', '} else if 1000 * u >= e {', '} else if 1000 * u > e {'),
+    ('a wet spell ended only below E', '} else if 1000 * u <= e {', '} else if 1000 * u < e {'),
+    ('the percent let down to 0', 'percent.clamp(1, 99)', 'percent.clamp(0, 99)'),
+    ('1,000 founds nothing', 'if x1 >= 1_000 {', 'if x1 > 1_000 {'),
+    ('a tie shown by X1', 'Decides::Nothing if x1 > -x2 => x1', 'Decides::Nothing if x1 >= -x2 => x1'),
+    ('settled by the deciding side alone', '                held = own;\n', ''),
+    ('marks left as they were', '    k.mark[first..month].fill(SETTLED);\n', ''),
+    ('the capacity refused first', 'if !constants_in_range(constants) {\n        return Err(Refusal::Constant);\n    }\n    if !(1_000..=30_000).contains(&capacity) {\n        return Err(Refusal::Capacity);\n    }', 'if !(1_000..=30_000).contains(&capacity) {\n        return Err(Refusal::Capacity);\n    }\n    if !constants_in_range(constants) {\n        return Err(Refusal::Constant);\n    }'),
+    ('PE read before precipitation', '    let p = read(p)?;\n    let pe = read(pe)?;\n', '    let pe = read(pe)?;\n    let p = read(p)?;\n'),
+    ('V beyond its limit let in', '4_000_150 * u64::from(run.months)', '4_000_151 * u64::from(run.months)'),
+    ('the calendar stands still', '    run.calendar = run.calendar % 12 + 1;\n', ''),
+    ('a whole series settled to the end', 'mark[first..].fill(OPEN);', 'mark[first..].fill(SETTLED);'),
+]
+
+
+def caught(old, new):
+    """Whether the cross-check ends with a difference where the reference has this fault."""
+    with open('tests/cross/reference.rs') as f:
+        text = f.read()
+    assert text.count(old) == 1, old
+    shutil.rmtree(ROOM, ignore_errors=True)
+    shutil.copytree('tests/cross', ROOM + '/tests/cross')
+    shutil.copytree('host', ROOM + '/host')
+    with open(ROOM + '/tests/cross/reference.rs', 'w') as f:
+        f.write(text.replace(old, new))
+    program = ROOM + '/cross'
+    build = os.environ['RUSTC'].split() + ['-A', 'warnings', '-C', 'opt-level=3', '-L', 'native=target/staticlib', '-l', 'static=card']
+    subprocess.run(build + [ROOM + '/tests/cross/cross.rs', '-o', program], check=True)
+    run = subprocess.run(os.environ['RUN'].split() + [program], stdout=subprocess.DEVNULL, stderr=subprocess.DEVNULL)
+    return run.returncode == 1
+
+
+def main():
+    missed = [name for name, old, new in FAULTS if not caught(old, new)]
+    shutil.rmtree(ROOM)
+    print('%d faults, %d caught%s' % (len(FAULTS), len(FAULTS) - len(missed), ''.join('; missed: ' + name for name in missed)))
+    sys.exit(1 if missed else 0)
+
+
+if __name__ == '__main__':
+    main()
