@@ -2,8 +2,9 @@
 """The sample series: western Kansas, June 1932 to September 1939, and what the program prints of it.
 
 Z is table 4's, column 14, for June 1932 to May 1935, and K d from tables 3 and 5 after that. The scan of table 5 has
-lost the minus sign of seven months; table 13 tells which (RESTORED), each to within 0.005 of the X that it prints. From
-October 1939 on, table 5 and table 13 do not go together, so the sample ends before.
+lost the minus sign of seven months (RESTORED). They were found by table 13, and so was where the sample begins and
+ends: that the series then agrees with table 13 is no evidence of its own. What is printed says how it agrees with the
+signs as scanned, too.
 
 `sample.py` says whether the stored files are what this program makes, and how the series agrees with table 13;
 `--write` writes them. The reckoning is that of source_tables.py, which has its own reading of the outline.
@@ -68,13 +69,26 @@ def rows(anomalies):
     return [row(i + 1, f, any(decides[i:])) for i, f in enumerate(figures)]
 
 
-def agreement(whens, anomalies):
-    """How many months show table 13's X to within 0.03, its lost signs aside, and how many of those signs are lost."""
-    told = {**source.by_year(source.TABLE_13), **source.by_year(TABLE_13)}
-    figures = source.series(source.FRESH, anomalies)
-    pairs = [(10 * told[y][m - 1], f['X']) for (y, m), f in zip(whens, figures)]
-    close = [abs(abs(p) - abs(x)) <= 30 for p, x in pairs]
-    return sum(close), sum(c and (p < 0) != (x < 0) for c, (p, x) in zip(close, pairs))
+def table_13(when):
+    """The X that table 13 prints, in thousandths."""
+    return 10 * {**source.by_year(source.TABLE_13), **source.by_year(TABLE_13)}[when[0]][when[1] - 1]
+
+
+def close(whens, anomalies, allowed):
+    """Of how many months the index is table 13's to within so much, lost signs aside; and of how many a sign is lost."""
+    pairs = [(table_13(when), f['X']) for when, f in zip(whens, source.series(source.FRESH, anomalies))]
+    near = [(p, x) for p, x in pairs if abs(abs(p) - abs(x)) <= allowed]
+    return len(near), sum((p < 0) != (x < 0) for p, x in near)
+
+
+def furthest(whens, anomalies):
+    """Of the restored months, how far the furthest is from table 13's X, from table 13's X of the month before."""
+    off = []
+    for when in RESTORED:
+        at = whens.index(when)
+        before = -abs(table_13(whens[at - 1]))
+        off.append(abs(source.nearest(2691 * before + 1000 * anomalies[at], 3000) + abs(table_13(when))))
+    return max(off)
 
 
 def main():
@@ -90,8 +104,11 @@ def main():
             with open(path) as f:
                 if f.read() != text:
                     sys.exit('%s is not what this program makes' % os.path.relpath(path, TOP))
-    close, lost = agreement(whens, anomalies)
-    print('%d months, %d within 0.03 of table 13, %d of these but for a sign that the scan lost' % (len(whens), close, lost))
+    scanned = [-z if when in RESTORED else z for when, z in zip(whens, anomalies)]
+    near, lost = close(whens, anomalies, 30)
+    print('%d months; within 0.02 of table 13: %d; within 0.03: %d, of these %d but for a sign that its scan lost' % (len(whens), close(whens, anomalies, 20)[0], near, lost))
+    print('with the signs of table 5 as scanned, within 0.03: %d' % close(whens, scanned, 30)[0])
+    print('the %d restored months by themselves: off by at most %d thousandths' % (len(RESTORED), furthest(whens, anomalies)))
 
 
 if __name__ == '__main__':
