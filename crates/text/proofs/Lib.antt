@@ -1,0 +1,2 @@
+-- What is known of a digit's byte (Digits).
+pub mod Digits
