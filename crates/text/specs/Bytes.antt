@@ -1,6 +1,6 @@
 -- Text as the list of its bytes: the bytes that have a name here, digits, and the number that digits make. Assumes nothing.
 use Prim.Native.Nat.{ℕ, _+_, _*_, _-_}
-use mathlib.Core.Bool.{Bool, true, false, _&&_}
+use mathlib.Core.Bool.{Bool, true, false, cond, _&&_}
 use mathlib.Core.List.{List, [], _∷_, foldl}
 use lib.Dec.{leb, eqb}
 
@@ -34,10 +34,20 @@ unfoldable pub allSpaces : List ℕ → Bool
 allSpaces [] = true
 allSpaces (b ∷ bs) = eqb b space && allSpaces bs
 
+-- ---- an optional minus: whether it is there, and what is left without it
+unfoldable pub negative : List ℕ → Bool
+negative [] = false
+negative (b ∷ bs) = eqb b minusSign
+
+unfoldable pub body : List ℕ → List ℕ
+body [] = []
+body (b ∷ bs) = cond (eqb b minusSign) bs (b ∷ bs)
+
+-- ---- the number that digits make
 -- one digit more, to the right of those that make n
 abbrev pub andDigit : ℕ → ℕ → ℕ
 andDigit n b = 10 * n + (b - digitZero)
 
--- the number that digits make, of any size
+-- of any size
 unfoldable pub natural : List ℕ → ℕ
 natural bs = foldl andDigit 0 bs
