@@ -7,14 +7,16 @@ use Prim.Native.Nat.{ℕ, zero, suc}
 use native.Mathlib.Omega.{arith}
 use lib.Dec.{eqb}
 use borrow.Author.Tests.{eqb-true, eqb-false}
+use Rattle.text.specs.Bytes.{lineFeed, isDigit}
+use Rattle.text.specs.Lines.{lastLine, cut, linesOf}
 use Rattle.runs.specs.declared.Run.{Run}
-use Rattle.lines.specs.Line.{Judged, isDigit, judged}
+use Rattle.lines.specs.Line.{Judged, judged}
 use Rattle.lines.specs.Reading.{begun, opens, fed}
 use Rattle.lines.specs.declared.Line.{Line}
 use Rattle.lines.proofs.Lines.{streamed}
 use Rattle.drought.specs.Columns.{Columns}
-use Rattle.intake.specs.Intake.{State, state, isBlank, withZ, heardWith, heardAs, lineClosed, lineFeed, byteFed, inputEnded}
-use Rattle.intake.specs.ByLines.{lastLine, cut, linesOf, heard}
+use Rattle.intake.specs.Intake.{State, state, isBlank, withZ, heardWith, heardAs, lineClosed, byteFed, inputEnded}
+use Rattle.intake.specs.ByLines.{heard}
 use Rattle.intake.proofs.Steps.{on, off, byte-closes, byte-within, byte-refused, end-closes, end-blank, end-refused}
 
 -- ---- worked inputs: "", "a" and a line feed, a line feed, and "a", two line feeds, "b"

@@ -7,6 +7,7 @@ use native.Mathlib.Omega.{arith}
 use lib.IntN.{ℤ}
 use lib.ListN.{length, set}
 use borrow.Author.Tests.{eq-eqb, ne-eqb}
+use Rattle.text.specs.Bytes.{lineFeed}
 use Rattle.lines.specs.Line.{Judged}
 use Rattle.lines.specs.Reading.{finished, readOf}
 use Rattle.lines.specs.declared.Line.{Line}
@@ -15,7 +16,7 @@ use Rattle.runs.specs.declared.Run.{Run}
 use Rattle.drought.specs.Columns.{Columns, columns}
 use Rattle.drought.specs.Asked.{Result, result, addZ}
 use Rattle.drought.specs.declared.Added.{Added}
-use Rattle.intake.specs.Intake.{State, state, marked, afterLine, afterAdd, withZ, heardAs, lineClosed, lineFeed, withByte, unrefused, byteFed, isBlank, inputEnded}
+use Rattle.intake.specs.Intake.{State, state, marked, afterLine, afterAdd, withZ, heardAs, lineClosed, withByte, unrefused, byteFed, isBlank, inputEnded}
 use Rattle.intake.specs.declared.Session.{Session}
 
 -- ---- a month's percent

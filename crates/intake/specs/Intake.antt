@@ -7,6 +7,7 @@ use mathlib.Core.List.{List}
 use lib.IntN.{ℤ, pos}
 use lib.ListN.{set, replicate}
 use lib.Dec.{eqb}
+use Rattle.text.specs.Bytes.{lineFeed}
 use Rattle.lines.specs.Line.{Judged}
 use Rattle.lines.specs.Reading.{begun, fed, finished}
 use Rattle.lines.specs.declared.Line.{Line}
@@ -58,10 +59,6 @@ heardAs j run cs ps = heardWith (j .number) (j .z) run cs ps
 
 unfoldable pub lineClosed : Line → Run → Columns → List ℕ → State
 lineClosed line run cs ps = heardAs (finished line) run cs ps
-
--- the byte of the line feed
-abbrev pub lineFeed : ℕ
-lineFeed = 10
 
 abbrev pub withByte : State → ℕ → State
 withByte t b = state (record { line = fed (t .session .line) b; refused = t .session .refused; run = t .session .run }) (t .columns) (t .percents)

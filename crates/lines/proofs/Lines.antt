@@ -8,10 +8,12 @@ use native.Mathlib.Omega.{arith}
 use lib.Dec.{leb, eqb}
 use borrow.Author.Tests.{leb-true, leb-false, le-leb, lt-leb, eqb-true, ne-eqb}
 use Rattle.exact.specs.Next.{mostZ}
-use Rattle.lines.specs.Line.{Judged, accepted, refused, outOfRange, notANumber, isDigit, minusSign, andDigit, negative, body, oneOrMore, allDigits, wellFormed, natural, signed, value, ranged, judged}
+use Rattle.text.specs.Bytes.{minusSign, isDigit, allDigits, andDigit, negative, body, natural}
+use Rattle.text.proofs.Digits.{digit-range}
+use Rattle.lines.specs.Line.{Judged, accepted, refused, outOfRange, notANumber, oneOrMore, wellFormed, signed, value, ranged, judged}
 use Rattle.lines.specs.Reading.{begun, held, opens, withDigit, withMinus, spoilt, fed, finished}
 use Rattle.lines.specs.declared.Line.{Line}
-use Rattle.lines.proofs.Sizes.{digit-range, held-in, held-out, held-digit, ranged-in, ranged-out}
+use Rattle.lines.proofs.Sizes.{held-in, held-out, held-digit, ranged-in, ranged-out}
 
 -- ---- one byte
 fed-digit : (l : Line) (b : ℕ) → isDigit b ≡ true → fed l b ≡ withDigit l b

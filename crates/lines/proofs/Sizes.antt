@@ -1,30 +1,18 @@
--- What is known of a digit's byte, of a size as it is kept, and of the number that a sign and a size make. The idea: a size above the range
--- stays above it whatever digit follows, so holding it loses nothing. Assumes nothing.
-use mathlib.Core.Path.{_≡_, refl, sym, ap}
-use mathlib.Core.Bool.{Bool, true, false, cond}
-use Prim.Native.Nat.{ℕ, suc, _+_, _*_, _-_, _≤_, _<_}
+-- What is known of a size as it is kept, and of the number that a sign and a size make. The idea: a size above the range stays above it
+-- whatever digit follows, so holding it loses nothing. Assumes nothing.
+use mathlib.Core.Path.{_≡_, refl}
+use mathlib.Core.Bool.{Bool, true, false}
+use Prim.Native.Nat.{ℕ, _+_, _≤_, _<_}
 use native.Mathlib.Omega.{arith}
-use lib.IntN.{ℤ, pos, negℤ, natAbs}
+use lib.IntN.{natAbs}
 use lib.Dec.{leb}
 use borrow.Author.Tests.{leb-true, leb-false, le-leb, lt-leb}
 use Rattle.exact.specs.Next.{mostZ}
 use Rattle.exact.proofs.Z.{abs-minus}
 use Rattle.runs.specs.Runs.{zFits}
-use Rattle.lines.specs.Line.{isDigit, andDigit, signed, ranged, accepted, refused, outOfRange}
+use Rattle.text.specs.Bytes.{andDigit}
+use Rattle.lines.specs.Line.{signed, ranged, accepted, refused, outOfRange}
 use Rattle.lines.specs.Reading.{held}
-
--- ---- a digit's byte
-apart : _≡_ {A = Bool} false true → ⊥
-apart h = let z : _≡_ {A = ℕ} 0 1 = cc in omega arith
-
-digit-by : (b : ℕ) (s t : Bool) → leb 48 b ≡ s → leb b 57 ≡ t → isDigit b ≡ true → (48 ≤ b) × (b ≤ 57)
-unfolding isDigit
-digit-by b true true e f h = (leb-true _ _ e, leb-true _ _ f)
-digit-by b true false e f h = absurd (apart (rw (e, f) at h))
-digit-by b false t e f h = absurd (apart (rw e at h))
-
-pub digit-range : (b : ℕ) → isDigit b ≡ true → (48 ≤ b) × (b ≤ 57)
-digit-range b = digit-by b (leb 48 b) (leb b 57) refl refl
 
 -- ---- a size as it is kept
 pub held-in : (n : ℕ) → n ≤ mostZ → held n ≡ n

@@ -5,7 +5,8 @@ use mathlib.Core.List.{List, [], _∷_}
 use Prim.Native.Nat.{ℕ}
 use lib.IntN.{ℤ, pos, negsuc}
 use Rattle.runs.specs.Runs.{zFits}
-use Rattle.lines.specs.Line.{Judged, accepted, refused, outOfRange, notANumber, isDigit, negative, body, oneOrMore, allDigits, wellFormed, natural, signed, value, ranged, judged}
+use Rattle.text.specs.Bytes.{isDigit, allDigits, negative, body, natural}
+use Rattle.lines.specs.Line.{Judged, accepted, refused, outOfRange, notANumber, oneOrMore, wellFormed, signed, value, ranged, judged}
 
 -- a list of lines, each judged
 abbrev each : List (List ℕ) → List Judged

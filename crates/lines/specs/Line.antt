@@ -1,55 +1,22 @@
 -- Document 01, the program that "reads one Z a line": "A line is an optional minus and one or more digits, closed by a line feed or the end
 -- of input; such a number outside the range of Z, however long, is 12." A line is the list of its bytes, without the line feed. Assumes
 -- nothing.
-use Prim.Native.Nat.{ℕ, _+_, _*_, _-_}
+use Prim.Native.Nat.{ℕ}
 use mathlib.Core.Bool.{Bool, true, false, cond, _&&_}
-use mathlib.Core.List.{List, [], _∷_, foldl}
+use mathlib.Core.List.{List, [], _∷_}
 use lib.IntN.{ℤ, pos, negℤ}
-use lib.Dec.{leb, eqb}
+use Rattle.text.specs.Bytes.{allDigits, negative, body, natural}
 use Rattle.runs.specs.Runs.{zFits}
 
--- the bytes of '-', '0' and '9'
-abbrev pub minusSign : ℕ
-minusSign = 45
-
-abbrev pub digitZero : ℕ
-digitZero = 48
-
-abbrev pub digitNine : ℕ
-digitNine = 57
-
-unfoldable pub isDigit : ℕ → Bool
-isDigit b = leb digitZero b && leb b digitNine
-
--- ---- "an optional minus": whether it is there, and what is left of the line without it
-unfoldable pub negative : List ℕ → Bool
-negative [] = false
-negative (b ∷ bs) = eqb b minusSign
-
-unfoldable pub body : List ℕ → List ℕ
-body [] = []
-body (b ∷ bs) = cond (eqb b minusSign) bs (b ∷ bs)
-
--- ---- "and one or more digits"
+-- ---- "an optional minus and one or more digits"
 unfoldable pub oneOrMore : List ℕ → Bool
 oneOrMore [] = false
 oneOrMore (b ∷ bs) = true
-
-unfoldable pub allDigits : List ℕ → Bool
-allDigits [] = true
-allDigits (b ∷ bs) = isDigit b && allDigits bs
 
 unfoldable pub wellFormed : List ℕ → Bool
 wellFormed line = oneOrMore (body line) && allDigits (body line)
 
 -- ---- the number that a well formed line says, of any size
--- one digit more, to the right of those that make n
-abbrev pub andDigit : ℕ → ℕ → ℕ
-andDigit n b = 10 * n + (b - digitZero)
-
-unfoldable pub natural : List ℕ → ℕ
-natural bs = foldl andDigit 0 bs
-
 unfoldable pub signed : Bool → ℕ → ℤ
 signed true n = negℤ (pos n)
 signed false n = pos n

@@ -5,7 +5,8 @@ use Prim.Native.Nat.{ℕ, _+_}
 use mathlib.Core.Bool.{Bool, true, false, cond, not, _&&_, _||_}
 use lib.Dec.{leb, eqb}
 use Rattle.exact.specs.Next.{mostZ}
-use Rattle.lines.specs.Line.{Judged, accepted, refused, outOfRange, notANumber, isDigit, minusSign, andDigit, signed}
+use Rattle.text.specs.Bytes.{minusSign, isDigit, andDigit}
+use Rattle.lines.specs.Line.{Judged, accepted, refused, outOfRange, notANumber, signed}
 use Rattle.lines.specs.declared.Line.{Line}
 use Rattle.lines.specs.declared.Read.{Read}
 use Rattle.lines.specs.declared.Read.the-variants.{Z, OutOfRange, NotANumber}

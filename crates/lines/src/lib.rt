@@ -5,7 +5,8 @@
 
 ghost use mathlib.Core.Path.{_≡_};
 ghost use mathlib.Core.Bool.{true};
-ghost use Rattle.lines.specs.Line.{isDigit, andDigit, judged};
+ghost use Rattle.text.specs.Bytes.{isDigit, andDigit};
+ghost use Rattle.lines.specs.Line.{judged};
 ghost use Rattle.lines.specs.Reading.{begun, held, opens, fed, finished, readOf};
 
 // A line so far. Its bytes are given one by one, without the line feed.
@@ -34,21 +35,10 @@ const MINUS_SIGN: u8 = 45;
 
 const DIGIT_ZERO: u8 = 48;
 
-const DIGIT_NINE: u8 = 57;
-
 const MOST_Z: u32 = 4_000_000;
 
 // Where a size above the range of Z is held.
 const HELD: u32 = MOST_Z + 1;
-
-fn is_digit(b: u8) -> bool
-    ensures { λ r. ⌜ r ≡ isDigit b ⌝ }
-{
-    if b < DIGIT_ZERO {
-        return false;
-    }
-    b <= DIGIT_NINE
-}
 
 // The size after one digit more. A size that is held is let grow no further, so no sum comes near the
 // end of a u32.
@@ -95,7 +85,7 @@ pub fn begin() -> Line
 pub fn feed(l: Line, b: u8) -> Line
     ensures { λ r. ⌜ r ≡ fed l b ⌝ }
 {
-    if is_digit(b) {
+    if text::is_digit(b) {
         let size = grown(l.size, b);
         return Line {
             minus: l.minus,

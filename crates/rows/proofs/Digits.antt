@@ -13,7 +13,8 @@ use lib.ListN.{length, length-append}
 use borrow.Author.Tests.{ltb-true, ltb-false, lt-ltb, le-ltb}
 use mir.Syntax.{w32}
 use mir.Val.{SFits}
-use Rattle.rows.specs.Text.{minusSign, digitZero, digitsWithin, numeral, integer}
+use Rattle.text.specs.Bytes.{minusSign, digitZero}
+use Rattle.rows.specs.Text.{digitsWithin, numeral, integer}
 
 -- ---- one place
 small : (k n : ℕ) → n < 10 → digitsWithin k n ≡ (digitZero + n) ∷ []

@@ -6,21 +6,10 @@ use mathlib.Core.List.{List, [], _∷_, _++_}
 use lib.IntN.{ℤ, pos, negsuc}
 use lib.ListN.{length, take, drop}
 use lib.Dec.{ltb, eqb}
+use Rattle.text.specs.Bytes.{space, lineFeed, minusSign, digitZero}
 use Rattle.rows.specs.declared.Row.{Row}
 
--- the bytes of ' ', the line feed, '-', '0', 'O' and 'S'
-abbrev pub space : ℕ
-space = 32
-
-abbrev pub lineFeed : ℕ
-lineFeed = 10
-
-abbrev pub minusSign : ℕ
-minusSign = 45
-
-abbrev pub digitZero : ℕ
-digitZero = 48
-
+-- the bytes of 'O' and 'S'
 abbrev pub letterO : ℕ
 letterO = 79
 

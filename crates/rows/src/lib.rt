@@ -7,7 +7,8 @@ ghost use mathlib.Core.Path.{_≡_};
 ghost use Prim.Native.Nat.{_+_, _≤_};
 ghost use mathlib.Core.List.{[], _∷_};
 ghost use lib.ListN.{length};
-ghost use Rattle.rows.specs.Text.{space, lineFeed, numeral, integer, letter, rowText, refusedWord, refusedText, laid, mostRow};
+ghost use Rattle.text.specs.Bytes.{space, lineFeed};
+ghost use Rattle.rows.specs.Text.{numeral, integer, letter, rowText, refusedWord, refusedText, laid, mostRow};
 
 // A month's row.
 pub struct Row {

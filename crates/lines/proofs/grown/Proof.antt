@@ -2,8 +2,9 @@
 use borrow.Author.Needs.{needs}
 use mathlib.Core.Path.{_≡_, sym}
 use native.Mathlib.Omega.{arith}
-use Rattle.lines.specs.Line.{andDigit}
-use Rattle.lines.proofs.Sizes.{digit-range, held-in, held-out}
+use Rattle.text.specs.Bytes.{andDigit}
+use Rattle.text.proofs.Digits.{digit-range}
+use Rattle.lines.proofs.Sizes.{held-in, held-out}
 use Rattle.lines.proofs.grown.Statement.{statement}
 use Rattle.lines.proofs.grown.Tie as tie
 

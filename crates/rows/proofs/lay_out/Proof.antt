@@ -10,7 +10,8 @@ use mir.Syntax.{w32}
 use mir.Val.{Fits, SFits, toZ, ofZ}
 use mir.Facts.{toZ-ofZ}
 use Rattle.exact.proofs.Held.{held}
-use Rattle.rows.specs.Text.{space, lineFeed, letter, numeral, integer, rowText, laid}
+use Rattle.text.specs.Bytes.{space, lineFeed}
+use Rattle.rows.specs.Text.{letter, numeral, integer, rowText, laid}
 use Rattle.rows.specs.declared.Row.{Row}
 use Rattle.rows.proofs.Laid.{Reached, reach-then}
 use Rattle.rows.proofs.Digits.{numeral-length}

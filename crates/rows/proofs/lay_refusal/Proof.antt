@@ -3,7 +3,8 @@ use borrow.Author.Needs.{needs}
 use mathlib.Core.List.{List, [], _∷_, _++_}
 use Prim.Native.Nat.{ℕ}
 use native.Mathlib.Omega.{arith}
-use Rattle.rows.specs.Text.{space, lineFeed, numeral, refusedWord, refusedText}
+use Rattle.text.specs.Bytes.{space, lineFeed}
+use Rattle.rows.specs.Text.{numeral, refusedWord, refusedText}
 use Rattle.rows.proofs.Laid.{Reached, reach-then}
 use Rattle.rows.proofs.lay_refusal.Statement.{statement}
 use Rattle.rows.proofs.lay_refusal.Tie as tie

@@ -2,7 +2,7 @@
 use borrow.Author.Needs.{needs}
 use mathlib.Core.List.{[], _∷_}
 use native.Mathlib.Omega.{arith}
-use Rattle.rows.specs.Text.{space, lineFeed}
+use Rattle.text.specs.Bytes.{space, lineFeed}
 use Rattle.rows.proofs.Laid.{put-then}
 use Rattle.rows.proofs.put_closing.Statement.{statement}
 use Rattle.rows.proofs.put_closing.Tie as tie

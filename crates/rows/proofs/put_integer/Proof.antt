@@ -14,7 +14,8 @@ use mir.Val.{Fits, SFits, toZ, ofZ}
 use mir.Facts.{toZ-ofZ}
 use Rattle.exact.proofs.Z.{zs, is-Z}
 use Rattle.exact.proofs.Held.{held, wide}
-use Rattle.rows.specs.Text.{minusSign, numeral}
+use Rattle.text.specs.Bytes.{minusSign}
+use Rattle.rows.specs.Text.{numeral}
 use Rattle.rows.proofs.Laid.{put-then}
 use Rattle.rows.proofs.Digits.{integer-below, integer-above}
 use Rattle.rows.proofs.put_integer.Statement.{statement}

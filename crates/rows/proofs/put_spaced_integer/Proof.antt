@@ -3,7 +3,8 @@ use borrow.Author.Needs.{needs}
 use mathlib.Core.List.{[], _∷_}
 use native.Mathlib.Omega.{arith}
 use mir.Facts.{toZ-ofZ}
-use Rattle.rows.specs.Text.{space, integer}
+use Rattle.text.specs.Bytes.{space}
+use Rattle.rows.specs.Text.{integer}
 use Rattle.rows.proofs.Laid.{put-then}
 use Rattle.rows.proofs.Digits.{integer-length}
 use Rattle.rows.proofs.put_spaced_integer.Statement.{statement}

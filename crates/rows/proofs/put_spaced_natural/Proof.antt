@@ -2,7 +2,8 @@
 use borrow.Author.Needs.{needs}
 use mathlib.Core.List.{[], _∷_}
 use native.Mathlib.Omega.{arith}
-use Rattle.rows.specs.Text.{space, numeral}
+use Rattle.text.specs.Bytes.{space}
+use Rattle.rows.specs.Text.{numeral}
 use Rattle.rows.proofs.Laid.{put-then}
 use Rattle.rows.proofs.Digits.{numeral-length}
 use Rattle.rows.proofs.put_spaced_natural.Statement.{statement}
