@@ -1,10 +1,10 @@
--- Worked lines, computed from the definitions alone: two rows of document 01, a row that is open, and a refusal, each as its bytes. Assumes
--- nothing.
+-- Worked lines, computed from the definitions alone: two rows of document 01, a row that is open, a refusal, and a year with a missing month,
+-- each as its bytes. Assumes nothing.
 use mathlib.Core.Path.{_≡_, refl}
 use mathlib.Core.List.{List, [], _∷_, _++_}
 use Prim.Native.Nat.{ℕ}
 use lib.IntN.{ℤ, pos, negsuc}
-use Rattle.rows.specs.Text.{digitsWithin, numeral, integer, letter, rowText, refusedText}
+use Rattle.rows.specs.Text.{digitsWithin, numeral, integer, letter, rowText, refusedText, monthText, monthsText, yearText}
 use Rattle.rows.specs.declared.Row.{Row}
 
 abbrev row : ℕ → ℤ → ℤ → ℤ → ℕ → ℤ → ℕ → Row
@@ -29,3 +29,8 @@ open-month = refl
 pub refused-line : refusedText 2 13 ≡ (114 ∷ 101 ∷ 102 ∷ 117 ∷ 115 ∷ 101 ∷ 100 ∷ 32 ∷ 50 ∷ 32 ∷ 49 ∷ 51 ∷ 10 ∷ [])
 unfolding digitsWithin numeral refusedText
 refused-line = refl
+
+-- "1895 1200 350 - 0 4110 10 20 30 40 50 60 70 11" and a line feed: March is missing, and in April no rain fell
+pub march-missing : yearText 1895 (1200 ∷ 350 ∷ 0 ∷ 0 ∷ 4110 ∷ 10 ∷ 20 ∷ 30 ∷ 40 ∷ 50 ∷ 60 ∷ 70 ∷ []) 4091 11 ≡ (49 ∷ 56 ∷ 57 ∷ 53 ∷ 32 ∷ 49 ∷ 50 ∷ 48 ∷ 48 ∷ 32 ∷ 51 ∷ 53 ∷ 48 ∷ 32 ∷ 45 ∷ 32 ∷ 48 ∷ 32 ∷ 52 ∷ 49 ∷ 49 ∷ 48 ∷ 32 ∷ 49 ∷ 48 ∷ 32 ∷ 50 ∷ 48 ∷ 32 ∷ 51 ∷ 48 ∷ 32 ∷ 52 ∷ 48 ∷ 32 ∷ 53 ∷ 48 ∷ 32 ∷ 54 ∷ 48 ∷ 32 ∷ 55 ∷ 48 ∷ 32 ∷ 49 ∷ 49 ∷ 10 ∷ [])
+unfolding digitsWithin numeral monthText monthsText yearText
+march-missing = refl

@@ -1,2 +1,2 @@
--- What the contracts of `rows` cite: a row and a refusal as text (Text).
+-- What the contracts of `rows` cite: a month's row, a refusal and a year's row as text (Text).
 pub mod Text

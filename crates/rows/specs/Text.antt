@@ -1,5 +1,5 @@
 -- Document 01, the program that "prints, at the end, month number, X1, X2, X3, percent, index, S or O", as "1 0 0 -1000 0 -1000 S": a row
--- as the list of its bytes. Assumes nothing.
+-- as the list of its bytes. So too the row of a year, which the program `division` prints. Assumes nothing.
 use Prim.Native.Nat.{ℕ, zero, suc, _+_, _/_, _%_}
 use mathlib.Core.Bool.{cond}
 use mathlib.Core.List.{List, [], _∷_, _++_}
@@ -47,6 +47,19 @@ refusedWord = 114 ∷ 101 ∷ 102 ∷ 117 ∷ 115 ∷ 101 ∷ 100 ∷ []
 unfoldable pub refusedText : ℕ → ℕ → List ℕ
 refusedText line number = refusedWord ++ (space ∷ numeral line) ++ (space ∷ numeral number) ++ (lineFeed ∷ [])
 
+-- a month's amount, or a dash where its bit of the set of months present is not 1
+unfoldable pub monthText : ℕ → ℕ → List ℕ
+monthText amount bit = cond (eqb bit 1) (numeral amount) (minusSign ∷ [])
+
+-- "twelve amounts or a dash": the lowest bit of the set tells of the first month
+unfoldable pub monthsText : List ℕ → ℕ → List ℕ
+monthsText [] set = []
+monthsText (a ∷ rest) set = (space ∷ monthText a (set % 2)) ++ monthsText rest (set / 2)
+
+-- "year, twelve amounts or a dash, months present"
+unfoldable pub yearText : ℕ → List ℕ → ℕ → ℕ → List ℕ
+yearText year amounts set count = numeral year ++ monthsText amounts set ++ (space ∷ numeral count) ++ (lineFeed ∷ [])
+
 -- a list in which the bytes from a place on are these, and all others as they were
 abbrev pub laid : List ℕ → ℕ → List ℕ → List ℕ
 laid text at out = take at out ++ text ++ drop (at + length text) out
@@ -54,3 +67,7 @@ laid text at out = take at out ++ text ++ drop (at + length text) out
 -- the bytes that a row can have: ten digits of a u32, and a sign with ten digits of an i32, so 10 + 12 + 12 + 12 + 11 + 12 + 3
 abbrev pub mostRow : ℕ
 mostRow = 72
+
+-- the bytes that a year's row can have: 10 + 12 * 11 + 11 + 1
+abbrev pub mostYear : ℕ
+mostYear = 154

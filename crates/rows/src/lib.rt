@@ -1,14 +1,15 @@
 // What the printing program prints: a month's row, as month number, X1, X2, X3, percent, index, S or O, or the one
-// line of a refusal.
+// line of a refusal. And what the program `division` prints: a year's row, as year, twelve amounts or a dash, months
+// present.
 //
-// `lay_out` and `lay_refusal` are for the printing program, which lends room enough.
+// `lay_out` and `lay_refusal` are for the printing program and `lay_year` for `division`; each lends room enough.
 
 ghost use mathlib.Core.Path.{_≡_};
-ghost use Prim.Native.Nat.{_+_, _≤_};
+ghost use Prim.Native.Nat.{_+_, _*_, _≤_};
 ghost use mathlib.Core.List.{[], _∷_};
 ghost use lib.ListN.{length};
 ghost use Rattle.text.specs.Bytes.{space, lineFeed};
-ghost use Rattle.rows.specs.Text.{numeral, integer, letter, rowText, refusedWord, refusedText, laid, mostRow};
+ghost use Rattle.rows.specs.Text.{numeral, integer, letter, rowText, refusedWord, refusedText, monthText, monthsText, yearText, laid, mostRow, mostYear};
 
 // A month's row.
 pub struct Row {
@@ -36,6 +37,9 @@ const LETTER_O: u8 = 79;
 const LETTER_S: u8 = 83;
 
 const SETTLED: u8 = 2;
+
+// The bit of a month that is present.
+const PRESENT: u32 = 1;
 
 // Puts one byte at `at`, and answers where it ends.
 fn put_byte(b: u8, at: usize, out: &mut [u8]) -> usize
@@ -163,4 +167,58 @@ pub fn lay_refusal(line: u32, number: u8, at: usize, out: &mut [u8]) -> usize
     let line_end = put_spaced_natural(line, word_end, out);
     let number_end = put_spaced_natural(number as u32, line_end, out);
     put_byte(LINE_FEED, number_end, out)
+}
+
+// Puts a space and a month's amount, or a dash where its bit says that the month is missing.
+fn put_month(amount: u32, bit: u32, at: usize, out: &mut [u8]) -> usize
+    requires { ⌜ at + 11 ≤ length (now out) ⌝ }
+    ensures { λ r. ⌜ r ≡ at + length (space ∷ monthText amount bit) ⌝ }
+    ensures { λ _. ⌜ now (out .exit) ≡ laid (space ∷ monthText amount bit) at (now (out .entry)) ⌝ }
+    ensures { λ r. ⌜ r ≤ at + 11 ⌝ }
+{
+    if bit == PRESENT {
+        return put_spaced_natural(amount, at, out);
+    }
+    let end = put_byte(SPACE, at, out);
+    put_byte(MINUS_SIGN, end, out)
+}
+
+// Puts each month's amount or its dash. The lowest bit of `present` is the first month's.
+fn put_months(amounts: &[u32], present: u32, at: usize, out: &mut [u8]) -> usize
+    requires { ⌜ at + 11 * length (now amounts) ≤ length (now out) ⌝ }
+    ensures { λ r. ⌜ r ≡ at + length (monthsText (now (amounts .entry)) present) ⌝ }
+    ensures { λ _. ⌜ now (out .exit) ≡ laid (monthsText (now (amounts .entry)) present) at (now (out .entry)) ⌝ }
+    ensures { λ r. ⌜ r ≤ at + 11 * length (now (amounts .entry)) ⌝ }
+{
+    let mut end = at;
+    let mut left = present;
+    let mut i = 0;
+    while i < amounts.len() {
+        end = put_month(amounts[i], left % 2, end, out);
+        left /= 2;
+        i += 1;
+    }
+    end
+}
+
+// Puts a year's row at `at`, and answers where it ends. For the program `division`, which lends the room: twelve
+// amounts make a row of at most 154 bytes.
+pub fn lay_year(
+    year: u32,
+    amounts: &[u32],
+    present: u32,
+    count: u32,
+    at: usize,
+    out: &mut [u8],
+) -> usize
+    requires { ⌜ length (now amounts) ≡ 12 ⌝ }
+    requires { ⌜ at + mostYear ≤ length (now out) ⌝ }
+    ensures { λ r. ⌜ r ≡ at + length (yearText year (now (amounts .entry)) present count) ⌝ }
+    ensures { λ r. ⌜ r ≤ at + mostYear ⌝ }
+    ensures { λ _. ⌜ now (out .exit) ≡ laid (yearText year (now (amounts .entry)) present count) at (now (out .entry)) ⌝ }
+{
+    let year_end = put_natural(year, at, out);
+    let months_end = put_months(amounts, present, year_end, out);
+    let count_end = put_spaced_natural(count, months_end, out);
+    put_byte(LINE_FEED, count_end, out)
 }
