@@ -4,18 +4,15 @@
 The lines are judged and the rows worked out here, by source_tables.py's reading of the outline. Each input is given
 whole and, through a pipe, in pieces that cut lines anywhere. It prints how many inputs were run.
 """
-import os
 import random
 import re
-import subprocess
 import sys
-import time
 
+import running
 import sample
 import source_tables as source
 
-TOP = os.path.join(os.path.dirname(os.path.abspath(__file__)), '..')
-COMMAND = [os.path.join(TOP, 'host', 'start'), os.path.join(TOP, 'target', 'bin', 'palmer')]
+COMMAND = running.command('palmer')
 
 
 def expected(data):
@@ -42,26 +39,6 @@ def judged(line):
     if len(digits) > 7 or int(digits) > 4000000:
         return 12, 0
     return 0, -int(digits) if line.startswith(b'-') else int(digits)
-
-
-def printed(data, pieces):
-    """What it prints, and nothing on standard error; its input comes in so many pieces."""
-    program = subprocess.Popen(COMMAND, stdin=subprocess.PIPE, stdout=subprocess.PIPE, stderr=subprocess.PIPE)
-    size = max(1, -(-len(data) // pieces))
-    try:
-        for at in range(0, len(data), size):
-            program.stdin.write(data[at:at + size])
-            program.stdin.flush()
-            if pieces > 1:
-                time.sleep(0.002)
-    except BrokenPipeError:
-        pass
-    try:
-        program.stdin.close()
-    except BrokenPipeError:
-        pass
-    out, err = program.stdout.read(), program.stderr.read()
-    return out.decode(), err.decode(), program.wait()
 
 
 def ordinary(count, seed):
@@ -150,8 +127,8 @@ def main():
             number = int(right.split()[2])
             refused[number] = refused.get(number, 0) + 1
         for pieces in (1, 7):
-            out, err, status = printed(data, pieces)
-            if (out, err, status) != (right, '', 0):
+            out, err, status = running.printed(COMMAND, data, pieces)
+            if (out, err, status) != (right.encode(), b'', 0):
                 sys.exit('program: %s, in %d pieces: status %d, %r; it should print %r' % (name, pieces, status, (out + err)[:200], right[:200]))
     counts = ', '.join('%d with %d' % (refused[k], k) for k in sorted(refused))
     print('program: %d inputs, each whole and in pieces, no difference; refused: %s' % (len(inputs), counts))
