@@ -47,7 +47,7 @@ pub struct Year {
 }
 
 // The number that a part's bytes make, if they are digits.
-enum Digits {
+pub enum Digits {
     Make(u32),
     Other,
 }
@@ -95,8 +95,8 @@ const ALL: u32 = 4_095;
 
 // ---- digits and spaces
 
-// The number that at most four digits make.
-fn number_of(part: &[u8]) -> Digits
+// The number that at most four digits make. For a sister crate too, which hands in no more.
+pub fn number_of(part: &[u8]) -> Digits
     requires { ⌜ length (now part) ≤ 4 ⌝ }
     ensures { λ r. ⌜ r ≡ digitsOf (now (part .entry)) ⌝ }
 {
@@ -113,12 +113,12 @@ fn number_of(part: &[u8]) -> Digits
     Digits::Make(n)
 }
 
-fn all_spaces(part: &[u8]) -> bool
-    ensures { λ r. ⌜ r ≡ allSpaces (now (part .entry)) ⌝ }
+fn all_spaces(rest: &[u8]) -> bool
+    ensures { λ r. ⌜ r ≡ allSpaces (now (rest .entry)) ⌝ }
 {
     let mut i = 0;
-    while i < part.len() {
-        if part[i] != b' ' {
+    while i < rest.len() {
+        if rest[i] != b' ' {
             return false;
         }
         i += 1;

@@ -24,7 +24,7 @@ shared-slice-read-if1 c = omega arith
 returns : tie.Need-returns Inv-loop μ-loop
 returns c =
     let a = c .before .before in
-    let s = a .before .before .args .part .now in
+    let s = a .before .before .args .rest .now in
     sym (space-off s (a .before .loop .i) (a .loop-test .taken) (c .if1 .taken)) ∙ a .before .loop .inv .1
 
 add-i : tie.Need-add-i Inv-loop μ-loop
@@ -36,13 +36,13 @@ loop-less c = omega arith
 loop-again : tie.Need-loop-again Inv-loop μ-loop
 loop-again c =
     let a = c .before .before in
-    let s = a .before .before .args .part .now in
+    let s = a .before .before .args .rest .now in
     (omega arith, sym (space-on s (a .before .loop .i) (a .loop-test .taken) (c .if1 .left)) ∙ a .before .loop .inv .1)
 
 returns-2 : tie.Need-returns-2 Inv-loop μ-loop
 returns-2 c =
     let a = c .before in
-    sym (spaces-end (a .before .args .part .now) (a .loop .i) (c .loop-test .left)) ∙ a .loop .inv .1
+    sym (spaces-end (a .before .args .rest .now) (a .loop .i) (c .loop-test .left)) ∙ a .loop .inv .1
 
 pub all-spaces-spec : {M : Type 1} → statement M
 all-spaces-spec = tie.close (tie.spec Inv-loop μ-loop loop-holds shared-slice-read-if1 returns add-i loop-less loop-again returns-2)

@@ -1,0 +1,205 @@
+// The program: a division file from standard input, and for the state and the division that its two arguments name a
+// row a year, as year, twelve amounts in thousandths of an inch or a dash, months present. Where the reading stops,
+// only which line was refused and why. `century` reads, `layout` judges a line, `rows` lays out; here bytes are only
+// moved, and a refusal is put in words.
+use century::Session;
+use layout::Digits;
+use libc::STDERR_FILENO;
+use libc::STDIN_FILENO;
+use libc::STDOUT_FILENO;
+ghost use Prim.Native.Nat.{_≤_, _<_};
+ghost use Rattle.century.specs.Century.{Held};
+
+// What `century` asks to be lent: a line's first bytes, and the rows of the years 0 to 9999.
+const KEPT: usize = 95;
+
+const ROOM: usize = 1_540_000;
+
+const MOST_ROW: usize = 72;
+
+// The program's name and its two arguments.
+const WORDS: usize = 3;
+
+// The refusals.
+const ANOTHER: u8 = 15;
+
+const NOT_THE_YEAR: u8 = 16;
+
+// What has been read: how many reads may follow (0: the input has ended or a line is refused), whether a read failed,
+// and the session.
+struct Heard {
+    left: u64,
+    failed: bool,
+    session: Session,
+}
+
+// Reads once, with so many reads left.
+fn read_some(
+    left: u64,
+    session: Session,
+    buffer: &mut [u8],
+    line: &mut [u8],
+    out: &mut [u8],
+) -> Heard
+    requires { ⌜ 0 < left ⌝ }
+    requires { ⌜ Held session (now line) (now out) ⌝ }
+    ensures { λ h. ⌜ h .left < left ⌝ }
+    ensures { λ h. ⌜ Held (h .session) (now (line .exit)) (now (out .exit)) ⌝ }
+{
+    let got = libc::read(STDIN_FILENO, buffer);
+    let n = io::count(got, buffer);
+    if n == 0 {
+        return Heard {
+            left: 0,
+            failed: got < 0,
+            session,
+        };
+    }
+    let next = century::take(session, &buffer[..n], line, out);
+    Heard {
+        left: if next.refused == 0 { left - 1 } else { 0 },
+        failed: false,
+        session: next,
+    }
+}
+
+// Reads until the input ends or a line is refused. A proved loop has to end and an input need not, so the reads are
+// counted down from a number that no run uses up.
+fn read_all(session: Session, buffer: &mut [u8], line: &mut [u8], out: &mut [u8]) -> Heard
+    requires { ⌜ Held session (now line) (now out) ⌝ }
+    ensures { λ h. ⌜ Held (h .session) (now (line .exit)) (now (out .exit)) ⌝ }
+{
+    let mut heard = Heard {
+        left: u64::MAX,
+        failed: false,
+        session,
+    };
+    while heard.left > 0 {
+        let s = heard.session;
+        heard = read_some(heard.left, s, buffer, line, out);
+    }
+    heard
+}
+
+fn say(text: &[u8]) {
+    io::write_all(STDERR_FILENO, text);
+}
+
+fn say_number(n: u32) {
+    io::print_decimal(STDERR_FILENO, n as u64);
+}
+
+// 14: where the line is at fault.
+fn explain_line(lines: u32, column: u32) {
+    say(b"division: line ");
+    say_number(lines);
+    say(b", column ");
+    say_number(column);
+    say(b": not the layout, or precipitation that is neither -9.99 nor 0 to 100 inches\n");
+}
+
+// 15: no line was of the state and the division.
+fn explain_none(lines: u32, state: u32, division: u32) {
+    say(b"division: no line up to line ");
+    say_number(lines);
+    say(b" is precipitation of state ");
+    say_number(state);
+    say(b", division ");
+    say_number(division);
+    say(b"\n");
+}
+
+// 16: the years do not follow one another.
+fn explain_year(lines: u32, year: u32, next: u32) {
+    say(b"division: line ");
+    say_number(lines);
+    say(b": the year is ");
+    say_number(year);
+    say(b", and ");
+    say_number(next);
+    say(b" was to follow\n");
+}
+
+// Says in words why the reading stopped; the line that stopped it is still kept.
+fn explain(s: Session, line: &[u8])
+    requires { ⌜ s .kept ≤ length (now line) ⌝ }
+{
+    let kept = s.kept;
+    let number = s.refused;
+    if number == ANOTHER {
+        explain_none(s.lines, s.state, s.division);
+        return;
+    }
+    if number == NOT_THE_YEAR {
+        explain_year(s.lines, layout::year_of(&line[..kept]), s.next);
+        return;
+    }
+    explain_line(s.lines, layout::fault(&line[..kept]));
+}
+
+// Writes which line was refused, and why.
+fn print_refusal(lines: u32, number: u8) {
+    let mut text = [0u8; MOST_ROW];
+    let end = rows::lay_refusal(lines, number, 0, &mut text);
+    io::write_all(STDOUT_FILENO, &text[..end]);
+}
+
+// Reads the input and writes what comes of it.
+fn run(session: Session, buffer: &mut [u8], line: &mut [u8], out: &mut [u8])
+    requires { ⌜ Held session (now line) (now out) ⌝ }
+{
+    let heard = read_all(session, buffer, line, out);
+    if heard.failed {
+        say(b"division: the input cannot be read\n");
+        return;
+    }
+    let read = heard.session;
+    let s = century::finish(read, line, out);
+    let number = s.refused;
+    if number != 0 {
+        print_refusal(s.lines, number);
+        explain(s, line);
+        return;
+    }
+    let end = s.end;
+    io::write_all(STDOUT_FILENO, &out[..end]);
+}
+
+// An argument as a state or a division.
+fn argument(i: usize) -> Digits {
+    let mut text = [0u8; 8];
+    let n = os::arg(i, &mut text);
+    century::named(&text[..n])
+}
+
+fn usage() {
+    say(
+        b"usage: division STATE DIVISION <FILE, each of one or two digits, as: division 14 07 <FILE\n",
+    );
+}
+
+fn main() {
+    if os::arg_count() != WORDS {
+        usage();
+        return;
+    }
+    let first = argument(1);
+    let Digits::Make(state) = first else {
+        usage();
+        return;
+    };
+    let second = argument(2);
+    let Digits::Make(division) = second else {
+        usage();
+        return;
+    };
+    let mut buffer = io::large_buffer();
+    let mut line = [0u8; KEPT];
+    let mut out = [0u8; ROOM];
+    run(
+        century::begin(state, division),
+        &mut buffer,
+        &mut line,
+        &mut out,
+    );
+}
