@@ -168,10 +168,9 @@ unfolding lastClosed
 held-last s line out h =
     unrefused-so (HeldBy line) (s .refused) (closed s out) _ h (cond-so (HeldBy line) (eqb (s .kept) 0) (closed s out) _ h (held-closed s line out h))
 
-same-end : (s : Session) → noneFound s .end ≡ s .end
-unfolding noneFound
-same-end s = cond-so (λ u. u .end ≡ s .end) (eqb (s .refused) 0 && eqb (s .next) 0) (withRefusal s another) s refl refl
-
-pub held-ended : (s : Session) (line out : List ℕ) → Held s line out → inputEnded s line out .session .end ≤ 1540000
-unfolding inputEnded
-held-ended s line out h = let l = held-last s line out h in omega (arith, same-end (lastClosed s line out .session))
+pub held-ended : (s : Session) (line out : List ℕ) → Held s line out → HeldBy line (inputEnded s line out)
+unfolding inputEnded noneFound
+held-ended s line out h =
+    let u = lastClosed s line out .session in
+    let l = held-last s line out h in
+    cond-so (λ (v : Session). Held v line (lastClosed s line out .out)) (eqb (u .refused) 0 && eqb (u .next) 0) (withRefusal u another) u l l

@@ -261,7 +261,7 @@ fn none_found(s: Session) -> Session
 pub fn finish(s: Session, line: &[u8], out: &mut [u8]) -> Session
     requires { ⌜ Held s (now line) (now out) ⌝ }
     ensures { λ r. ⌜ closed r (now (out .exit)) ≡ inputEnded s (now (line .entry)) (now (out .entry)) ⌝ }
-    ensures { λ r. ⌜ r .end ≤ 1540000 ⌝ }
+    ensures { λ r. ⌜ Held r (now (line .entry)) (now (out .exit)) ⌝ }
 {
     let last = close_last(s, line, out);
     none_found(last)

@@ -8,6 +8,8 @@ use libc::STDERR_FILENO;
 use libc::STDIN_FILENO;
 use libc::STDOUT_FILENO;
 ghost use Prim.Native.Nat.{_≤_, _<_};
+ghost use mathlib.Core.Path.{_≡_};
+ghost use lib.ListN.{length};
 ghost use Rattle.century.specs.Century.{Held};
 
 // What `century` asks to be lent: a line's first bytes, and the rows of the years 0 to 9999.
@@ -134,7 +136,7 @@ fn explain(s: Session, line: &[u8])
         explain_year(s.lines, layout::year_of(&line[..kept]), s.next);
         return;
     }
-    explain_line(s.lines, layout::fault(&line[..kept]));
+    explain_line(s.lines, layout::year_of(&line[..kept]));
 }
 
 // Writes which line was refused, and why.
@@ -145,7 +147,7 @@ fn print_refusal(lines: u32, number: u8) {
 }
 
 // Reads the input and writes what comes of it.
-fn run(session: Session, buffer: &mut [u8], line: &mut [u8], out: &mut [u8])
+fn run_with(session: Session, buffer: &mut [u8], line: &mut [u8], out: &mut [u8])
     requires { ⌜ Held session (now line) (now out) ⌝ }
 {
     let heard = read_all(session, buffer, line, out);
@@ -173,8 +175,26 @@ fn argument(i: usize) -> Digits {
 }
 
 fn usage() {
-    say(
-        b"usage: division STATE DIVISION <FILE, each of one or two digits, as: division 14 07 <FILE\n",
+    say(b"usage: division STATE DIVISION <FILE, each of one or two digits, as 14 07\n");
+}
+
+// Room for the rows. Its `ensures` gives only the length, which lending it needs.
+fn make_room() -> [u8; ROOM]
+    ensures { λ r. ⌜ 1540000 ≡ length r ⌝ }
+{
+    [0; ROOM]
+}
+
+// Reads and writes with what it lends.
+fn run(state: u32, division: u32) {
+    let mut buffer = io::large_buffer();
+    let mut line = [0u8; KEPT];
+    let mut out = make_room();
+    run_with(
+        century::begin(state, division),
+        &mut buffer,
+        &mut line,
+        &mut out,
     );
 }
 
@@ -193,13 +213,5 @@ fn main() {
         usage();
         return;
     };
-    let mut buffer = io::large_buffer();
-    let mut line = [0u8; KEPT];
-    let mut out = [0u8; ROOM];
-    run(
-        century::begin(state, division),
-        &mut buffer,
-        &mut line,
-        &mut out,
-    );
+    run(state, division);
 }

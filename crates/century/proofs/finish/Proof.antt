@@ -1,8 +1,8 @@
 -- `century::finish`: the last line is closed, and 15 told where none was taken. Assumes nothing.
 use borrow.Author.Needs.{needs}
-use mathlib.Core.Path.{_≡_, sym, ap, ap₂, _∙_}
+use mathlib.Core.Path.{_≡_, sym, ap, ap₂, subst, _∙_}
 use Rattle.century.specs.Century.{Closed, closed, noneFound, inputEnded}
-use Rattle.century.proofs.Room.{held-ended}
+use Rattle.century.proofs.Room.{HeldBy, held-ended}
 use Rattle.century.proofs.finish.Statement.{statement}
 use Rattle.century.proofs.finish.Tie as tie
 
@@ -21,7 +21,7 @@ returns c =
     let w = c .before .before .before in
     let a = w .before .before .before .before in
     let e : closed (c .none-found .result) _ ≡ inputEnded (a .args .s) (a .args .line .now) (a .args .out .now) = ap₂ closed (c .none-found .ensures ∙ ap (λ (x : Closed). noneFound (x .session)) (w .close-last .ensures)) (ap (λ (x : Closed). x .out) (w .close-last .ensures)) in
-    (e, rw (ap (λ (x : Closed). x .session .end) e) (held-ended (a .args .s) (a .args .line .now) (a .args .out .now) (a .pre)))
+    (e, subst (HeldBy (a .args .line .now)) (sym e) (held-ended (a .args .s) (a .args .line .now) (a .args .out .now) (a .pre)))
 
 pub finish-spec : {M : Type 1} → statement M
 finish-spec = tie.close (tie.spec close-last-requires none-found-requires same-length returns)

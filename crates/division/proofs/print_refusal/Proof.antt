@@ -1,0 +1,35 @@
+-- `division::print_refusal` is safe and ends. Assumes nothing.
+use mathlib.Core.Path.{sym}
+use lib.Seq.{length-take-le}
+use borrow.Author.Needs.{needs}
+use Rattle.division.proofs.print_refusal.Statement.{statement}
+use Rattle.division.proofs.print_refusal.Tie as tie
+
+slice-aggregate-lay-refusal : tie.Need-slice-aggregate-lay-refusal
+slice-aggregate-lay-refusal c = search needs
+
+lay-refusal-requires : tie.Need-lay-refusal-requires
+lay-refusal-requires c κs = search needs
+
+array-share-prefix-text : tie.Need-array-share-prefix-text
+array-share-prefix-text c = search needs
+
+slice-aggregate-write-all : tie.Need-slice-aggregate-write-all
+slice-aggregate-write-all c = sym (length-take-le _ _ (search needs))
+
+write-all-requires : tie.Need-write-all-requires
+write-all-requires c κs = search needs
+
+returns : tie.Need-returns
+returns c = search needs
+
+pub print-refusal-spec : {M : Type 1} → statement M
+print-refusal-spec =
+    tie.close
+    (tie.spec
+    slice-aggregate-lay-refusal
+    lay-refusal-requires
+    array-share-prefix-text
+    slice-aggregate-write-all
+    write-all-requires
+    returns)

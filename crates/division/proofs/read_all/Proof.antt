@@ -1,0 +1,60 @@
+-- `division::read_all` is safe and ends: the reads that are left are counted down, and what is held is held after each. Assumes nothing.
+use mathlib.Core.Path.{_≡_, refl, _∙_}
+use native.Mathlib.Omega.{arith}
+use lib.ListN.{length}
+use Rattle.century.specs.Century.{Held}
+use Rattle.division.proofs.read_all.Statement.{statement}
+use Rattle.division.proofs.read_all.Tie as tie
+
+abbrev Inv-loop : tie.InvT-loop
+Inv-loop buffer₀ line₀ out₀ heard₀ buffer line out heard =
+    (length buffer ≡ length buffer₀) × (length line ≡ length line₀) × (length out ≡ length out₀) × Held (heard .session) line out
+
+abbrev μ-loop : tie.MeasureT-loop
+μ-loop buffer₀ line₀ out₀ heard₀ buffer line out heard = heard .left
+
+loop-holds : tie.Need-loop-holds Inv-loop μ-loop
+loop-holds c = (refl, refl, refl, c .before .before .before .pre)
+
+read-some-requires : tie.Need-read-some-requires Inv-loop μ-loop
+read-some-requires c κs = (omega arith, c .before .before .before .before .before .before .loop .inv .3)
+
+loop-less : tie.Need-loop-less Inv-loop μ-loop
+loop-less c = (c .before .before .before .before .before .before) .read-some .ensures .0
+
+loop-again : tie.Need-loop-again Inv-loop μ-loop
+loop-again c =
+    let r = c .before .before .before .before .before .before in
+    let v = (r .before .before .before .before .before .before .before) .loop .inv in (
+      r .read-some .kept .1 .1 .0 ∙ v .0,
+      r .read-some .kept .1 .1 .1 .0 ∙ v .1,
+      r .read-some .kept .1 .1 .1 .1 .0 ∙ v .2,
+      r .read-some .ensures .1,
+    )
+
+same-length : tie.Need-same-length Inv-loop μ-loop
+same-length c = c .before .before .loop .inv .0
+
+same-length-2 : tie.Need-same-length-2 Inv-loop μ-loop
+same-length-2 c = c .before .before .loop .inv .1
+
+same-length-3 : tie.Need-same-length-3 Inv-loop μ-loop
+same-length-3 c = c .before .before .loop .inv .2
+
+returns : tie.Need-returns Inv-loop μ-loop
+returns c = c .before .before .loop .inv .3
+
+pub read-all-spec : {M : Type 1} → statement M
+read-all-spec =
+    tie.close
+    (tie.spec
+    Inv-loop
+    μ-loop
+    loop-holds
+    read-some-requires
+    loop-less
+    loop-again
+    same-length
+    same-length-2
+    same-length-3
+    returns)
