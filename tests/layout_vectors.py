@@ -4,7 +4,7 @@
   layout_vectors.py                              says whether the stored files are what this program makes
   layout_vectors.py --write                      writes them: crates/layout_vectors/stdin and crates/layout_vectors/stdout
   layout_vectors.py --names                      prints each case's number in the files, its name and its refusal
-  layout_vectors.py --more N SEED STDIN STDOUT   writes N more cases, drawn from the seed, to these two files
+  layout_vectors.py --more N SEED                runs N more cases, drawn from the seed, through the program and compares
 
 A line of stdin: state, division and year asked for, in two, two and four digits, then '|', then the line as it is. A
 line of stdout: the refusal or 0, twelve amounts in thousandths, the set of months present, how many they are, the
@@ -16,10 +16,13 @@ from collections import Counter
 from itertools import combinations
 
 import layout_reader
+import running
 from division_file import Draw, value
 
 FOLDER = os.path.join(os.path.dirname(os.path.abspath(__file__)), '..', 'crates', 'layout_vectors')
 SEED, DRAWN, MORE = 1895, 200, 160
+# the program has room for 262,144 bytes
+AT_ONCE = 500
 
 # the line that is damaged: state 01, division 01, precipitation, 1895
 HEAD = b'0101011895'
@@ -340,29 +343,42 @@ def summary(made):
     return '%d vectors, %d bytes; answered: %s' % (sum(counts.values()), len(given), ', '.join('%d with %d' % (counts[k], k) for k in sorted(counts)))
 
 
+def run(vectors):
+    """Gives them to the program, which takes so many at a time, and compares."""
+    for at in range(0, len(vectors), AT_ONCE):
+        given, answers = files(vectors[at:at + AT_ONCE])
+        out, errors, status = running.printed(running.command('layout_vectors'), given, 1)
+        if (out, errors, status) != (answers, b'', 0):
+            for (name, asked, text), said, wanted in zip(vectors[at:], out.splitlines(), answers.splitlines()):
+                if said != wanted:
+                    sys.exit('layout_vectors: %s, asked for %s, %r: it answers %r, and not %r' % (name, asked, text, said, wanted))
+            sys.exit('layout_vectors: other answers than lines, or something on standard error: %r' % errors)
+
+
 def main():
     given = sys.argv[1:]
-    if given[:1] == ['--more'] and len(given) == 5:
-        made = files(list(more(int(given[1]), int(given[2]))))
-        paths = given[3:]
-    elif given in ([], ['--write'], ['--names']):
-        vectors = list(cases())
-        made = files(vectors)
-        paths = [os.path.join(FOLDER, name) for name in ('stdin', 'stdout')]
-    else:
-        sys.exit('layout_vectors.py [--write | --names | --more N SEED STDIN STDOUT]')
+    if given[:1] == ['--more'] and len(given) == 3:
+        vectors = list(more(int(given[1]), int(given[2])))
+        run(vectors)
+        print(summary(files(vectors)) + '; no difference')
+        return
+    if given not in ([], ['--write'], ['--names']):
+        sys.exit('layout_vectors.py [--write | --names | --more N SEED]')
+    vectors = list(cases())
     if given == ['--names']:
         for number, (name, asked, text) in enumerate(vectors, 1):
             print('%d: %s: %d' % (number, name, layout_reader.read(text, *asked).number))
         return
-    for path, data in zip(paths, made):
+    made = files(vectors)
+    for name, data in zip(('stdin', 'stdout'), made):
+        path = os.path.join(FOLDER, name)
         if given:
             with open(path, 'wb') as f:
                 f.write(data)
         else:
             with open(path, 'rb') as f:
                 if f.read() != data:
-                    sys.exit('layout_vectors: %s is not what this program makes' % os.path.basename(path))
+                    sys.exit('layout_vectors: %s is not what this program makes' % name)
     print(summary(made))
 
 

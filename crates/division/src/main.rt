@@ -22,6 +22,13 @@ const MOST_ROW: usize = 72;
 // The program's name and its two arguments.
 const WORDS: usize = 3;
 
+// The layout: where the first value begins, the last one ends, and what comes after it.
+const FIRST_VALUE: u32 = 11;
+
+const LAST_COLUMN: usize = 94;
+
+const AFTER_VALUES: u32 = 95;
+
 // The refusals.
 const ANOTHER: u8 = 15;
 
@@ -91,13 +98,37 @@ fn say_number(n: u32) {
     io::print_decimal(STDERR_FILENO, n as u64);
 }
 
-// 14: where the line is at fault.
-fn explain_line(lines: u32, column: u32) {
-    say(b"division: line ");
-    say_number(lines);
+// 14, of a line that is too short.
+fn explain_end(kept: u32) {
+    say(b": it ends after column ");
+    say_number(kept);
+    say(b", and the layout has 94\n");
+}
+
+// 14, of the first field at fault, which begins at a column.
+fn explain_field(column: u32) {
     say(b", column ");
     say_number(column);
-    say(b": not the layout, or precipitation that is neither -9.99 nor 0 to 100 inches\n");
+    if column < FIRST_VALUE {
+        say(b": no digits\n");
+        return;
+    }
+    if column < AFTER_VALUES {
+        say(b": neither -9.99 nor precipitation of 0.00 to 100.00 inches, as the layout has it\n");
+        return;
+    }
+    say(b": something after the last value that is no space\n");
+}
+
+// 14: where a line is at fault.
+fn explain_line(lines: u32, line: &[u8]) {
+    say(b"division: line ");
+    say_number(lines);
+    if line.len() < LAST_COLUMN {
+        explain_end(line.len() as u32);
+        return;
+    }
+    explain_field(layout::fault(line));
 }
 
 // 15: no line was of the state and the division.
@@ -136,7 +167,7 @@ fn explain(s: Session, line: &[u8])
         explain_year(s.lines, layout::year_of(&line[..kept]), s.next);
         return;
     }
-    explain_line(s.lines, layout::year_of(&line[..kept]));
+    explain_line(s.lines, &line[..kept]);
 }
 
 // Writes which line was refused, and why.

@@ -1,10 +1,12 @@
--- What the proofs share: a part of a line looked through byte by byte (Parts), the number that digits make (Naturals), fields (Fields), sets of months (Sets),
--- months (Months) and refusals (Refusals). What is proved of the reader beside its promises: any two answers are the same (OneAnswer), and worked lines (Worked).
+-- What the proofs share: a part of a line looked through byte by byte (Parts), the number that digits make (Naturals), fields (Fields), sets
+-- of months (Sets), months (Months) and refusals (Refusals). What is proved of the reader beside its promises: each refusal is given exactly
+-- where the document says, and no missing month is filled in (Exactly), any two answers are the same (OneAnswer), and worked lines (Worked).
 pub mod Parts
 pub mod Naturals
 pub mod Fields
 pub mod Sets
 pub mod Months
 pub mod Refusals
+pub mod Exactly
 pub mod OneAnswer
 pub mod Worked

@@ -32,7 +32,7 @@ set-same [] = refl
 set-same (b ∷ bs) = omega (arith, set-same bs)
 
 -- ---- its ones
-first-rest : (b : Bool) (s : ℕ) → ((bit b + 2 * s) % 2 ≡ bit b) × ((bit b + 2 * s) / 2 ≡ s)
+pub first-rest : (b : Bool) (s : ℕ) → ((bit b + 2 * s) % 2 ≡ bit b) × ((bit b + 2 * s) / 2 ≡ s)
 first-rest true s = (omega arith, omega arith)
 first-rest false s = (omega arith, omega arith)
 
