@@ -2,3 +2,5 @@
 -- beside its promises: the bytes kept of a line tell all that the line tells (Kept), and the reading is by lines (ByLines).
 pub mod Closing
 pub mod Room
+pub mod Kept
+pub mod ByLines

@@ -17,7 +17,6 @@ use Rattle.layout.specs.declared.Field.{Field}
 use Rattle.layout.specs.declared.Field.the-variants as field
 use Rattle.layout.specs.declared.Month.{Month}
 use Rattle.layout.specs.declared.Month.the-variants.{Amount, Missing, Outside}
-use Rattle.layout.specs.declared.Year.{Year}
 use Rattle.layout.proofs.Naturals.{natural-small}
 use Rattle.layout.proofs.Months.{months-twelve}
 use Rattle.rows.specs.Text.{numeral, monthText, monthsText, yearText, laid}
@@ -82,8 +81,7 @@ month-short f bit =
 months-short : (fs : List (List ℕ)) (set : ℕ) → length (monthsText (map amountOf (map monthOf fs)) set) ≤ 11 * length fs
 unfolding monthsText
 months-short [] set = omega arith
-months-short (f ∷ fs) set =
-    rw length-append (omega (arith, month-short f (set % 2), months-short fs (set / 2)))
+months-short (f ∷ fs) set = rw length-append (omega (arith, month-short f (set % 2), months-short fs (set / 2)))
 
 count-short : (bs : List Bool) → countOf bs ≤ length bs
 unfolding countOf
@@ -134,7 +132,7 @@ module _ (s : Session) (line out : List ℕ) (h : Held s line out) where
       let taken = sym (answered-number _ _ _ _) ∙ e in
       let year = yearSaid (read s line) (s .state) (s .division) (yearFor s line) in
       let short = row-short _ _ _ _ taken in
-      let room = room-for-row taken in
+      let left = room-for-row taken in
       omega (arith, accepted-year _ _ _ _ taken, follows (s .next) (read s line), laid-length (rowText year (yearFor s line)) (s .end) out (omega arith))
   closed-by (suc k) e = cond-so (HeldBy line) (eqb (suc k) another) _ _ (omega arith) (omega arith)
 
@@ -143,12 +141,23 @@ module _ (s : Session) (line out : List ℕ) (h : Held s line out) where
   held-closed = closed-by (yearSaid (read s line) (s .state) (s .division) (yearFor s line) .number) refl
 
 -- ---- whatever comes
-kept-by : (kept b : ℕ) (t : Bool) → leb kept 94 ≡ t → kept ≤ 95 → keptCount kept b ≤ 95
-unfolding keptCount isKept
-kept-by kept b true e h = let l = leb-true kept 94 e in cond-so (λ n. n ≤ 95) (isKept kept b) (kept + 1) kept (omega arith) (omega arith)
-kept-by kept b false e h = let l = leb-false kept 94 e in rw (le-ltb kept 94 (omega arith), ne-eqb kept 94 (λ f. omega arith)) h
+within-by : (kept b : ℕ) (t : Bool) → leb kept 94 ≡ t → isKept kept b ≡ true → kept < 95
+unfolding isKept
+within-by kept b true e h = omega (arith, leb-true kept 94 e)
+within-by kept b false e h =
+    let l = leb-false kept 94 e in
+    absurd (apart (rw (le-ltb kept 94 (omega arith), ne-eqb kept 94 (λ f. omega arith)) at h))
 
-pub length-kept : (kept b : ℕ) (line : List ℕ) → length (keptLine kept b line) ≡ length line
+-- a byte is kept within the line's buffer
+pub kept-within : (kept b : ℕ) → isKept kept b ≡ true → kept < 95
+kept-within kept b = within-by kept b _ refl
+
+count-by : (kept b : ℕ) (t : Bool) → isKept kept b ≡ t → kept ≤ 95 → keptCount kept b ≤ 95
+unfolding keptCount
+count-by kept b true e h = rw e (omega (arith, kept-within kept b e))
+count-by kept b false e h = rw e h
+
+length-kept : (kept b : ℕ) (line : List ℕ) → length (keptLine kept b line) ≡ length line
 unfolding keptLine
 length-kept kept b line = cond-so (λ l. length l ≡ length line) (isKept kept b) (set line kept b) line (length-set line kept b) refl
 
@@ -157,7 +166,7 @@ unfolding byteFed
 held-byte t b h =
     let kept = t .session .kept in
     unrefused-so HeldIn (t .session .refused) t _ h
-    (cond-so HeldIn (eqb b lineFeed) _ (byteKept t b) (held-closed _ (t .line) _ h) (omega (arith, kept-by kept b _ refl (h .0), length-kept kept b (t .line))))
+    (cond-so HeldIn (eqb b lineFeed) _ (byteKept t b) (held-closed _ (t .line) _ h) (omega (arith, count-by kept b _ refl (h .0), length-kept kept b (t .line))))
 
 pub held-bytes : (t : State) (bs : List ℕ) → HeldIn t → HeldIn (foldl byteFed t bs)
 held-bytes t [] h = h
