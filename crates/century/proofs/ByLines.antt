@@ -177,7 +177,7 @@ module _ (s d : ℕ) where
       let t = within s d m line out come in
       rw e
       (fed-first m t b rest (come ∷ cut [] rest) (byte-closes t b (within-refused m z line out l r come) e)
-        (starting rest coming (lineMade s d m come) _ (t .line) (within-closed m z line out l r come) (kept-same (between s d m 0) line out come l .5) _ refl))
+      (starting rest coming (lineMade s d m come) _ (t .line) (within-closed m z line out l r come) (kept-same (between s d m 0) line out come l .5) _ refl))
   followed b rest false e coming m z line out l r come =
       rw e (fed-first m (within s d m line out come) b rest (cut (come ++ b ∷ []) rest) (one-more m z line out l r come b e) (coming m z line out l r (come ++ b ∷ [])))
 

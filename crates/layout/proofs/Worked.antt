@@ -13,7 +13,7 @@ use Rattle.layout.specs.declared.Month.{Month}
 use Rattle.layout.specs.declared.Month.the-variants.{Amount, Missing, Outside, Malformed}
 use Rattle.layout.specs.declared.Year.{Year}
 
-abbrev published : List ℕ
+abbrev pub published : List ℕ
 published = 48 ∷ 49 ∷ 48 ∷ 49 ∷ 48 ∷ 49 ∷ 49 ∷ 56 ∷ 57 ∷ 53 ∷ 32 ∷ 32 ∷ 32 ∷ 55 ∷ 46 ∷ 48 ∷ 51 ∷ 32 ∷ 32 ∷ 32 ∷ 50 ∷ 46 ∷ 57 ∷ 54 ∷ 32 ∷ 32 ∷ 32 ∷ 56 ∷ 46 ∷ 51 ∷ 54 ∷ 32 ∷ 32 ∷ 32 ∷ 51 ∷ 46 ∷ 53 ∷ 51 ∷ 32 ∷ 32 ∷ 32 ∷ 51 ∷ 46 ∷ 57 ∷ 54 ∷ 32 ∷ 32 ∷ 32 ∷ 53 ∷ 46 ∷ 52 ∷ 48 ∷ 32 ∷ 32 ∷ 32 ∷ 51 ∷ 46 ∷ 57 ∷ 50 ∷ 32 ∷ 32 ∷ 32 ∷ 51 ∷ 46 ∷ 51 ∷ 54 ∷ 32 ∷ 32 ∷ 32 ∷ 48 ∷ 46 ∷ 55 ∷ 51 ∷ 32 ∷ 32 ∷ 32 ∷ 50 ∷ 46 ∷ 48 ∷ 51 ∷ 32 ∷ 32 ∷ 32 ∷ 49 ∷ 46 ∷ 52 ∷ 52 ∷ 32 ∷ 32 ∷ 32 ∷ 51 ∷ 46 ∷ 54 ∷ 54 ∷ 32 ∷ 32 ∷ 32 ∷ 32 ∷ []
 
 -- for state 1, division 1, 1895

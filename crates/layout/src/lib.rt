@@ -12,6 +12,7 @@ ghost use Rattle.text.specs.Bytes.{allSpaces, negative, body};
 ghost use Rattle.layout.specs.Field.{unpadded, plain, fieldOf};
 ghost use Rattle.layout.specs.Rainfall.{rainOf, monthOf, monthsOf, amountOf, refusal, yearSaid, yearOf};
 ghost use Rattle.layout.specs.Rainfall.{refused as refusedYear};
+ghost use Rattle.layout.specs.Fault.{badMonth, firstBad, headingFault, faultOf};
 ghost use Rattle.layout.specs.Steps.{digitsOf, andMonth, foundIn, headingOf, headingRefusal, rainRefusal, lowestMissing};
 
 // What a value's seven characters say: whether there is a minus, and the hundredths.
@@ -432,4 +433,81 @@ pub fn year_of(line: &[u8]) -> u32
         return 0;
     };
     year
+}
+
+// ---- where a line is at fault
+
+// Whether a month makes a line 14, which is a precipitation line if `rain` says so.
+fn bad_month(rain: bool, month: Month) -> bool
+    ensures { λ r. ⌜ r ≡ badMonth rain month ⌝ }
+{
+    match month {
+        Month::Amount(_) => false,
+        Month::Missing => false,
+        Month::Outside => rain,
+        Month::Malformed => true,
+    }
+}
+
+// The column where the first month at fault begins, or 0.
+fn months_fault(line: &[u8], rain: bool) -> u32
+    requires { ⌜ 94 ≤ length (now line) ⌝ }
+    ensures { λ r. ⌜ r ≡ firstBad rain 11 (monthsOf (now (line .entry))) ⌝ }
+{
+    let mut m = 0;
+    while m < MONTHS {
+        let at = HEADING + WIDTH * m;
+        let month = read_month(&line[at..at + WIDTH]);
+        if bad_month(rain, month) {
+            return at as u32 + 1;
+        }
+        m += 1;
+    }
+    0
+}
+
+// The column where the first part of the heading at fault begins, or 0.
+fn heading_fault(line: &[u8]) -> u32
+    requires { ⌜ 94 ≤ length (now line) ⌝ }
+    ensures { λ r. ⌜ r ≡ headingFault (now (line .entry)) ⌝ }
+{
+    let first = number_of(&line[0..2]);
+    let Digits::Make(_) = first else {
+        return 1;
+    };
+    let second = number_of(&line[2..4]);
+    let Digits::Make(_) = second else {
+        return 3;
+    };
+    let third = number_of(&line[4..6]);
+    let Digits::Make(_) = third else {
+        return 5;
+    };
+    let fourth = number_of(&line[6..10]);
+    let Digits::Make(_) = fourth else {
+        return 7;
+    };
+    0
+}
+
+// The column where the first field at fault of a line begins, counted from 1, or 0: for a person who is told that a
+// line is refused with 14.
+pub fn fault(line: &[u8]) -> u32
+    ensures { λ r. ⌜ r ≡ faultOf (now (line .entry)) ⌝ }
+{
+    if line.len() < LAST_COLUMN {
+        return line.len() as u32 + 1;
+    }
+    let heading = read_heading(line);
+    let Heading::Of(_, _, element, _) = heading else {
+        return heading_fault(line);
+    };
+    let column = months_fault(line, element == PRECIPITATION);
+    if column != 0 {
+        return column;
+    }
+    if !all_spaces(&line[LAST_COLUMN..]) {
+        return LAST_COLUMN as u32 + 1;
+    }
+    0
 }

@@ -26,13 +26,10 @@ explain-year-requires c κs = search needs
 returns-2 : tie.Need-returns-2
 returns-2 c = search needs
 
-slice-aggregate-year-of-2 : tie.Need-slice-aggregate-year-of-2
-slice-aggregate-year-of-2 c =
+slice-aggregate-explain-line : tie.Need-slice-aggregate-explain-line
+slice-aggregate-explain-line c =
     let a = c .before .before .before .before in
     sym (length-take-le (a .args .s .kept) (a .args .line .now) (omega (arith, a .pre)))
-
-year-of-requires-2 : tie.Need-year-of-requires-2
-year-of-requires-2 c κs = search needs
 
 explain-line-requires : tie.Need-explain-line-requires
 explain-line-requires c κs = search needs
@@ -50,7 +47,6 @@ explain-spec =
     year-of-requires
     explain-year-requires
     returns-2
-    slice-aggregate-year-of-2
-    year-of-requires-2
+    slice-aggregate-explain-line
     explain-line-requires
     returns-3)
