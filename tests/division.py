@@ -5,7 +5,8 @@
   division.py --write   writes the sample: crates/division/stdin and crates/division/stdout
 
 Each input is given whole and, through a pipe, in pieces that cut lines anywhere. Of a refusal's text on standard error
-only this is asked: one line, closed, with the refused line's number in it. It prints how many inputs were run.
+only this is asked: one line, closed, with the refused line's number in it; the words themselves are asked of a few,
+WORDS. It prints how many inputs were run.
 """
 import os
 import re
@@ -249,6 +250,33 @@ BAD_ARGUMENTS = [
 ]
 
 
+# what is said on standard error of an input that is refused: the lines after a good one of 1895
+WORDS = [
+    ([b'x'], b'line 2: it ends after column 1, and the layout has 94'),
+    ([b''], b'line 2: it ends after column 0, and the layout has 94'),
+    ([year(1896)[:93]], b'line 2: it ends after column 93, and the layout has 94'),
+    ([b'x' + year(1896)[1:]], b'line 2, column 1: no digits'),
+    ([year(1896)[:9] + b'x' + year(1896)[10:]], b'line 2, column 7: no digits'),
+    ([year(1896).replace(b'   7.03', b'   7,03')], b'line 2, column 11: month 1 is neither -9.99 nor 0.00 to 100.00 inches, as the layout has them'),
+    ([year(1896), year(1897).replace(b'   3.66', b' 100.01')], b'line 3, column 88: month 12 is neither -9.99 nor 0.00 to 100.00 inches, as the layout has them'),
+    ([year(1896) + b'\r'], b'line 2, column 95: something after the last value that is no space'),
+    ([year(1897)], b'line 2: the year is 1897, and 1896 was to follow'),
+    ([year(1895, state=2), year(1895)], b'line 3: the year is 1895, and 1896 was to follow'),
+]
+NOWHERE = b'division: no line up to line 1 is precipitation of state 48, division 10\n'
+
+
+def words():
+    """The words of refusals."""
+    for lines, said in WORDS:
+        out, err, status = running.printed(COMMAND + ['1', '01'], joined([year(1895)] + lines), 1)
+        if err != b'division: ' + said + b'\n':
+            sys.exit('division: %r: it says %r, and not %r' % (lines, err, said))
+    out, err, status = running.printed(COMMAND + ['48', '10'], joined([year(1895)]), 1)
+    if err != NOWHERE:
+        sys.exit('division: it says %r, and not %r' % (err, NOWHERE))
+
+
 def one_line(text):
     """Whether a text is one closed line with something in it."""
     return text.count(b'\n') == 1 and text.endswith(b'\n') and text.strip() != b''
@@ -314,6 +342,7 @@ def main():
                 if f.read() != data:
                     sys.exit('division: %s is not what this program makes' % name)
     if not sys.argv[1:]:
+        words()
         run()
 
 

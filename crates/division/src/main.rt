@@ -22,8 +22,10 @@ const MOST_ROW: usize = 72;
 // The program's name and its two arguments.
 const WORDS: usize = 3;
 
-// The layout: where the first value begins, the last one ends, and what comes after it.
+// The layout: where the first value begins, the columns of a value, where the last one ends, and what comes after it.
 const FIRST_VALUE: u32 = 11;
+
+const WIDTH: u32 = 7;
 
 const LAST_COLUMN: usize = 94;
 
@@ -114,7 +116,9 @@ fn explain_field(column: u32) {
         return;
     }
     if column < AFTER_VALUES {
-        say(b": neither -9.99 nor precipitation of 0.00 to 100.00 inches, as the layout has it\n");
+        say(b": month ");
+        say_number((column - FIRST_VALUE) / WIDTH + 1);
+        say(b" is neither -9.99 nor 0.00 to 100.00 inches, as the layout has them\n");
         return;
     }
     say(b": something after the last value that is no space\n");
