@@ -3,8 +3,8 @@
 -- to tell what the whole line says (`kept-same`, proofs/Kept.antt), so a line of any length is read within fixed memory. Assumes nothing.
 use Prim.Native.Nat.{ℕ, zero, suc, _+_, _*_, _≤_}
 use mathlib.Core.Path.{_≡_}
-use mathlib.Core.Bool.{Bool, cond, not, _&&_, _||_}
-use mathlib.Core.List.{List}
+use mathlib.Core.Bool.{Bool, true, false, cond, not, _&&_, _||_}
+use mathlib.Core.List.{List, [], _∷_, _++_, foldl}
 use lib.Dec.{leb, ltb, eqb}
 use lib.ListN.{length, take, set}
 use Rattle.text.specs.Bytes.{lineFeed, space}
@@ -63,6 +63,20 @@ withKept s k = record { state = s .state; division = s .division; kept = k; line
 abbrev pub byteKept : State → ℕ → State
 byteKept t b = held (withKept (t .session) (keptCount (t .session .kept) b)) (keptLine (t .session .kept) b (t .line)) (t .out)
 
+-- ---- a part of a line, byte by byte: how many bytes are kept, and where
+pub record Kept : Type 0 where
+  pub count : ℕ
+  pub line : List ℕ
+
+abbrev pub keptOf : ℕ → List ℕ → Kept
+keptOf count line = record { count = count; line = line }
+
+abbrev pub byteInto : Kept → ℕ → Kept
+byteInto k b = keptOf (keptCount (k .count) b) (keptLine (k .count) b (k .line))
+
+unfoldable pub partKept : Kept → List ℕ → Kept
+partKept k part = foldl byteInto k part
+
 -- ---- a line closed: the session, and the rows
 pub record Closed : Type 0 where
   pub session : Session
@@ -109,6 +123,15 @@ unfoldable pub byteFed : State → ℕ → State
 byteFed t b =
     unrefused (t .session .refused) t
     (cond (eqb b lineFeed) (afterLine t (lineClosed (t .session) (take (t .session .kept) (t .line)) (t .out))) (byteKept t b))
+
+-- ---- what a piece of the input has of one line: the bytes before its first line feed, and these with a line feed or without
+unfoldable pub untilFeed : List ℕ → List ℕ
+untilFeed [] = []
+untilFeed (b ∷ bs) = cond (eqb b lineFeed) [] (b ∷ untilFeed bs)
+
+abbrev pub ended : Bool → List ℕ → List ℕ
+ended true part = part ++ lineFeed ∷ []
+ended false part = part
 
 -- ---- the end of input closes a line of which anything has come; 15 where no line was taken
 unfoldable pub lastClosed : Session → List ℕ → List ℕ → Closed

@@ -2,18 +2,18 @@
 // why the reading stopped.
 //
 // Document 02, E1: "We take on stations with a century of rain already published in the nClimDiv fixed-width layout".
-// What the program makes of an input is `centuryOf`, specs/ByLines.antt, said of whole lines; here it is done byte by
-// byte, and `by-lines`, proofs/ByLines.antt, says that this is the same. Everything here is for the program, which
-// lends a line of 95 bytes and room for 10,000 rows.
+// What the program makes of an input is `centuryOf`, specs/ByLines.antt, said of whole lines; here it is said byte by
+// byte, for an input that comes in pieces, and `by-lines`, proofs/ByLines.antt, says that this is the same. Everything
+// here is for the program, which lends a line of 95 bytes and room for 10,000 rows.
 use layout::Digits;
 use layout::Year;
 ghost use mathlib.Core.Path.{_≡_};
 ghost use mathlib.Core.List.{foldl};
-ghost use Prim.Native.Nat.{_+_, _≤_, _<_};
-ghost use lib.ListN.{length, take};
+ghost use Prim.Native.Nat.{_+_, _-_, _≤_, _<_, min};
+ghost use lib.ListN.{length, take, drop};
 ghost use Rattle.century.specs.ByLines.{counted, expected};
 ghost use Rattle.rows.specs.Text.{laid};
-ghost use Rattle.century.specs.Century.{namedOf, begun, held, Held, isKept, keptCount, keptLine, withKept, closed, rowText, withRow, passed, stopped, lineClosed, byteFed, lastClosed, noneFound, inputEnded};
+ghost use Rattle.century.specs.Century.{namedOf, begun, held, Held, isKept, keptCount, keptLine, keptOf, partKept, closed, rowText, withRow, passed, stopped, lineClosed, byteFed, untilFeed, ended, lastClosed, noneFound, inputEnded};
 
 pub struct Session {
     // What is asked for.
@@ -81,25 +81,67 @@ fn is_kept(kept: usize, b: u8) -> bool
     b != b' '
 }
 
-fn keep_byte(s: Session, b: u8, line: &mut [u8]) -> Session
+// One byte more of a line, of which so many bytes are kept; how many then are.
+fn keep_byte(kept: usize, b: u8, line: &mut [u8]) -> usize
     requires { ⌜ length (now line) ≡ 95 ⌝ }
-    ensures { λ r. ⌜ r ≡ withKept s (keptCount (s .kept) b) ⌝ }
-    ensures { λ _. ⌜ now (line .exit) ≡ keptLine (s .kept) b (now (line .entry)) ⌝ }
+    ensures { λ r. ⌜ r ≡ keptCount kept b ⌝ }
+    ensures { λ _. ⌜ now (line .exit) ≡ keptLine kept b (now (line .entry)) ⌝ }
 {
-    let at = s.kept;
-    if !is_kept(at, b) {
-        return s;
+    if !is_kept(kept, b) {
+        return kept;
     }
-    line[at] = b;
-    Session {
-        state: s.state,
-        division: s.division,
-        kept: at + 1,
-        lines: s.lines,
-        refused: s.refused,
-        next: s.next,
-        end: s.end,
+    line[kept] = b;
+    kept + 1
+}
+
+// How many of so many bytes, which follow those kept, stand in the first 94 columns.
+fn in_columns(kept: usize, bytes: usize) -> usize
+    ensures { λ r. ⌜ r ≡ min bytes (94 - kept) ⌝ }
+{
+    if kept > LAST_COLUMN {
+        return 0;
     }
+    let left = LAST_COLUMN - kept;
+    if bytes < left {
+        return bytes;
+    }
+    left
+}
+
+// A part that stands in the first 94 columns. `keep_rest` would do the same; this loop is compiled to one copy, and
+// nearly all of an input goes through it.
+fn keep_columns(kept: usize, part: &[u8], line: &mut [u8])
+    requires { ⌜ length (now part) ≤ 94 - kept ⌝ }
+    requires { ⌜ length (now line) ≡ 95 ⌝ }
+    ensures { λ _. ⌜ keptOf (kept + length (now (part .entry))) (now (line .exit)) ≡ partKept (keptOf kept (now (line .entry))) (now (part .entry)) ⌝ }
+{
+    let mut i = 0;
+    while i < part.len() {
+        line[kept + i] = part[i];
+        i += 1;
+    }
+}
+
+fn keep_rest(kept: usize, part: &[u8], line: &mut [u8]) -> usize
+    requires { ⌜ length (now line) ≡ 95 ⌝ }
+    ensures { λ r. ⌜ keptOf r (now (line .exit)) ≡ partKept (keptOf kept (now (line .entry))) (now (part .entry)) ⌝ }
+{
+    let mut n = kept;
+    let mut i = 0;
+    while i < part.len() {
+        n = keep_byte(n, part[i], line);
+        i += 1;
+    }
+    n
+}
+
+fn keep_part(kept: usize, part: &[u8], line: &mut [u8]) -> usize
+    requires { ⌜ length (now line) ≡ 95 ⌝ }
+    ensures { λ r. ⌜ keptOf r (now (line .exit)) ≡ partKept (keptOf kept (now (line .entry))) (now (part .entry)) ⌝ }
+{
+    let n = in_columns(kept, part.len());
+    keep_columns(kept, &part[..n], line);
+    keep_rest(kept + n, &part[n..], line)
 }
 
 // ---- a line closed
@@ -193,18 +235,44 @@ fn close_line(s: Session, line: &[u8], out: &mut [u8]) -> Session
 
 // ---- the input
 
-// One byte more.
-fn take_byte(s: Session, b: u8, line: &mut [u8], out: &mut [u8]) -> Session
+// Where the line ends that goes on at `from`: at its line feed, or where the piece ends.
+fn line_end(piece: &[u8], from: usize) -> usize
+    requires { ⌜ from ≤ length (now piece) ⌝ }
+    ensures { λ r. ⌜ r ≡ from + length (untilFeed (drop from (now (piece .entry)))) ⌝ }
+{
+    let mut i = from;
+    while i < piece.len() {
+        if piece[i] == b'\n' {
+            return i;
+        }
+        i += 1;
+    }
+    i
+}
+
+// A part of a line, with the line feed that ends it or without.
+fn take_line(s: Session, part: &[u8], ends: bool, line: &mut [u8], out: &mut [u8]) -> Session
     requires { ⌜ Held s (now line) (now out) ⌝ }
-    ensures { λ r. ⌜ held r (now (line .exit)) (now (out .exit)) ≡ byteFed (held s (now (line .entry)) (now (out .entry))) b ⌝ }
+    requires { ⌜ untilFeed (now part) ≡ now part ⌝ }
+    ensures { λ r. ⌜ held r (now (line .exit)) (now (out .exit)) ≡ foldl byteFed (held s (now (line .entry)) (now (out .entry))) (ended ends (now (part .entry))) ⌝ }
 {
     if s.refused != 0 {
         return s;
     }
-    if b == b'\n' {
-        return close_line(s, line, out);
+    let kept = keep_part(s.kept, part, line);
+    let t = Session {
+        state: s.state,
+        division: s.division,
+        kept,
+        lines: s.lines,
+        refused: s.refused,
+        next: s.next,
+        end: s.end,
+    };
+    if !ends {
+        return t;
     }
-    keep_byte(s, b, line)
+    close_line(t, line, out)
 }
 
 // A piece of the input more. Whatever was lent is lent again.
@@ -216,8 +284,9 @@ pub fn take(s: Session, piece: &[u8], line: &mut [u8], out: &mut [u8]) -> Sessio
     let mut t = s;
     let mut i = 0;
     while i < piece.len() {
-        t = take_byte(t, piece[i], line, out);
-        i += 1;
+        let end = line_end(piece, i);
+        t = take_line(t, &piece[i..end], end < piece.len(), line, out);
+        i = end + 1;
     }
     t
 }

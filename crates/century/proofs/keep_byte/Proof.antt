@@ -1,11 +1,11 @@
 -- `century::keep_byte`: a byte that is kept goes to the next place, and else nothing changes. Assumes nothing.
 use borrow.Author.Needs.{needs}
 use native.Mathlib.Omega.{arith}
-use mathlib.Core.Path.{_≡_, refl, sym, ap, _∙_}
+use mathlib.Core.Path.{_≡_, refl, sym, _∙_}
 use mathlib.Core.Bool.{Bool, true, false}
-use Prim.Native.Nat.{ℕ, _≤_, _<_}
+use Prim.Native.Nat.{ℕ, _≤_}
 use lib.Dec.{ltb, eqb}
-use borrow.Author.Tests.{not-true, not-false, ltb-true, ltb-false, eqb-true, eqb-false, lt-ltb, le-ltb, ne-eqb}
+use borrow.Author.Tests.{not-true, not-false, ltb-true, eqb-true}
 use Rattle.century.specs.Century.{isKept, keptCount, keptLine}
 use Rattle.text.proofs.Digits.{apart}
 use Rattle.century.proofs.keep_byte.Statement.{statement}
@@ -21,7 +21,7 @@ kept-by k b false false e f h = absurd (apart (rw (e, f) at h))
 kept-at : (k b : ℕ) → isKept k b ≡ true → k ≤ 94
 kept-at k b = kept-by k b (ltb k 94) (eqb k 94) refl refl
 
-told : (c : tie.Else1) → isKept (c .before .before .before .args .s .kept) (c .before .before .before .args .b) ≡ true
+told : (c : tie.Else1) → isKept (c .before .before .before .args .kept) (c .before .before .before .args .b) ≡ true
 told c = sym (c .before .is-kept .ensures) ∙ not-false _ (c .if1 .left)
 
 is-kept-requires : tie.Need-is-kept-requires
@@ -32,10 +32,10 @@ unfolding keptCount keptLine
 returns c = let k = sym (c .before .is-kept .ensures) ∙ not-true _ (c .if1 .taken) in (rw k, rw k)
 
 slice-write-line : tie.Need-slice-write-line
-slice-write-line c = omega (arith, kept-at (c .before .before .before .args .s .kept) (c .before .before .before .args .b) (told c), c .before .before .before .pre)
+slice-write-line c = omega (arith, kept-at (c .before .before .before .args .kept) (c .before .before .before .args .b) (told c), c .before .before .before .pre)
 
-add-t8 : tie.Need-add-t8
-add-t8 c = record { fits = omega (arith, kept-at (c .before .before .before .args .s .kept) (c .before .before .before .args .b) (told c)) }
+add-result : tie.Need-add-result
+add-result c = record { fits = omega (arith, kept-at (c .before .before .before .args .kept) (c .before .before .before .args .b) (told c)) }
 
 same-length : tie.Need-same-length
 same-length c = search needs
@@ -46,4 +46,4 @@ returns-2 c = (rw (told c), rw (told c))
 
 pub keep-byte-spec : {M : Type 1} → statement M
 keep-byte-spec =
-    tie.close (tie.spec is-kept-requires returns slice-write-line add-t8 same-length returns-2)
+    tie.close (tie.spec is-kept-requires returns slice-write-line add-result same-length returns-2)

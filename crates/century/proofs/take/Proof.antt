@@ -1,71 +1,79 @@
 -- `century::take`: what is still to be fed takes what is held to where the whole piece takes it. Assumes nothing.
-use borrow.Author.Needs.{needs}
-use mathlib.Core.Path.{_≡_, refl, sym, ap, subst, _∙_}
-use mathlib.Core.List.{List, [], _∷_, foldl}
-use Prim.Native.Nat.{ℕ, _+_, _-_, _≤_, _<_}
-use native.Mathlib.Numerals.{add-one}
+use mathlib.Core.Path.{_≡_, refl, sym, _∙_}
+use mathlib.Core.List.{List, foldl}
+use Prim.Native.Nat.{ℕ, _-_, _≤_}
 use native.Mathlib.Omega.{arith}
-use lib.ListN.{length, drop, getD, drop-of-length-le}
-use lib.Seq.{drop-cons}
+use lib.ListN.{length, drop, drop-of-length-le}
 use Rattle.century.specs.Century.{State, held, Held, byteFed}
-use Rattle.century.specs.declared.Session.{Session}
-use Rattle.century.proofs.Room.{HeldIn, held-byte}
+use Rattle.century.proofs.Part.{part-unbroken, end-within, line-fed}
 use Rattle.century.proofs.take.Statement.{statement}
 use Rattle.century.proofs.take.Tie as tie
 
-one-more : (piece : List ℕ) (t : State) (u : State) (i : ℕ) → i < length piece → foldl byteFed t (drop i piece) ≡ foldl byteFed u piece → foldl byteFed (byteFed t (getD piece i 0)) (drop (i + 1) piece) ≡ foldl byteFed u piece
-one-more piece t u i h e = rw add-one (sym (ap (foldl byteFed t) (drop-cons piece i 0 h)) ∙ e)
-
-all-fed : (piece : List ℕ) (t : State) (u : State) (i : ℕ) → length piece ≤ i → foldl byteFed t (drop i piece) ≡ foldl byteFed u piece → t ≡ foldl byteFed u piece
-all-fed piece t u i h e = sym (ap (foldl byteFed t) (drop-of-length-le piece h)) ∙ e
+all-fed : (piece : List ℕ) (t : State) (i : ℕ) → length piece ≤ i → foldl byteFed t (drop i piece) ≡ t
+all-fed piece t i h = rw (drop-of-length-le piece h)
 
 abbrev Inv-loop : tie.InvT-loop
 Inv-loop piece line₀ out₀ t₀ i₀ line out t i =
-    (i ≤ length piece) × (length line ≡ length line₀) × (length out ≡ length out₀) × (foldl byteFed (held t line out) (drop i piece) ≡ foldl byteFed (held t₀ line₀ out₀) piece) × Held t line out
+    (length line ≡ length line₀) × (length out ≡ length out₀) × (foldl byteFed (held t line out) (drop i piece) ≡ foldl byteFed (held t₀ line₀ out₀) piece) × Held t line out
 
 abbrev μ-loop : tie.MeasureT-loop
 μ-loop piece line₀ out₀ t₀ i₀ line out t i = length piece - i
 
+-- ---- where the line ends
+abbrev piece : tie.After-line-end Inv-loop μ-loop → List ℕ
+piece w = w .before .before .before .before .before .before .args .piece .now
+
+abbrev line : tie.After-slice-known4 Inv-loop μ-loop → tie.After-line-end Inv-loop μ-loop
+line c = c .before .before .before .before .before .before .before .before
+
+within : (w : tie.After-line-end Inv-loop μ-loop) → w .line-end .result ≤ length (piece w)
+within w = end-within (piece w) (w .before .before .loop .i) (w .line-end .result) (omega arith) (w .line-end .ensures)
+
 loop-holds : tie.Need-loop-holds Inv-loop μ-loop
-loop-holds c = (omega arith, refl, refl, refl, c .before .before .before .pre)
+loop-holds c = (refl, refl, refl, c .before .before .before .pre)
 
-shared-slice-read-take-byte : tie.Need-shared-slice-read-take-byte Inv-loop μ-loop
-shared-slice-read-take-byte c = omega arith
+line-end-requires : tie.Need-line-end-requires Inv-loop μ-loop
+line-end-requires c κs = omega arith
 
-take-byte-requires : tie.Need-take-byte-requires Inv-loop μ-loop
-take-byte-requires c κs = c .before .before .before .before .loop .inv .4
+sub-take-line : tie.Need-sub-take-line Inv-loop μ-loop
+sub-take-line c = omega arith
+
+part-take-line-start : tie.Need-part-take-line-start Inv-loop μ-loop
+part-take-line-start c = omega arith
+
+part-take-line-end : tie.Need-part-take-line-end Inv-loop μ-loop
+part-take-line-end c = omega (arith, within c)
+
+take-line-requires : tie.Need-take-line-requires Inv-loop μ-loop
+take-line-requires c κs =
+    let w = c .before .before .before in
+    (w .before .before .loop .inv .3, part-unbroken (piece w) (w .before .before .loop .i) (w .line-end .result) (omega arith) (w .line-end .ensures))
 
 add-i : tie.Need-add-i Inv-loop μ-loop
-add-i c = omega arith
+add-i c = omega (arith, within (line c))
 
 loop-less : tie.Need-loop-less Inv-loop μ-loop
-loop-less c = omega arith
+loop-less c = omega (arith, line c .line-end .ensures)
 
 loop-again : tie.Need-loop-again Inv-loop μ-loop
 loop-again c =
     let w = c .before .before .before .before in
-    let a = w .before .before .before .before .before in
-    let p = a .before .before .before .before .args .piece .now in
-    let i = a .loop .i in
-    let t = held (a .loop .t) (a .loop .line) (a .loop .out) in (
-      omega arith,
-      w .take-byte .kept .1 .1 .0 ∙ a .loop .inv .1,
-      w .take-byte .kept .1 .1 .1 .0 ∙ a .loop .inv .2,
-      ap (λ (u : State). foldl byteFed u (drop (i + 1) p)) (w .take-byte .ensures) ∙ one-more p t _ i (omega arith) (a .loop .inv .3),
-      subst HeldIn (sym (w .take-byte .ensures)) (held-byte t (getD p i 0) (a .loop .inv .4)),
-    )
+    let l = line c in
+    let a = l .before .before in
+    let n = line-fed (piece l) (a .loop .i) (l .line-end .result) (omega arith) (l .line-end .ensures) (held (a .loop .t) (a .loop .line) (a .loop .out)) _ (w .take-line .ensures) (a .loop .inv .3) in
+    (w .take-line .kept .1 .1 .1 .0 ∙ a .loop .inv .0, w .take-line .kept .1 .1 .1 .1 .0 ∙ a .loop .inv .1, n .0 ∙ a .loop .inv .2, n .1)
 
 same-length : tie.Need-same-length Inv-loop μ-loop
-same-length c = c .before .loop .inv .1
+same-length c = c .before .loop .inv .0
 
 same-length-2 : tie.Need-same-length-2 Inv-loop μ-loop
-same-length-2 c = c .before .loop .inv .2
+same-length-2 c = c .before .loop .inv .1
 
 returns : tie.Need-returns Inv-loop μ-loop
 returns c =
     let a = c .before in
     let p = a .before .before .before .before .args .piece .now in
-    (all-fed p (held (a .loop .t) (a .loop .line) (a .loop .out)) _ (a .loop .i) (c .loop-test .left) (a .loop .inv .3), a .loop .inv .4)
+    (sym (all-fed p (held (a .loop .t) (a .loop .line) (a .loop .out)) (a .loop .i) (c .loop-test .left)) ∙ a .loop .inv .2, a .loop .inv .3)
 
 pub take-spec : {M : Type 1} → statement M
 take-spec =
@@ -74,8 +82,11 @@ take-spec =
     Inv-loop
     μ-loop
     loop-holds
-    shared-slice-read-take-byte
-    take-byte-requires
+    line-end-requires
+    sub-take-line
+    part-take-line-start
+    part-take-line-end
+    take-line-requires
     add-i
     loop-less
     loop-again
