@@ -9,64 +9,36 @@ use native.Mathlib.Omega.{arith}
 use lib.Dec.{eqb, eqb·suc-zero}
 use lib.ListN.{length, take, drop, length-append}
 use lib.Seq.{take-append-seam}
-use borrow.Author.Tests.{eqb-true}
+use borrow.Author.Tests.{eqb-true, eqb-false}
 use Rattle.text.specs.Bytes.{lineFeed}
 use Rattle.text.specs.Lines.{lastLine, cut, linesOf}
 use Rattle.layout.specs.Rainfall.{another, yearSaid, yearOf}
 use Rattle.layout.specs.declared.Year.{Year}
-use Rattle.century.specs.ByLines.{expected, Made, nothing, madeBy, madeWith, going, lineMade, atEnd, centuryOf}
-use Rattle.century.specs.Century.{begun, State, held, byteKept, Closed, closed, rowText, closedBy, lineClosed, unrefused, afterLine, byteFed, lastClosed, noneFound, inputEnded}
+use Rattle.century.specs.ByLines.{expected, Made, nothing, madeBy, madeWith, lineMade, atEnd, centuryOf}
+use Rattle.century.specs.Century.{begun, State, held, byteKept, Closed, closed, rowText, closedBy, lineClosed, byteFed, lastClosed, noneFound, inputEnded}
 use Rattle.century.specs.declared.Session.{Session}
+use Rattle.century.proofs.Closing.{refused-stays, goes-on, byte-closes, byte-within}
 use Rattle.century.proofs.Kept.{kept-same}
+use Rattle.century.proofs.Part.{fed-refused}
 
--- ---- whether the reading goes on
-on : {A : Type 0} (k : ℕ) (t next : A) → k ≡ 0 → unrefused k t next ≡ next
-on zero t next e = refl
-on (suc k) t next e = absurd (omega arith)
-
-off : {A : Type 0} (k : ℕ) (t next : A) → (k ≡ 0 → ⊥) → unrefused k t next ≡ t
-off zero t next h = absurd (h refl)
-off (suc k) t next h = refl
-
-goes-on : (k : ℕ) (m next : Made) → k ≡ 0 → going k m next ≡ next
-goes-on zero m next e = refl
-goes-on (suc k) m next e = absurd (omega arith)
-
-stops : (k : ℕ) (m next : Made) → (k ≡ 0 → ⊥) → going k m next ≡ m
-stops zero m next h = absurd (h refl)
-stops (suc k) m next h = refl
-
--- ---- a byte, and the end
-byte-closes : (t : State) (b : ℕ) → t .session .refused ≡ 0 → eqb b lineFeed ≡ true → byteFed t b ≡ afterLine t (lineClosed (t .session) (take (t .session .kept) (t .line)) (t .out))
-unfolding byteFed
-byte-closes t b h e = on _ t _ h ∙ rw e
-
-byte-within : (t : State) (b : ℕ) → t .session .refused ≡ 0 → eqb b lineFeed ≡ false → byteFed t b ≡ byteKept t b
-unfolding byteFed
-byte-within t b h e = on _ t _ h ∙ rw e
-
+-- ---- the end
 last-closes : (x : Session) (line out : List ℕ) → x .refused ≡ 0 → eqb (x .kept) 0 ≡ false → lastClosed x line out ≡ lineClosed x (take (x .kept) line) out
 unfolding lastClosed
-last-closes x line out h e = on _ (closed x out) _ h ∙ rw e
+last-closes x line out h e = goes-on _ (closed x out) _ h ∙ rw e
 
 last-none : (x : Session) (line out : List ℕ) → x .refused ≡ 0 → eqb (x .kept) 0 ≡ true → lastClosed x line out ≡ closed x out
 unfolding lastClosed
-last-none x line out h e = on _ (closed x out) _ h ∙ rw e
+last-none x line out h e = goes-on _ (closed x out) _ h ∙ rw e
 
 last-refused : (x : Session) (line out : List ℕ) → (x .refused ≡ 0 → ⊥) → lastClosed x line out ≡ closed x out
 unfolding lastClosed
-last-refused x line out h = off _ (closed x out) _ h
+last-refused x line out h = refused-stays _ (closed x out) _ h
 
 -- ---- after a refusal nothing changes
-bytes-stay : (t : State) (bytes : List ℕ) → (t .session .refused ≡ 0 → ⊥) → foldl byteFed t bytes ≡ t
-unfolding byteFed
-bytes-stay t [] h = refl
-bytes-stay t (b ∷ bs) h = ap (λ (u : State). foldl byteFed u bs) (off _ t _ h) ∙ bytes-stay t bs h
-
 lines-stay : (s d : ℕ) (m : Made) (ls : List (List ℕ)) → (m .refused ≡ 0 → ⊥) → foldl (lineMade s d) m ls ≡ m
 unfolding lineMade
 lines-stay s d m [] h = refl
-lines-stay s d m (l ∷ ls) h = ap (λ (n : Made). foldl (lineMade s d) n ls) (stops _ m _ h) ∙ lines-stay s d m ls h
+lines-stay s d m (l ∷ ls) h = ap (λ (n : Made). foldl (lineMade s d) n ls) (refused-stays _ m _ h) ∙ lines-stay s d m ls h
 
 -- ---- what is held where m was made so far, and k bytes of the next line are kept
 abbrev between : ℕ → ℕ → Made → ℕ → Session
@@ -147,7 +119,7 @@ module _ (s d : ℕ) where
         rw (last-closes (t .session) (t .line) (t .out) (within-refused (b ∷ bs)) (q .2 ∙ eqb·suc-zero (length bs))) (within-closed (b ∷ bs))
 
     one-more : (come : List ℕ) (b : ℕ) → eqb b lineFeed ≡ false → byteFed (within s d m line out come) b ≡ within s d m line out (come ++ b ∷ [])
-    one-more come b e = byte-within (within s d m line out come) b (within-refused come) e ∙ sym (foldl-append byteKept (held (between s d m 0) line out) come (b ∷ []))
+    one-more come b e = byte-within (within s d m line out come) b (within-refused come) (eqb-false b lineFeed e) ∙ sym (foldl-append byteKept (held (between s d m 0) line out) come (b ∷ []))
 
   -- the claim for what is still to come, while a line is coming, and where a line begins
   abbrev Makes : Made → State → List ℕ → List (List ℕ) → Type 0
@@ -165,7 +137,7 @@ module _ (s d : ℕ) where
   starting input coming m c line a l (suc n) e =
       let h : m .refused ≡ 0 → ⊥ = λ g. (let q : suc n ≡ 0 = sym e ∙ g in omega arith) in
       let g : c .session .refused ≡ 0 → ⊥ = λ f. h (sym (ap (λ (x : Session). x .refused) (a .session)) ∙ f) in
-      rw (bytes-stay (held (c .session) line (c .out)) input g, lines-stay s d m (cut [] input) h, last-refused (c .session) line (c .out) g) (ends m c a)
+      rw (fed-refused (held (c .session) line (c .out)) input g, lines-stay s d m (cut [] input) h, last-refused (c .session) line (c .out) g) (ends m c a)
 
   ended : Coming []
   unfolding cut inputEnded
@@ -176,7 +148,7 @@ module _ (s d : ℕ) where
   followed b rest true e coming m z line out l r come =
       let t = within s d m line out come in
       rw e
-      (fed-first m t b rest (come ∷ cut [] rest) (byte-closes t b (within-refused m z line out l r come) e)
+      (fed-first m t b rest (come ∷ cut [] rest) (byte-closes t b (within-refused m z line out l r come) (eqb-true b lineFeed e))
       (starting rest coming (lineMade s d m come) _ (t .line) (within-closed m z line out l r come) (kept-same (between s d m 0) line out come l .5) _ refl))
   followed b rest false e coming m z line out l r come =
       rw e (fed-first m (within s d m line out come) b rest (cut (come ++ b ∷ []) rest) (one-more m z line out l r come b e) (coming m z line out l r (come ++ b ∷ [])))

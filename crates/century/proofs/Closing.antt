@@ -1,6 +1,5 @@
 -- A line that is closed, by its number; and a byte, by what came before. Assumes nothing.
-use mathlib.Core.Path.{_≡_, refl, sym, ap, ap₂, _∙_}
-use mathlib.Core.Bool.{true, false}
+use mathlib.Core.Path.{_≡_, refl, ap, ap₂, _∙_}
 use mathlib.Core.List.{List}
 use Prim.Native.Nat.{ℕ, zero, suc}
 use lib.ListN.{take}
@@ -9,8 +8,8 @@ use Rattle.text.specs.Bytes.{lineFeed}
 use Rattle.layout.specs.Rainfall.{another, yearSaid}
 use Rattle.layout.specs.declared.Year.{Year}
 use Rattle.rows.specs.Text.{laid}
-use Rattle.century.specs.ByLines.{expected}
-use Rattle.century.specs.Century.{State, Closed, closed, rowText, withRow, passed, stopped, closedBy, closedWith, lineClosed, unrefused, afterLine, byteKept, byteFed}
+use Rattle.century.specs.ByLines.{expected, going}
+use Rattle.century.specs.Century.{State, closed, rowText, withRow, passed, stopped, closedBy, closedWith, lineClosed, afterLine, byteKept, byteFed}
 use Rattle.century.specs.declared.Session.{Session}
 
 -- ---- a line closed
@@ -33,11 +32,11 @@ module _ (s : Session) (out : List ℕ) (year : Year) (y : ℕ) where
   closing line e f = ap₂ (closedWith s out) (f ∙ ap (yearSaid line (s .state) (s .division)) e) e
 
 -- ---- what a refusal leaves, and what goes on without one
-pub refused-stays : {A : Type 0} (k : ℕ) (t next : A) → (k ≡ 0 → ⊥) → unrefused k t next ≡ t
+pub refused-stays : {A : Type 0} (k : ℕ) (t next : A) → (k ≡ 0 → ⊥) → going k t next ≡ t
 refused-stays zero t next e = absurd (e refl)
 refused-stays (suc k) t next e = refl
 
-pub goes-on : {A : Type 0} (k : ℕ) (t next : A) → k ≡ 0 → unrefused k t next ≡ next
+pub goes-on : {A : Type 0} (k : ℕ) (t next : A) → k ≡ 0 → going k t next ≡ next
 goes-on k t next e = rw e
 
 module _ (t : State) (b : ℕ) where

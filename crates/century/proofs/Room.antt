@@ -21,8 +21,8 @@ use Rattle.layout.proofs.Naturals.{natural-small}
 use Rattle.layout.proofs.Months.{months-twelve}
 use Rattle.rows.specs.Text.{numeral, monthText, monthsText, yearText, laid}
 use Rattle.rows.proofs.Digits.{numeral-length}
-use Rattle.century.specs.ByLines.{expected}
-use Rattle.century.specs.Century.{State, Held, isKept, keptCount, keptLine, byteKept, Closed, closed, rowText, closedBy, lineClosed, unrefused, byteFed, lastClosed, withRefusal, noneFound, inputEnded}
+use Rattle.century.specs.ByLines.{expected, going}
+use Rattle.century.specs.Century.{State, Held, isKept, keptCount, keptLine, byteKept, Closed, closed, rowText, closedBy, lineClosed, byteFed, lastClosed, withRefusal, noneFound, inputEnded}
 use Rattle.century.specs.declared.Session.{Session}
 
 -- ---- what is so of both ways is so
@@ -30,7 +30,7 @@ cond-so : {A : Type 0} (P : A → Type 0) (t : Bool) (x y : A) → P x → P y �
 cond-so P true x y p q = p
 cond-so P false x y p q = q
 
-unrefused-so : {A : Type 0} (P : A → Type 0) (k : ℕ) (t next : A) → P t → P next → P (unrefused k t next)
+unrefused-so : {A : Type 0} (P : A → Type 0) (k : ℕ) (t next : A) → P t → P next → P (going k t next)
 unrefused-so P zero t next p q = q
 unrefused-so P (suc k) t next p q = p
 

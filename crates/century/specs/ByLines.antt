@@ -3,7 +3,7 @@
 -- another; a line refused for anything else stops it. Assumes nothing.
 use Prim.Native.Nat.{ℕ, zero, suc, _+_, min}
 use mathlib.Core.Bool.{cond, _&&_}
-use mathlib.Core.List.{List, [], _∷_, _++_, foldl}
+use mathlib.Core.List.{List, [], _++_, foldl}
 use lib.Dec.{eqb}
 use Rattle.text.specs.Lines.{linesOf}
 use Rattle.layout.specs.Rainfall.{another, yearSaid, yearOf}
@@ -55,9 +55,9 @@ abbrev pub madeWith : Made → Year → ℕ → Made
 madeWith m year y = madeBy (year .number) m year y
 
 -- after a refusal nothing is looked at
-abbrev pub going : ℕ → Made → Made → Made
-going zero m next = next
-going (suc k) m next = m
+abbrev pub going : {A : Type 0} → ℕ → A → A → A
+going zero now next = next
+going (suc k) now next = now
 
 unfoldable pub lineMade : ℕ → ℕ → Made → List ℕ → Made
 lineMade s d m line = going (m .refused) m (madeWith m (yearSaid line s d (expected (m .next) line)) (expected (m .next) line))

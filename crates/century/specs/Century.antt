@@ -15,7 +15,7 @@ use Rattle.layout.specs.declared.Digits.{Digits}
 use Rattle.layout.specs.declared.Digits.the-variants.{Other}
 use Rattle.layout.specs.declared.Year.{Year}
 use Rattle.rows.specs.Text.{yearText, laid, mostYear}
-use Rattle.century.specs.ByLines.{counted, expected}
+use Rattle.century.specs.ByLines.{counted, expected, going}
 use Rattle.century.specs.declared.Session.{Session}
 
 -- ---- the arguments: a state or a division as a person writes it, "1" or "01"
@@ -112,16 +112,12 @@ unfoldable pub lineClosed : Session → List ℕ → List ℕ → Closed
 lineClosed s line out = closedWith s out (yearSaid line (s .state) (s .division) (expected (s .next) line)) (expected (s .next) line)
 
 -- ---- one byte more; after a refusal nothing is looked at
-abbrev pub unrefused : {A : Type 0} → ℕ → A → A → A
-unrefused zero t next = next
-unrefused (suc k) t next = t
-
 abbrev pub afterLine : State → Closed → State
 afterLine t c = held (c .session) (t .line) (c .out)
 
 unfoldable pub byteFed : State → ℕ → State
 byteFed t b =
-    unrefused (t .session .refused) t
+    going (t .session .refused) t
     (cond (eqb b lineFeed) (afterLine t (lineClosed (t .session) (take (t .session .kept) (t .line)) (t .out))) (byteKept t b))
 
 -- ---- what a piece of the input has of one line: the bytes before its first line feed, and these with a line feed or without
@@ -136,7 +132,7 @@ ended false part = part
 -- ---- the end of input closes a line of which anything has come; 15 where no line was taken
 unfoldable pub lastClosed : Session → List ℕ → List ℕ → Closed
 lastClosed s line out =
-    unrefused (s .refused) (closed s out) (cond (eqb (s .kept) 0) (closed s out) (lineClosed s (take (s .kept) line) out))
+    going (s .refused) (closed s out) (cond (eqb (s .kept) 0) (closed s out) (lineClosed s (take (s .kept) line) out))
 
 abbrev pub withRefusal : Session → ℕ → Session
 withRefusal s k = record { state = s .state; division = s .division; kept = s .kept; lines = s .lines; refused = k; next = s .next; end = s .end }

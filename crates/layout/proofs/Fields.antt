@@ -1,12 +1,12 @@
 -- What a field of seven bytes says, by what its parts are. Assumes nothing.
-use mathlib.Core.Path.{_≡_, refl, sym, ap, _∙_}
+use mathlib.Core.Path.{_≡_}
 use mathlib.Core.Bool.{true, false}
 use mathlib.Core.List.{List}
-use Prim.Native.Nat.{ℕ, _+_, _*_, _≤_, _<_}
+use Prim.Native.Nat.{ℕ, _+_, _*_, _≤_}
 use native.Mathlib.Omega.{arith}
 use lib.ListN.{length, take, getD, length-take}
 use borrow.Author.Tests.{eq-eqb, ne-eqb}
-use Rattle.text.specs.Bytes.{point, allDigits, negative, natural}
+use Rattle.text.specs.Bytes.{point, negative}
 use Rattle.layout.specs.Field.{plain, ahead, units, decimals, wellFormed, hundredths, fieldOf}
 use Rattle.layout.specs.Steps.{digitsOf}
 use Rattle.layout.specs.declared.Digits.the-variants.{Make, Other}

@@ -1,16 +1,15 @@
 -- A set of months as a number, January lowest: its ones are the months present, and the zeros below the lowest one of its complement are
 -- those before the first missing. The idea: the first month is the number's rest by two, and the others are its half. Assumes nothing.
 use mathlib.Core.Path.{_≡_, refl, sym, ap, ap₂, _∙_}
-use mathlib.Core.Bool.{Bool, true, false, cond, not}
+use mathlib.Core.Bool.{Bool, true, false}
 use mathlib.Core.List.{List, [], _∷_, _++_}
 use Prim.Native.Nat.{ℕ, zero, suc, _+_, _-_, _*_, _/_, _%_, _^_, _≤_, _<_}
 use native.Mathlib.Nat.{pow-suc}
-use native.Mathlib.Numerals.{add-one}
 use native.Mathlib.Omega.{arith}
-use lib.Count.{ones, ones-step, trailingZeros, under}
+use lib.Count.{ones, ones-step, trailingZeros}
 use lib.Dec.{eqb}
 use lib.ListN.{length}
-use borrow.Author.Tests.{eq-eqb, ne-eqb, eqb-true, eqb-false}
+use borrow.Author.Tests.{eqb-true, eqb-false}
 use Rattle.layout.specs.Rainfall.{bit, setOf, countOf, firstMissing}
 use Rattle.layout.specs.Steps.{lowestMissing}
 

@@ -2,16 +2,13 @@
 -- 3.96   5.40   3.92   3.36   0.73   2.03   1.44   3.66    ". And fields of seven bytes, written as their bytes: what is a value, and what
 -- is not. Assumes nothing.
 use mathlib.Core.Path.{_≡_, refl}
-use mathlib.Core.Bool.{true, false}
 use mathlib.Core.List.{List, [], _∷_, map}
 use Prim.Native.Nat.{ℕ}
 use Rattle.text.specs.Bytes.{isDigit, allDigits, allSpaces, negative, body, natural}
 use Rattle.layout.specs.Columns.{values}
 use Rattle.layout.specs.Field.{unpadded, plain, ahead, units, wellFormed, hundredths, fieldOf}
 use Rattle.layout.specs.Rainfall.{isMark, inRange, rainOf, monthOf, monthsOf, some, setOf, countOf, firstMissing, headed, isLine, rainFits, isNamed, isYear, refusal, refused, yearSaid, yearOf}
-use Rattle.layout.specs.declared.Month.{Month}
 use Rattle.layout.specs.declared.Month.the-variants.{Amount, Missing, Outside, Malformed}
-use Rattle.layout.specs.declared.Year.{Year}
 
 abbrev pub published : List ℕ
 published = 48 ∷ 49 ∷ 48 ∷ 49 ∷ 48 ∷ 49 ∷ 49 ∷ 56 ∷ 57 ∷ 53 ∷ 32 ∷ 32 ∷ 32 ∷ 55 ∷ 46 ∷ 48 ∷ 51 ∷ 32 ∷ 32 ∷ 32 ∷ 50 ∷ 46 ∷ 57 ∷ 54 ∷ 32 ∷ 32 ∷ 32 ∷ 56 ∷ 46 ∷ 51 ∷ 54 ∷ 32 ∷ 32 ∷ 32 ∷ 51 ∷ 46 ∷ 53 ∷ 51 ∷ 32 ∷ 32 ∷ 32 ∷ 51 ∷ 46 ∷ 57 ∷ 54 ∷ 32 ∷ 32 ∷ 32 ∷ 53 ∷ 46 ∷ 52 ∷ 48 ∷ 32 ∷ 32 ∷ 32 ∷ 51 ∷ 46 ∷ 57 ∷ 50 ∷ 32 ∷ 32 ∷ 32 ∷ 51 ∷ 46 ∷ 51 ∷ 54 ∷ 32 ∷ 32 ∷ 32 ∷ 48 ∷ 46 ∷ 55 ∷ 51 ∷ 32 ∷ 32 ∷ 32 ∷ 50 ∷ 46 ∷ 48 ∷ 51 ∷ 32 ∷ 32 ∷ 32 ∷ 49 ∷ 46 ∷ 52 ∷ 52 ∷ 32 ∷ 32 ∷ 32 ∷ 51 ∷ 46 ∷ 54 ∷ 54 ∷ 32 ∷ 32 ∷ 32 ∷ 32 ∷ []

@@ -2,7 +2,7 @@
 -- decimals after it". As other writers print it, "a zero before the point may be left out". So the four columns before the point hold spaces,
 -- then perhaps a minus, then the digits of a whole number with no zero too many in front, or no digit. Assumes nothing.
 use Prim.Native.Nat.{ℕ, _+_, _*_}
-use mathlib.Core.Bool.{Bool, true, false, cond, not, _&&_}
+use mathlib.Core.Bool.{Bool, true, cond, not, _&&_}
 use mathlib.Core.List.{List, [], _∷_}
 use lib.ListN.{getD}
 use lib.Dec.{eqb}

@@ -1,7 +1,7 @@
 -- The steps between a line's bytes and its answer, each in the terms of the definitions before: only the functions inside speak of them.
 -- Assumes nothing.
 use Prim.Native.Nat.{ℕ, _+_, _-_}
-use mathlib.Core.Bool.{Bool, true, false, cond, _&&_}
+use mathlib.Core.Bool.{Bool, true, cond, _&&_}
 use mathlib.Core.List.{List, map}
 use lib.Count.{trailingZeros}
 use lib.Dec.{eqb}

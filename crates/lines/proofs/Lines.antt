@@ -1,16 +1,16 @@
 -- A line that is read byte by byte is judged as the whole line is: `streamed`, which stands last. The idea: after the sign, whatever digits
 -- have come are held in the size, and from there on `rest` says what the bytes still to come make of it. Assumes nothing.
-use mathlib.Core.Path.{_≡_, refl, sym, ap, _∙_}
-use mathlib.Core.Bool.{Bool, true, false, cond, not, _&&_, _||_}
+use mathlib.Core.Path.{_≡_, refl}
+use mathlib.Core.Bool.{Bool, true, false, cond, _&&_, _||_}
 use mathlib.Core.List.{List, [], _∷_, foldl}
-use Prim.Native.Nat.{ℕ, suc, _+_, _*_, _-_, _≤_, _<_}
+use Prim.Native.Nat.{ℕ}
 use native.Mathlib.Omega.{arith}
 use lib.Dec.{leb, eqb}
-use borrow.Author.Tests.{leb-true, leb-false, le-leb, lt-leb, eqb-true, ne-eqb}
+use borrow.Author.Tests.{leb-true, leb-false, eqb-true}
 use Rattle.exact.specs.Next.{mostZ}
 use Rattle.text.specs.Bytes.{minusSign, isDigit, allDigits, andDigit, negative, body, natural}
 use Rattle.text.proofs.Digits.{digit-range}
-use Rattle.lines.specs.Line.{Judged, accepted, refused, outOfRange, notANumber, oneOrMore, wellFormed, signed, value, ranged, judged}
+use Rattle.lines.specs.Line.{Judged, refused, notANumber, oneOrMore, wellFormed, signed, value, ranged, judged}
 use Rattle.lines.specs.Reading.{begun, held, opens, withDigit, withMinus, spoilt, fed, finished}
 use Rattle.lines.specs.declared.Line.{Line}
 use Rattle.lines.proofs.Sizes.{held-in, held-out, held-digit, ranged-in, ranged-out}

@@ -3,10 +3,10 @@
 use mathlib.Core.Path.{_≡_, refl}
 use mathlib.Core.List.{List, [], _∷_}
 use Prim.Native.Nat.{ℕ}
-use lib.IntN.{ℤ, pos, negsuc}
+use lib.IntN.{pos, negsuc}
 use Rattle.runs.specs.Runs.{zFits}
 use Rattle.text.specs.Bytes.{isDigit, allDigits, negative, body, natural}
-use Rattle.lines.specs.Line.{Judged, accepted, refused, outOfRange, notANumber, oneOrMore, wellFormed, signed, value, ranged, judged}
+use Rattle.lines.specs.Line.{Judged, accepted, refused, oneOrMore, wellFormed, signed, value, ranged, judged}
 
 -- a list of lines, each judged
 abbrev each : List (List ℕ) → List Judged

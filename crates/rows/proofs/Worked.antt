@@ -1,7 +1,7 @@
 -- Worked lines, computed from the definitions alone: two rows of document 01, a row that is open, a refusal, and a year with a missing month,
 -- each as its bytes. Assumes nothing.
 use mathlib.Core.Path.{_≡_, refl}
-use mathlib.Core.List.{List, [], _∷_, _++_}
+use mathlib.Core.List.{[], _∷_}
 use Prim.Native.Nat.{ℕ}
 use lib.IntN.{ℤ, pos, negsuc}
 use Rattle.rows.specs.Text.{digitsWithin, numeral, integer, letter, rowText, refusedText, monthText, monthsText, yearText}

@@ -1,6 +1,5 @@
 -- `century::add_row`: the year's row is laid where the rows end, and the line counted. Assumes nothing.
 use borrow.Author.Needs.{needs}
-use mathlib.Core.Path.{_≡_, ap, _∙_}
 use Rattle.century.proofs.add_row.Statement.{statement}
 use Rattle.century.proofs.add_row.Tie as tie
 

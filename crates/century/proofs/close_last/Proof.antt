@@ -1,6 +1,6 @@
 -- `century::close_last`: a line of which anything has come is closed. Assumes nothing.
 use borrow.Author.Needs.{needs}
-use mathlib.Core.Path.{_≡_, sym, _∙_}
+use mathlib.Core.Path.{sym, _∙_}
 use borrow.Author.Tests.{eq-eqb, ne-eqb}
 use Rattle.century.specs.Century.{closed, lastClosed}
 use Rattle.century.proofs.Closing.{refused-stays, goes-on}

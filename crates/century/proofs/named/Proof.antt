@@ -1,7 +1,5 @@
 -- `century::named`: one or two bytes, if they are digits. Assumes nothing.
 use borrow.Author.Needs.{needs}
-use native.Mathlib.Omega.{arith}
-use mathlib.Core.Path.{_≡_, sym, _∙_}
 use borrow.Author.Tests.{le-leb, lt-leb}
 use Rattle.century.specs.Century.{namedOf}
 use lib.ListN.{length}

@@ -1,6 +1,5 @@
 -- `century::pass_over`: the line is counted, and nothing kept of it. Assumes nothing.
 use borrow.Author.Needs.{needs}
-use mathlib.Core.Path.{ap}
 use Rattle.century.proofs.pass_over.Statement.{statement}
 use Rattle.century.proofs.pass_over.Tie as tie
 

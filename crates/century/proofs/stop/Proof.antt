@@ -1,6 +1,5 @@
 -- `century::stop`: the line is counted, and the number told. Assumes nothing.
 use borrow.Author.Needs.{needs}
-use mathlib.Core.Path.{ap}
 use Rattle.century.proofs.stop.Statement.{statement}
 use Rattle.century.proofs.stop.Tie as tie
 

@@ -1,5 +1,4 @@
 -- `layout::all_spaces`: what is left is all spaces exactly where the whole is. Assumes nothing.
-use borrow.Author.Needs.{needs}
 use mathlib.Core.Path.{_≡_, refl, sym, _∙_}
 use Prim.Native.Nat.{_-_, _≤_}
 use native.Mathlib.Omega.{arith}

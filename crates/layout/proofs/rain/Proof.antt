@@ -1,10 +1,10 @@
 -- `layout::rain`: each answer is the definition's, where the tests before it went as they did. Assumes nothing.
 use borrow.Author.Needs.{needs}
 use native.Mathlib.Omega.{arith}
-use mathlib.Core.Path.{_≡_, refl, sym}
+use mathlib.Core.Path.{_≡_, sym}
 use mathlib.Core.Bool.{Bool, true, false}
 use Prim.Native.Nat.{ℕ, _*_, _≤_, _<_}
-use borrow.Author.Tests.{eq-eqb, ne-eqb, le-leb, lt-leb, not-true, not-false}
+use borrow.Author.Tests.{ne-eqb, le-leb, lt-leb, not-true, not-false}
 use Rattle.layout.specs.Rainfall.{isMark, inRange, rainOf}
 use Rattle.layout.specs.declared.Month.the-variants.{Amount, Missing, Outside}
 use Rattle.layout.proofs.rain.Statement.{statement}

@@ -1,17 +1,16 @@
 -- `layout::read`: a line that is too short is refused, as is one with a refusal, and any other's figures are those of its months. Assumes
 -- nothing.
 use borrow.Author.Needs.{needs}
-use mathlib.Core.Path.{_≡_, refl, sym, ap, ap₂, _∙_}
+use mathlib.Core.Path.{_≡_, refl, sym, ap, _∙_}
 use mathlib.Core.List.{List, map}
-use Prim.Native.Nat.{ℕ, zero, suc, _≤_, _<_}
+use Prim.Native.Nat.{ℕ, zero, suc, _<_}
 use native.Mathlib.Omega.{arith}
 use lib.Count.{ones}
 use lib.ListN.{length, length-map}
-use Rattle.layout.specs.Rainfall.{monthsOf, isPresent, amountOf, setOf, countOf, firstMissing, malformed, refusal, refused, told, answered, yearSaid}
+use Rattle.layout.specs.Rainfall.{monthsOf, isPresent, amountOf, setOf, refused, told, answered, yearSaid}
 use Rattle.layout.specs.Steps.{foundIn, lowestMissing}
 use Rattle.layout.specs.declared.Found.{Found}
 use Rattle.layout.specs.declared.Month.{Month}
-use Rattle.layout.specs.declared.Year.{Year}
 use Rattle.layout.proofs.Sets.{set-below, ones-count, lowest-first}
 use Rattle.layout.proofs.Months.{months-twelve}
 use Rattle.layout.proofs.Refusals.{too-short}

@@ -2,17 +2,17 @@
 -- nothing.
 use borrow.Author.Needs.{needs}
 use mathlib.Core.Path.{_≡_, sym, ap, _∙_}
-use mathlib.Core.Bool.{true, false}
+use mathlib.Core.Bool.{true}
 use mathlib.Core.List.{List}
 use Prim.Native.Nat.{ℕ, _≤_, _<_}
 use native.Mathlib.Omega.{arith}
-use lib.ListN.{length, take, drop, length-take}
+use lib.ListN.{length, drop, length-take}
 use lib.Seq.{length-take-le}
 use borrow.Author.Tests.{not-true, not-false}
-use Rattle.text.specs.Bytes.{negative, body}
+use Rattle.text.specs.Bytes.{body}
 use Rattle.layout.specs.Field.{plain, ahead, units, decimals}
 use Rattle.layout.specs.Steps.{digitsOf}
-use Rattle.layout.specs.declared.Digits.the-variants.{Make, Other}
+use Rattle.layout.specs.declared.Digits.the-variants.{Make}
 use Rattle.layout.proofs.Naturals.{made-digits, natural-small}
 use Rattle.layout.proofs.Fields.{units-short, no-point, not-plain, not-units, not-decimals, number}
 use Rattle.layout.proofs.read_field.Statement.{statement}

@@ -1,6 +1,6 @@
 -- `layout::read_month`: what the field says, as a month's precipitation. Assumes nothing.
 use borrow.Author.Needs.{needs}
-use mathlib.Core.Path.{_≡_, sym, ap, _∙_}
+use mathlib.Core.Path.{sym, ap, _∙_}
 use Rattle.layout.specs.Rainfall.{monthSaid, monthOf}
 use Rattle.layout.proofs.read_month.Statement.{statement}
 use Rattle.layout.proofs.read_month.Tie as tie

@@ -1,12 +1,12 @@
 -- `layout::read_months`: what is found so far is what is found in the months so far, and the amounts so far are theirs. Assumes nothing.
 use borrow.Author.Needs.{needs}
-use mathlib.Core.Path.{_≡_, refl, sym, ap, ap₂, _∙_}
+use mathlib.Core.Path.{_≡_, refl, sym, ap, _∙_}
 use mathlib.Core.List.{List, [], _∷_, _++_, map, map-append}
-use Prim.Native.Nat.{ℕ, suc, _+_, _-_, _*_, _^_, _≤_, _<_}
+use Prim.Native.Nat.{ℕ, _+_, _-_, _*_, _^_, _≤_, _<_}
 use native.Mathlib.Nat.{pow-suc}
 use native.Mathlib.Numerals.{add-one}
 use native.Mathlib.Omega.{arith}
-use lib.ListN.{length, take, drop, getD, set, length-drop, length-map, length-set}
+use lib.ListN.{length, take, drop, set, length-drop, length-map, length-set}
 use lib.Pow.{pow-mono}
 use lib.Seq.{take-suc, take-suc-set, take-all, length-take-le}
 use Rattle.layout.specs.Rainfall.{monthOf, monthsOf, amountOf, isPresent, some, setOf}

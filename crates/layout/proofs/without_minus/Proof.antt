@@ -1,7 +1,7 @@
 -- `layout::without_minus`: all but the first byte where that is a minus, and else all. Assumes nothing.
 use borrow.Author.Needs.{needs}
-use mathlib.Core.Path.{_≡_, sym, ap, _∙_}
-use mathlib.Core.Bool.{true, false}
+use mathlib.Core.Path.{_≡_, sym, _∙_}
+use mathlib.Core.Bool.{true}
 use native.Mathlib.Omega.{arith}
 use Rattle.text.specs.Bytes.{negative}
 use Rattle.layout.proofs.Parts.{to-end, minus-long, body-minus, body-plain}

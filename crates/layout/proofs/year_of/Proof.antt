@@ -1,6 +1,6 @@
 -- `layout::year_of`: its two tests are those of the definition. Assumes nothing.
 use borrow.Author.Needs.{needs}
-use mathlib.Core.Path.{_≡_, sym, _∙_}
+use mathlib.Core.Path.{sym, _∙_}
 use borrow.Author.Tests.{le-leb, lt-leb}
 use Rattle.layout.specs.Rainfall.{yearOf}
 use Rattle.layout.proofs.Naturals.{made-digits, other-digits}

@@ -1,6 +1,6 @@
 -- `lines::feed`: its two tests are those of the definition, and each arm makes the definition's record. Assumes nothing.
 use borrow.Author.Needs.{needs}
-use mathlib.Core.Path.{_≡_, sym, _∙_}
+use mathlib.Core.Path.{sym, _∙_}
 use Rattle.lines.specs.Reading.{fed}
 use Rattle.lines.proofs.feed.Statement.{statement}
 use Rattle.lines.proofs.feed.Tie as tie

@@ -1,6 +1,6 @@
 -- `lines::grown`: a size above the range stays above it, and within the range the sum is far below what a `u32` holds. Assumes nothing.
 use borrow.Author.Needs.{needs}
-use mathlib.Core.Path.{_≡_, sym}
+use mathlib.Core.Path.{sym}
 use native.Mathlib.Omega.{arith}
 use Rattle.text.specs.Bytes.{andDigit}
 use Rattle.text.proofs.Digits.{digit-range}

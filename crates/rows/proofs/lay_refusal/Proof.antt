@@ -1,7 +1,6 @@
 -- `rows::lay_refusal`: each piece is laid where the one before it ends, so the whole line is. Assumes nothing.
 use borrow.Author.Needs.{needs}
-use mathlib.Core.List.{List, [], _∷_, _++_}
-use Prim.Native.Nat.{ℕ}
+use mathlib.Core.List.{[], _∷_}
 use native.Mathlib.Omega.{arith}
 use Rattle.text.specs.Bytes.{space, lineFeed}
 use Rattle.rows.specs.Text.{numeral, refusedWord, refusedText}
