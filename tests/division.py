@@ -8,7 +8,6 @@ Each input is given whole and, through a pipe, in pieces that cut lines anywhere
 only this is asked: one line, closed, with the refused line's number in it; the words themselves are asked of a few,
 WORDS. It prints how many inputs were run.
 """
-import os
 import re
 import sys
 from collections import Counter
@@ -16,10 +15,10 @@ from collections import Counter
 import layout_reader
 import layout_vectors
 import running
+import stored
 from division_file import MISSING, Draw, file, line, published, rainfall
 
 COMMAND = running.command('division')
-FOLDER = os.path.join(running.TOP, 'crates', 'division')
 
 # the sample's divisions and their climates; the figures are made up
 SAMPLE = [(1, 1, (450, 2, 250)), (1, 2, (465, 2, 250)), (14, 7, (165, 5, 650))]
@@ -85,7 +84,7 @@ def sample():
     return lines
 
 
-def stored():
+def files():
     data = joined(sample())
     rows, _ = layout_reader.century(data, *map(int, SHOWN))
     return {'stdin': data, 'stdout': rows}
@@ -332,15 +331,7 @@ def run():
 def main():
     if sys.argv[1:] not in ([], ['--write']):
         sys.exit('division.py [--write]')
-    for name, data in stored().items():
-        path = os.path.join(FOLDER, name)
-        if sys.argv[1:]:
-            with open(path, 'wb') as f:
-                f.write(data)
-        else:
-            with open(path, 'rb') as f:
-                if f.read() != data:
-                    sys.exit('division: %s is not what this program makes' % name)
+    stored.settle(stored.crate('division', files()), bool(sys.argv[1:]))
     if not sys.argv[1:]:
         words()
         run()

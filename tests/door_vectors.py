@@ -7,14 +7,14 @@
 It shares nothing with the Rattle code but document 01: a pattern is taken apart by the struct module, its exact
 value is a Fraction, and the nearest thousandth, halves up, is floor(value + 1/2).
 """
-import os
 import random
 import struct
 import sys
 from fractions import Fraction
 from math import floor
 
-FOLDER = os.path.join(os.path.dirname(os.path.abspath(__file__)), '..', 'crates', 'door_vectors')
+import stored
+
 UNITS = {'i': (100, Fraction(1000)), 'm': (2540, Fraction(5000, 127))}
 
 
@@ -117,13 +117,7 @@ def answer(letter, first, second):
 def main():
     vectors = list(lines())
     made = {'stdin': ''.join('%s %08x %08x\n' % v for v in vectors), 'stdout': ''.join(answer(*v) + '\n' for v in vectors)}
-    for name, text in made.items():
-        path = os.path.join(FOLDER, name)
-        if '--write' in sys.argv:
-            with open(path, 'w') as f:
-                f.write(text)
-        elif open(path).read() != text:
-            sys.exit('%s is not what this program makes' % name)
+    stored.settle(stored.crate('door_vectors', made), '--write' in sys.argv)
     print('%d vectors' % len(vectors))
 
 

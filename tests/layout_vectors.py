@@ -10,16 +10,15 @@ A line of stdin: state, division and year asked for, in two, two and four digits
 line of stdout: the refusal or 0, twelve amounts in thousandths, the set of months present, how many they are, the
 first missing month. The answers are those of layout_reader.py.
 """
-import os
 import sys
 from collections import Counter
 from itertools import combinations
 
 import layout_reader
 import running
+import stored
 from division_file import Draw, value
 
-FOLDER = os.path.join(os.path.dirname(os.path.abspath(__file__)), '..', 'crates', 'layout_vectors')
 SEED, DRAWN, MORE = 1895, 200, 160
 # the program has room for 262,144 bytes
 AT_ONCE = 500
@@ -370,15 +369,7 @@ def main():
             print('%d: %s: %d' % (number, name, layout_reader.read(text, *asked).number))
         return
     made = files(vectors)
-    for name, data in zip(('stdin', 'stdout'), made):
-        path = os.path.join(FOLDER, name)
-        if given:
-            with open(path, 'wb') as f:
-                f.write(data)
-        else:
-            with open(path, 'rb') as f:
-                if f.read() != data:
-                    sys.exit('layout_vectors: %s is not what this program makes' % name)
+    stored.settle(stored.crate('layout_vectors', dict(zip(('stdin', 'stdout'), made))), given == ['--write'])
     print(summary(made))
 
 

@@ -5,7 +5,7 @@ import tempfile
 import threading
 import time
 
-TOP = os.path.join(os.path.dirname(os.path.abspath(__file__)), '..')
+from stored import TOP
 
 
 def command(name, *arguments):

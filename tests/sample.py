@@ -13,12 +13,12 @@ import os
 import sys
 
 import source_tables as source
+import stored
 
-TOP = os.path.join(os.path.dirname(os.path.abspath(__file__)), '..')
-SERIES = os.path.join(TOP, 'samples', 'western-kansas.txt')
+SERIES = os.path.join(stored.TOP, 'samples', 'western-kansas.txt')
 # what the gate gives the program, and what it must print
-GIVEN = os.path.join(TOP, 'crates', 'palmer', 'stdin')
-PRINTED = os.path.join(TOP, 'crates', 'palmer', 'stdout')
+GIVEN = os.path.join(stored.TOP, 'crates', 'palmer', 'stdin')
+PRINTED = os.path.join(stored.TOP, 'crates', 'palmer', 'stdout')
 
 FIRST, LAST = (1932, 6), (1939, 9)
 
@@ -95,15 +95,7 @@ def main():
     whens = [when for when in source.months(*FIRST, 88) if when <= LAST]
     anomalies = [anomaly(when) for when in whens]
     made = {SERIES: anomalies, GIVEN: anomalies, PRINTED: rows(anomalies)}
-    for path, lines in made.items():
-        text = ''.join('%s\n' % line for line in lines)
-        if sys.argv[1:] == ['--write']:
-            with open(path, 'w') as f:
-                f.write(text)
-        else:
-            with open(path) as f:
-                if f.read() != text:
-                    sys.exit('%s is not what this program makes' % os.path.relpath(path, TOP))
+    stored.settle({path: ''.join('%s\n' % line for line in lines) for path, lines in made.items()}, sys.argv[1:] == ['--write'])
     scanned = [-z if when in RESTORED else z for when, z in zip(whens, anomalies)]
     near, lost = close(whens, anomalies, 30)
     print('%d months; within 0.02 of table 13: %d; within 0.03: %d, of these %d but for a sign that its scan lost' % (len(whens), close(whens, anomalies, 20)[0], near, lost))

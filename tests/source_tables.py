@@ -12,6 +12,8 @@ import os
 import re
 import sys
 
+import stored
+
 HERE = os.path.dirname(os.path.abspath(__file__))
 CRATES = os.path.join(HERE, '..', 'crates')
 
@@ -478,12 +480,7 @@ def main():
         + kansas_spells('1888 to 1891', YEARS_1888, dict(FRESH, X1=270), z_1888),
     }
     for crate, text in made.items():
-        path = os.path.join(CRATES, crate, 'stdout')
-        if '--write' in sys.argv:
-            with open(path, 'w') as f:
-                f.write(text)
-        elif open(path).read() != text:
-            sys.exit('crates/%s/stdout is not what this program makes' % crate)
+        stored.settle(stored.crate(crate, {'stdout': text}), '--write' in sys.argv)
         print('\n'.join(line for line in text.split('\n') if ' compared, ' in line))
 
 

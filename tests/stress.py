@@ -9,7 +9,6 @@ series settles each month by searching forward, and an add settles from what the
 stress program carries (crates/stress/src/main.rt says what each command does); each command is obeyed here, and a call
 makes the line that the program must write. The second half lists the cases, by hand and from a fixed seed.
 """
-import os
 import random
 import struct
 import sys
@@ -18,7 +17,8 @@ from fractions import Fraction
 from itertools import product
 from math import floor
 
-FOLDER = os.path.join(os.path.dirname(os.path.abspath(__file__)), '..', 'crates', 'stress')
+import stored
+
 
 # ---- document 01
 
@@ -959,13 +959,7 @@ def everything():
 
 def main():
     w = everything()
-    for name, text in (('stdin', ''.join(w.commands)), ('stdout', ''.join(w.lines))):
-        path = os.path.join(FOLDER, name)
-        if '--write' in sys.argv:
-            with open(path, 'w') as f:
-                f.write(text)
-        elif open(path).read() != text:
-            sys.exit('%s is not what this program makes' % name)
+    stored.settle(stored.crate('stress', {'stdin': ''.join(w.commands), 'stdout': ''.join(w.lines)}), '--write' in sys.argv)
     print('%d commands, %d of them calls' % (len(w.commands), sum(w.calls.values())))
     for letter, name in zip('QSWIZRH', ('readings', 'starts', 'water', 'inches', 'Z', 'rows', 'whole series')):
         given = ', '.join('%d: %d' % (number, w.refused[letter, number]) for number in range(13) if w.refused[letter, number])
