@@ -262,18 +262,17 @@ WORDS = [
     ([year(1897)], b'line 2: the year is 1897, and 1896 was to follow'),
     ([year(1895, state=2), year(1895)], b'line 3: the year is 1895, and 1896 was to follow'),
 ]
-NOWHERE = b'division: no line up to line 1 is precipitation of state 48, division 10\n'
+# and where no line is of state 48, division 10
+NOWHERE = [([], b'the input is empty'), ([year(1895)], b'no line up to line 1 is precipitation of state 48, division 10')]
 
 
 def words():
     """The words of refusals."""
-    for lines, said in WORDS:
-        out, err, status = running.printed(COMMAND + ['1', '01'], joined([year(1895)] + lines), 1)
+    asked = [(('1', '01'), [year(1895)] + lines, said) for lines, said in WORDS] + [(('48', '10'), lines, said) for lines, said in NOWHERE]
+    for arguments, lines, said in asked:
+        err = running.printed(COMMAND + list(arguments), joined(lines), 1)[1]
         if err != b'division: ' + said + b'\n':
             sys.exit('division: %r: it says %r, and not %r' % (lines, err, said))
-    out, err, status = running.printed(COMMAND + ['48', '10'], joined([year(1895)]), 1)
-    if err != NOWHERE:
-        sys.exit('division: it says %r, and not %r' % (err, NOWHERE))
 
 
 def one_line(text):

@@ -137,6 +137,10 @@ fn explain_line(lines: u32, line: &[u8]) {
 
 // 15: no line was of the state and the division.
 fn explain_none(lines: u32, state: u32, division: u32) {
+    if lines == 0 {
+        say(b"division: the input is empty\n");
+        return;
+    }
     say(b"division: no line up to line ");
     say_number(lines);
     say(b" is precipitation of state ");
