@@ -12,11 +12,12 @@ use Rattle.text.specs.Bytes.{lineFeed, minusSign, allDigits, natural}
 use Rattle.text.proofs.Digits.{apart}
 use Rattle.layout.specs.Columns.{year, values}
 use Rattle.layout.specs.Field.{fieldOf}
-use Rattle.layout.specs.Rainfall.{isMark, inRange, rainOf, monthSaid, monthOf, monthsOf, isPresent, amountOf, countOf, headed, isLine, rainFits, isNamed, isYear, another, refusal, answered, yearSaid}
+use Rattle.layout.specs.Rainfall.{isMark, inRange, rainOf, monthSaid, monthOf, monthsOf, isPresent, amountOf, countOf, headed, isLine, rainFits, isNamed, isYear, another, refusal, yearSaid}
 use Rattle.layout.specs.declared.Field.{Field}
 use Rattle.layout.specs.declared.Field.the-variants as field
 use Rattle.layout.specs.declared.Month.{Month}
 use Rattle.layout.specs.declared.Month.the-variants.{Amount, Missing, Outside}
+use Rattle.layout.proofs.Exactly.{number-is}
 use Rattle.layout.proofs.Naturals.{natural-small}
 use Rattle.layout.proofs.Months.{months-twelve}
 use Rattle.rows.specs.Text.{numeral, monthText, monthsText, yearText, laid}
@@ -50,14 +51,6 @@ accepted-by line s d y false b c t e f g i h = absurd (omega (arith, rw e at h))
 
 pub accepted-year : (line : List ℕ) (s d y : ℕ) → refusal line s d y ≡ 0 → y < 10000
 accepted-year line s d y = accepted-by line s d y _ _ _ _ refl refl refl refl
-
-answered-by : (n : ℕ) (ms : List Month) → answered n ms .number ≡ n
-answered-by zero ms = refl
-answered-by (suc k) ms = refl
-
-pub answered-number : (line : List ℕ) (s d y : ℕ) → yearSaid line s d y .number ≡ refusal line s d y
-unfolding yearSaid
-answered-number line s d y = answered-by (refusal line s d y) (monthsOf line)
 
 -- ---- its row: a month has at most 100,000 thousandths, and at most twelve are present
 rain-by : (minus : Bool) (n : ℕ) (t : Bool) → leb n 10000 ≡ t → amountOf (rainOf minus n) ≤ 100000
@@ -129,7 +122,7 @@ module _ (s : Session) (line out : List ℕ) (h : Held s line out) where
 
   closed-by : (n : ℕ) → let year = yearSaid (read s line) (s .state) (s .division) (yearFor s line) in year .number ≡ n → HeldBy line (closedBy n s out year (yearFor s line))
   closed-by zero e =
-      let taken = sym (answered-number _ _ _ _) ∙ e in
+      let taken = sym (number-is _ _ _ _) ∙ e in
       let year = yearSaid (read s line) (s .state) (s .division) (yearFor s line) in
       let short = row-short _ _ _ _ taken in
       let left = room-for-row taken in

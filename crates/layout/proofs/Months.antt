@@ -1,13 +1,14 @@
 -- The twelve months of a line, and what is found of them one after another. Assumes nothing.
-use mathlib.Core.Path.{_≡_, refl}
+use mathlib.Core.Path.{_≡_, refl, ap}
 use mathlib.Core.Bool.{Bool, true, false}
 use mathlib.Core.List.{List, [], _∷_, _++_, map, map-append}
 use Prim.Native.Nat.{ℕ, zero, suc, _+_, _*_, _^_, _<_}
 use native.Mathlib.Omega.{arith}
 use lib.ListN.{length, take, drop, getD, length-map}
 use Rattle.layout.specs.Columns.{values}
-use Rattle.layout.specs.Rainfall.{monthOf, monthsOf, isMalformed, isOutside, isPresent, some}
+use Rattle.layout.specs.Rainfall.{monthOf, monthsOf, isMalformed, isOutside, isPresent, some, setOf}
 use Rattle.layout.specs.Steps.{foundIn, andMonth}
+use Rattle.layout.specs.declared.Found.{Found}
 use Rattle.layout.specs.declared.Month.{Month}
 use Rattle.layout.specs.declared.Month.the-variants.{Amount, Missing, Outside, Malformed}
 use Rattle.layout.proofs.Sets.{set-more, set-same}
@@ -56,3 +57,7 @@ found-more ms Outside =
     rw (map-append isMalformed ms (Outside ∷ []), map-append isOutside ms (Outside ∷ []), map-append isPresent ms (Outside ∷ []), some-same (map isMalformed ms), some-more (map isOutside ms), set-same (map isPresent ms))
 found-more ms Malformed =
     rw (map-append isMalformed ms (Malformed ∷ []), map-append isOutside ms (Malformed ∷ []), map-append isPresent ms (Malformed ∷ []), some-more (map isMalformed ms), some-same (map isOutside ms), set-same (map isPresent ms))
+
+pub found-present : (ms : List Month) (f : Found) → f ≡ foundIn ms → f .present ≡ setOf (map isPresent ms)
+unfolding foundIn
+found-present ms f e = ap (λ (f : Found). f .present) e

@@ -8,11 +8,12 @@ use lib.ListN.{take}
 use lib.Seq.{length-take-le}
 use Rattle.layout.specs.Rainfall.{refusal, yearSaid}
 use Rattle.layout.specs.declared.Year.{Year}
+use Rattle.layout.proofs.Exactly.{number-is}
 use Rattle.century.specs.ByLines.{expected}
 use Rattle.century.specs.Century.{closed, closedWith, lineClosed}
 use Rattle.century.specs.declared.Session.{Session}
 use Rattle.century.proofs.Closing.{closing-row, closing-passed, closing-stopped, closing}
-use Rattle.century.proofs.Room.{accepted-year, answered-number, room-for-row}
+use Rattle.century.proofs.Room.{accepted-year, room-for-row}
 use Rattle.century.proofs.close_line.Statement.{statement}
 use Rattle.century.proofs.close_line.Tie as tie
 
@@ -33,7 +34,7 @@ unrefused-line : (e : tie.Else2) → let r = e .before .before in refusal (line 
 unrefused-line e =
     let r = e .before .before in
     let s = start r .args .s in
-    sym (answered-number (line r) (s .state) (s .division) (expected (s .next) (line r)))
+    sym (number-is (line r) (s .state) (s .division) (expected (s .next) (line r)))
     ∙ sym (ap (λ (y : Year). y .number) (r .read .ensures ∙ ap (yearSaid (line r) (s .state) (s .division)) (year-is r))) ∙ e .if2 .left
 
 slice-aggregate-expected-year : tie.Need-slice-aggregate-expected-year

@@ -1,25 +1,13 @@
 -- `century::keep_byte`: a byte that is kept goes to the next place, and else nothing changes. Assumes nothing.
 use borrow.Author.Needs.{needs}
 use native.Mathlib.Omega.{arith}
-use mathlib.Core.Path.{_≡_, refl, sym, _∙_}
-use mathlib.Core.Bool.{Bool, true, false}
-use Prim.Native.Nat.{ℕ, _≤_}
-use lib.Dec.{ltb, eqb}
-use borrow.Author.Tests.{not-true, not-false, ltb-true, eqb-true}
+use mathlib.Core.Path.{_≡_, sym, _∙_}
+use mathlib.Core.Bool.{true}
+use borrow.Author.Tests.{not-true, not-false}
 use Rattle.century.specs.Century.{isKept, keptCount, keptLine}
-use Rattle.text.proofs.Digits.{apart}
+use Rattle.century.proofs.Room.{kept-within}
 use Rattle.century.proofs.keep_byte.Statement.{statement}
 use Rattle.century.proofs.keep_byte.Tie as tie
-
-kept-by : (k b : ℕ) (t u : Bool) → ltb k 94 ≡ t → eqb k 94 ≡ u → isKept k b ≡ true → k ≤ 94
-unfolding isKept
-kept-by k b true u e f h = omega (arith, ltb-true k 94 e)
-kept-by k b false true e f h = omega (arith, eqb-true k 94 f)
-kept-by k b false false e f h = absurd (apart (rw (e, f) at h))
-
--- a byte is kept at a place of the first 95
-kept-at : (k b : ℕ) → isKept k b ≡ true → k ≤ 94
-kept-at k b = kept-by k b (ltb k 94) (eqb k 94) refl refl
 
 told : (c : tie.Else1) → isKept (c .before .before .before .args .kept) (c .before .before .before .args .b) ≡ true
 told c = sym (c .before .is-kept .ensures) ∙ not-false _ (c .if1 .left)
@@ -32,10 +20,10 @@ unfolding keptCount keptLine
 returns c = let k = sym (c .before .is-kept .ensures) ∙ not-true _ (c .if1 .taken) in (rw k, rw k)
 
 slice-write-line : tie.Need-slice-write-line
-slice-write-line c = omega (arith, kept-at (c .before .before .before .args .kept) (c .before .before .before .args .b) (told c), c .before .before .before .pre)
+slice-write-line c = omega (arith, kept-within (c .before .before .before .args .kept) (c .before .before .before .args .b) (told c), c .before .before .before .pre)
 
 add-result : tie.Need-add-result
-add-result c = record { fits = omega (arith, kept-at (c .before .before .before .args .kept) (c .before .before .before .args .b) (told c)) }
+add-result c = record { fits = omega (arith, kept-within (c .before .before .before .args .kept) (c .before .before .before .args .b) (told c)) }
 
 same-length : tie.Need-same-length
 same-length c = search needs

@@ -12,7 +12,7 @@ use Rattle.layout.specs.Steps.{foundIn, lowestMissing}
 use Rattle.layout.specs.declared.Found.{Found}
 use Rattle.layout.specs.declared.Month.{Month}
 use Rattle.layout.proofs.Sets.{set-below, ones-count, lowest-first}
-use Rattle.layout.proofs.Months.{months-twelve}
+use Rattle.layout.proofs.Months.{months-twelve, found-present}
 use Rattle.layout.proofs.Refusals.{too-short}
 use Rattle.layout.proofs.read.Statement.{statement}
 use Rattle.layout.proofs.read.Tie as tie
@@ -26,17 +26,13 @@ answer-refused (suc k) ms h = refl
 flags-twelve : (line : List ℕ) → length (map isPresent (monthsOf line)) ≡ 12
 flags-twelve line = length-map (monthsOf line) isPresent ∙ months-twelve line
 
-present-is : (f : Found) (line : List ℕ) → f ≡ foundIn (monthsOf line) → f .present ≡ setOf (map isPresent (monthsOf line))
-unfolding foundIn
-present-is f line e = ap (λ (f : Found). f .present) e
-
 flags-below : (line : List ℕ) → setOf (map isPresent (monthsOf line)) < 4096
 flags-below line = rw (flags-twelve line) at (set-below (map isPresent (monthsOf line)))
 
 -- and those that are read
 told-is : (line am : List ℕ) (f : Found) (gap : ℕ) → am ≡ map amountOf (monthsOf line) → f ≡ foundIn (monthsOf line) → gap ≡ lowestMissing (f .present) → record { number = 0; amounts = am; present = f .present; count = ones (f .present); «first_missing» = gap } ≡ told (monthsOf line)
 told-is line am f gap a e g =
-    let p = present-is f line e in
+    let p = found-present (monthsOf line) f e in
     rw (g, p, a, ones-count (map isPresent (monthsOf line)), lowest-first (map isPresent (monthsOf line)) (flags-twelve line))
 
 refused-requires : tie.Need-refused-requires
@@ -72,7 +68,7 @@ first-missing-requires : tie.Need-first-missing-requires
 first-missing-requires c κs =
     let m = c .before .before .before in
     let l = m .before .before .before .before .args .line .now in
-    omega (arith, present-is (m .read-months .result) l (m .read-months .ensures .0), flags-below l)
+    omega (arith, found-present (monthsOf l) (m .read-months .result) (m .read-months .ensures .0), flags-below l)
 
 returns-3 : tie.Need-returns-3
 unfolding yearSaid

@@ -11,11 +11,10 @@ use lib.Pow.{pow-mono}
 use lib.Seq.{take-suc, take-suc-set, take-all, length-take-le}
 use Rattle.layout.specs.Rainfall.{monthOf, monthsOf, amountOf, isPresent, some, setOf}
 use Rattle.layout.specs.Steps.{foundIn, andMonth}
-use Rattle.layout.specs.declared.Found.{Found}
 use Rattle.layout.specs.declared.Month.{Month}
 use Rattle.layout.specs.declared.Month.the-variants.{Malformed}
 use Rattle.layout.proofs.Sets.{set-below}
-use Rattle.layout.proofs.Months.{months-twelve, month-at, found-more}
+use Rattle.layout.proofs.Months.{months-twelve, month-at, found-more, found-present}
 use Rattle.layout.proofs.read_months.Statement.{statement}
 use Rattle.layout.proofs.read_months.Tie as tie
 
@@ -54,10 +53,6 @@ module _ (line : List ℕ) (m : ℕ) (h : m < 12) where
 
   bit-below : 2 ^ m ≤ 2048
   bit-below = pow-mono {i = m} {j = 11} (omega arith)
-
-found-present : (line : List ℕ) (m : ℕ) (f : Found) → f ≡ foundIn (take m (monthsOf line)) → f .present ≡ setOf (map isPresent (take m (monthsOf line)))
-unfolding foundIn
-found-present line m f e = ap (λ (f : Found). f .present) e
 
 pow-next : (m : ℕ) → 2 ^ (m + 1) ≡ 2 ^ m * 2
 pow-next m = rw (add-one m) (pow-suc 2 m)
@@ -116,7 +111,7 @@ and-month-requires c κs =
     let a = c .before .before .before .before in
     let l = a .before .before .before .args .line .now in
     let h = c .before .before .before .loop-test .taken in
-    let p = found-present l (a .loop .m) (a .loop .found) (a .loop .inv .3) in
+    let p = found-present (take (a .loop .m) (monthsOf l)) (a .loop .found) (a .loop .inv .3) in
     omega (arith, p, present-below l (a .loop .m) h, bit-below l (a .loop .m) h, a .loop .inv .2)
 
 mul-bit : tie.Need-mul-bit Inv-loop μ-loop
