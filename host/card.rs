@@ -110,6 +110,19 @@ pub struct Added {
     pub run: Run,
 }
 
+/// What stands in a season's lists for a missing reading.
+pub const NO_READING: i32 = -1;
+
+#[repr(C)]
+#[derive(Clone, Copy, Debug, PartialEq, Eq)]
+pub struct Season {
+    pub number: u8,
+    pub added: u32,
+    pub settled: u32,
+    pub figures: Figures,
+    pub run: Run,
+}
+
 #[repr(C)]
 #[derive(Clone, Copy, Debug)]
 pub struct MonthInches {
@@ -146,6 +159,7 @@ mod c {
         pub fn card_add_water(run: Run, p: Reading, pe: Reading, x1: *mut i32, n1: usize, x2: *mut i32, n2: usize, x3: *mut i32, n3: usize, index: *mut i32, ni: usize, mark: *mut u8, nm: usize) -> Added;
         pub fn card_add_inches(run: Run, month: MonthInches, x1: *mut i32, n1: usize, x2: *mut i32, n2: usize, x3: *mut i32, n3: usize, index: *mut i32, ni: usize, mark: *mut u8, nm: usize) -> Added;
         pub fn card_add_z(run: Run, z: i32, x1: *mut i32, n1: usize, x2: *mut i32, n2: usize, x3: *mut i32, n3: usize, index: *mut i32, ni: usize, mark: *mut u8, nm: usize) -> Added;
+        pub fn card_add_season(run: Run, p: *const i32, np: usize, pe: *const i32, npe: usize, x1: *mut i32, n1: usize, x2: *mut i32, n2: usize, x3: *mut i32, n3: usize, index: *mut i32, ni: usize, mark: *mut u8, nm: usize) -> Season;
         pub fn card_row(run: Run, row: usize, x1: *const i32, n1: usize, x2: *const i32, n2: usize, x3: *const i32, n3: usize, index: *const i32, ni: usize, mark: *const u8, nm: usize) -> Shown;
         pub fn card_whole_series(z: *const i32, nz: usize, index: *mut i32, ni: usize, mark: *mut u8, nm: usize) -> u8;
     }
@@ -180,6 +194,13 @@ pub fn add_inches(run: Run, month: MonthInches, k: &mut Columns) -> Added {
 pub fn add_z(run: Run, z: i32, k: &mut Columns) -> Added {
     unsafe {
         c::card_add_z(run, z, k.x1.as_mut_ptr(), k.x1.len(), k.x2.as_mut_ptr(), k.x2.len(), k.x3.as_mut_ptr(), k.x3.len(), k.index.as_mut_ptr(), k.index.len(), k.mark.as_mut_ptr(), k.mark.len())
+    }
+}
+
+#[rustfmt::skip]
+pub fn add_season(run: Run, p: &[i32], pe: &[i32], k: &mut Columns) -> Season {
+    unsafe {
+        c::card_add_season(run, p.as_ptr(), p.len(), pe.as_ptr(), pe.len(), k.x1.as_mut_ptr(), k.x1.len(), k.x2.as_mut_ptr(), k.x2.len(), k.x3.as_mut_ptr(), k.x3.len(), k.index.as_mut_ptr(), k.index.len(), k.mark.as_mut_ptr(), k.mark.len())
     }
 }
 

@@ -17,7 +17,8 @@
  * Each call answers with a number: 0 where it did what it was asked, and otherwise the refusal, from the
  * list below. A refused call writes nothing that was lent, answers with all figures 0 and hands back the
  * run as it was given (a refused start: a run of zeros). Where several refusals hold, the first in the
- * order given with the call is the answer.
+ * order given with the call is the answer. A season, many months in one call, is refused month by month:
+ * the months before the refused one stay added, and of that month and those after it nothing is written.
  *
  * WHAT IS PROMISED, AND WHAT THE CALLER OWES
  *
@@ -50,7 +51,8 @@ extern "C" {
 enum {
     CARD_DONE = 0,
     CARD_LENGTHS = 1,        /* the columns, or the lists of a whole series, not all of one length, or
-                                length 0 or above CARD_MOST_MONTHS */
+                                length 0 or above CARD_MOST_MONTHS; the two lists of a season not of one
+                                length */
     CARD_NOT_SIXTY = 2,      /* constants not sixty numbers */
     CARD_CONSTANT = 3,       /* a constant outside its range */
     CARD_CAPACITY = 4,       /* capacity outside its range */
@@ -243,6 +245,41 @@ card_added card_add_z(card_run run, int32_t z,
                       int32_t *x3, size_t x3_length,
                       int32_t *index, size_t index_length,
                       uint8_t *mark, size_t mark_length);
+
+/* ---- Adding a season ------------------------------------------------------------------------------ */
+
+/* What stands in a season's lists for a missing reading. */
+#define CARD_NO_READING (-1)
+
+/* What a season came to. All but the number tells of the months that were added, also where one was then
+ * refused. */
+typedef struct card_season {
+    uint8_t number;       /* 0 where all months were added, and otherwise the refusal of the first that was
+                             not */
+    uint32_t added;       /* how many were added: the lists' place of the month that was refused */
+    uint32_t settled;     /* how many months they settled, all together */
+    card_figures figures; /* of the last month added, all 0 where none was */
+    card_run run;         /* the run with these months added */
+} card_season;
+
+/* Adds months of water in order, as card_add_water would one by one: the run, the columns, the counts and
+ * the figures are those of the single adds. For a card that comes back with several months at once.
+ *
+ * precipitation and pe: lists of one length, any length, 0 included; whole thousandths of an inch, 0 to
+ * 100,000, or CARD_NO_READING.
+ *
+ * Refusals: before the first month 1 (the five columns as ever, and the two lists of unequal length), then
+ * 7; then of each month, in this order, precipitation 8 or 9, PE 8 or 9, 10. At the first month refused the
+ * call stops: the months before it stay added, and nothing of it or of those after it is written. With 1 or
+ * 7, or with empty lists, nothing is added. */
+card_season card_add_season(card_run run,
+                            const int32_t *precipitation, size_t precipitation_length,
+                            const int32_t *pe, size_t pe_length,
+                            int32_t *x1, size_t x1_length,
+                            int32_t *x2, size_t x2_length,
+                            int32_t *x3, size_t x3_length,
+                            int32_t *index, size_t index_length,
+                            uint8_t *mark, size_t mark_length);
 
 /* ---- Looking back --------------------------------------------------------------------------------- */
 

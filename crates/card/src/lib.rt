@@ -1,4 +1,4 @@
-// The card's library: every call of `drought`, for C to link. include/card.h is its manual.
+// The card's library: every call of `drought` and of `season`, for C to link. include/card.h is its manual.
 //
 // C has no enum that carries a value, so a reading comes in as a struct (specs/Given.antt says what it means)
 // and its answer goes out as one. All else is handed on as it came, and so is each promise.
@@ -9,12 +9,14 @@ use drought::Added;
 use drought::Shown;
 use runs::Run;
 use runs::Started;
+use season::Season;
 ghost use mathlib.Core.Path.{_≡_};
 ghost use Rattle.door.specs.Readings.{reading};
 ghost use Rattle.runs.specs.Start.{startOf};
 ghost use Rattle.series.specs.Series.{filled, wholeSeries};
 ghost use Rattle.drought.specs.Columns.{columns};
 ghost use Rattle.drought.specs.Asked.{result, addWater, addInches, addZ, rowOfRun};
+ghost use Rattle.season.specs.Season.{left, addSeason};
 ghost use Rattle.card.specs.Given.{given, answered};
 
 // A reading as C hands it in: its kind, and the number that this kind reads.
@@ -138,6 +140,24 @@ pub extern "C" fn card_add_z(
     ensures { λ a. ⌜ result a (columns (now (x1 .exit)) (now (x2 .exit)) (now (x3 .exit)) (now (index .exit)) (now (mark .exit))) ≡ addZ run z (columns (now (x1 .entry)) (now (x2 .entry)) (now (x3 .entry)) (now (index .entry)) (now (mark .entry))) ⌝ }
 {
     drought::add_z(run, z, x1, x2, x3, index, mark)
+}
+
+// Adds months of water in whole thousandths, -1 for missing, in order until one is refused: 1, 7, then as each
+// month's add 8 or 9, 10.
+#[no_mangle]
+pub extern "C" fn card_add_season(
+    run: Run,
+    p: &[i32],
+    pe: &[i32],
+    x1: &mut [i32],
+    x2: &mut [i32],
+    x3: &mut [i32],
+    index: &mut [i32],
+    mark: &mut [u8],
+) -> Season
+    ensures { λ s. ⌜ left s (columns (now (x1 .exit)) (now (x2 .exit)) (now (x3 .exit)) (now (index .exit)) (now (mark .exit))) ≡ addSeason run (now (p .entry)) (now (pe .entry)) (columns (now (x1 .entry)) (now (x2 .entry)) (now (x3 .entry)) (now (index .entry)) (now (mark .entry))) ⌝ }
+{
+    season::add_season(run, p, pe, x1, x2, x3, index, mark)
 }
 
 // Shows a month's row, from 0 on: 1, 7, 11.

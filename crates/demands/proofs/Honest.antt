@@ -19,10 +19,12 @@ use Rattle.runs.specs.Start.{startRefusal, freshRun}
 use Rattle.runs.specs.declared.Run.{Run}
 use Rattle.runs.proofs.RunLaws.{start-is-run}
 use Rattle.drought.specs.Columns.{Columns, long, columnsFit}
+use Rattle.drought.specs.Ready.{Good}
+use Rattle.drought.proofs.Accepts.{good-passes}
 use Rattle.drought.specs.Refusals.{orElse, badZ, full, runRefusal, roomRefusal, waterRefusal, zRefusal}
 use Rattle.demands.specs.Months.{Ask, water, anomaly, asked, State, after, afterAll}
 use Rattle.demands.specs.Months.{inches as both-inches}
-use Rattle.demands.proofs.Took.{Good, took, good-kept}
+use Rattle.demands.proofs.Took.{took, good-kept}
 use Rattle.demands.specs.Demands.{numberOf, Honest, begun}
 use Rattle.demands.proofs.Shown.{refused-add}
 
@@ -70,10 +72,6 @@ two : (t : Bool) (k : ℕ) → Honest k → Honest (cond t 0 k)
 two true k h = not-both 0 refl
 two false k h = h
 
-run-honest : (r : Run) (cs : Columns) → Good r cs → runRefusal (columnsFit cs) (long cs) r ≡ 0
-unfolding runRefusal
-run-honest r cs g = rw (g .fit, g .run)
-
 room-honest : (n : ℕ) (r : Run) → Honest (roomRefusal n r)
 unfolding roomRefusal
 room-honest n r = two (ltb (r .months) n) full ((λ h. omega arith), (λ h. omega arith))
@@ -84,13 +82,13 @@ unfolding waterRefusal zRefusal month inches
 never-refused r a cs g = subst Honest (sym (refused-add r a cs .0)) (go a)
   where
     waters : (p pe : ℕ) → Honest p → Honest pe → Honest (waterRefusal (columnsFit cs) (long cs) r p pe)
-    waters p pe h k = or-honest (runRefusal (columnsFit cs) (long cs) r) (orElse p (orElse pe (roomRefusal (long cs) r))) (not-both _ (run-honest r cs g)) (or-honest p (orElse pe (roomRefusal (long cs) r)) h (or-honest pe (roomRefusal (long cs) r) k (room-honest (long cs) r)))
+    waters p pe h k = or-honest (runRefusal (columnsFit cs) (long cs) r) (orElse p (orElse pe (roomRefusal (long cs) r))) (not-both _ (good-passes r cs g)) (or-honest p (orElse pe (roomRefusal (long cs) r)) h (or-honest pe (roomRefusal (long cs) r) k (room-honest (long cs) r)))
 
     go : (a : Ask) → Honest (numberOf r a cs)
     go (water p pe) = waters (reading p .number) (reading pe .number) (reading-honest p) (reading-honest pe)
     go (both-inches q) = waters (month q .p .number) (month q .pe .number) (converted-honest 100 1000 1 (q .p)) (converted-honest 100 1000 1 (q .pe))
     go (anomaly z) =
-        or-honest (runRefusal (columnsFit cs) (long cs) r) (orElse (cond (zFits z) 0 badZ) (roomRefusal (long cs) r)) (not-both _ (run-honest r cs g))
+        or-honest (runRefusal (columnsFit cs) (long cs) r) (orElse (cond (zFits z) 0 badZ) (roomRefusal (long cs) r)) (not-both _ (good-passes r cs g))
         (or-honest (cond (zFits z) 0 badZ) (roomRefusal (long cs) r) (two (zFits z) badZ ((λ h. omega arith), (λ h. omega arith))) (room-honest (long cs) r))
 
 -- from a start on: no sequence of calls on honest columns is ever refused 1 or 7

@@ -1,5 +1,4 @@
 -- The demands, and what their proofs share.
-pub mod Keeps
 pub mod Took
 pub mod Sequence
 pub mod Rows

@@ -16,7 +16,7 @@ use Rattle.runs.specs.declared.Run.{Run}
 use Rattle.drought.specs.Columns.{Columns, columnsFit, long}
 use Rattle.drought.specs.Asked.{Result, heldBy}
 use Rattle.demands.specs.Months.{Ask, asked, State, stateOf, after, afterAll, Accepted, Station, stationOf, stationNext, stationRow, rowsOfMonths}
-use Rattle.demands.proofs.Took.{Good, Took, took, good-kept, months-next, station-next, held-next, x1-next, x2-next, x3-next}
+use Rattle.demands.proofs.Took.{Took, took, good-kept, months-next, station-next, held-next, x1-next, x2-next, x3-next}
 
 abbrev heldIn : State → Held
 heldIn s = heldBy (s .run) (s .columns)

@@ -32,12 +32,13 @@ use Rattle.runs.specs.declared.Run.{Run}
 use Rattle.runs.specs.declared.Started.{Started}
 use Rattle.runs.proofs.RunLaws.{start-is-run}
 use Rattle.drought.specs.Columns.{Columns, long, columnsFit}
+use Rattle.drought.specs.Ready.{Good}
 use Rattle.drought.specs.Refusals.{waterRefusal, zRefusal}
 use Rattle.drought.specs.Figures.{figuresOf, waterFigures, noFigures}
 use Rattle.drought.specs.Asked.{Result, result, refusal, heldBy, soilAfter, taken, takenWater, takenZ, unless, addOutcomes, addWater, addInches, addZ}
 use Rattle.drought.proofs.Readiness.{run-is}
 use Rattle.demands.specs.Months.{Ask, water, inches, anomaly, asked, State, stateOf, after, afterAll, Accepted, Station, stationOf, watered, zFor, soilFor, waterFor, stationNext, stationRow, rowsOfMonths}
-use Rattle.demands.proofs.Took.{Good, Took, took, good-kept, settled-is, held-next}
+use Rattle.demands.proofs.Took.{Took, took, good-kept, settled-is, held-next}
 use Rattle.demands.specs.Demands.{numberOf, Answers, Balances}
 use Rattle.demands.proofs.Rows.{rows-long, rows-append}
 use Rattle.demands.proofs.Sequence.{held-all, months-all, values-stay, after-append, accepted-append}

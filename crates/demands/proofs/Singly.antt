@@ -21,11 +21,12 @@ use Rattle.runs.proofs.Outcomes.{first, second}
 use Rattle.runs.proofs.RunLaws.{start-is-run}
 use Rattle.series.specs.Series.{allZFit, seriesRefusal, filled, filledWith, wholeSeries}
 use Rattle.drought.specs.Columns.{Columns, long, columnsFit}
+use Rattle.drought.specs.Ready.{Good}
 use Rattle.drought.specs.Refusals.{runRefusal, roomRefusal, zRefusal}
 use Rattle.drought.specs.Asked.{Result, heldBy, taken}
 use Rattle.demands.specs.Months.{Ask, anomaly, asked, State, after, afterAll, Accepted, Station, stationOf, stationNext, stationRow}
-use Rattle.demands.proofs.Keeps.{long-kept}
-use Rattle.demands.proofs.Took.{Good, Took, took, good-kept, months-next}
+use Rattle.drought.proofs.Keeps.{long-kept}
+use Rattle.demands.proofs.Took.{Took, took, good-kept, months-next}
 use Rattle.demands.proofs.Sequence.{held-all, months-all}
 use Rattle.demands.proofs.Shown.{refused-add}
 

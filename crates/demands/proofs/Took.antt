@@ -24,18 +24,16 @@ use Rattle.runs.specs.Ranges.{constantsAt}
 use Rattle.runs.specs.Runs.{isRun}
 use Rattle.runs.specs.declared.Run.{Run}
 use Rattle.drought.specs.Columns.{Columns, long, columnsFit}
-use Rattle.drought.specs.Refusals.{waterRefusal, zRefusal}
+use Rattle.drought.specs.Ready.{Good}
+use Rattle.drought.specs.Refusals.{zRefusal}
 use Rattle.drought.specs.Asked.{Result, result, refusal, heldBy, taken, takenZ, takenWater, waterOf, unless, addOutcomes, addWater, addInches, addZ}
-use Rattle.drought.proofs.Refused.{water-passes, z-passes}
+use Rattle.drought.proofs.Refused.{z-passes}
 use Rattle.drought.proofs.Readiness.{run-is, lengths-are}
 use Rattle.drought.proofs.Taken.{row-is}
+use Rattle.drought.proofs.Keeps.{wrote-index, wrote-mark}
+use Rattle.drought.proofs.Accepts.{unless-zero, good-taken}
+use Rattle.drought.proofs.Accepts.{took-water as water-took}
 use Rattle.demands.specs.Months.{Ask, water, inches, anomaly, asked, State, stateOf, after, stationOf, zFor, soilFor, waterFor, stationNext, stationRow}
-use Rattle.demands.proofs.Keeps.{columns-kept, run-kept, wrote-index, wrote-mark}
-
--- columns that fit, and a run for them
-pub record Good (r : Run) (cs : Columns) : Type 0 where
-  pub fit : columnsFit cs ≡ true
-  pub run : isRun (long cs) r ≡ true
 
 -- a month that was taken
 pub record Took (r : Run) (a : Ask) (cs : Columns) : Type 0 where
@@ -45,11 +43,6 @@ pub record Took (r : Run) (a : Ask) (cs : Columns) : Type 0 where
   pub z : natAbs (zFor (stationOf r) a) ≤ mostZ
   pub did : asked r a cs ≡ taken r (soilFor (stationOf r) a) (waterFor (stationOf r) a) (zFor (stationOf r) a) cs
 
--- a number of 0 lets the result through
-unless-zero : (k : ℕ) (r : Run) (cs : Columns) (done : Result) → unless k r cs done .answer .number ≡ 0 → (k ≡ 0) × (unless k r cs done ≡ done)
-unless-zero zero r cs done h = (refl, refl)
-unless-zero (suc k) r cs done h = absurd (omega arith)
-
 module _ (r : Run) (cs : Columns) where
   -- two outcomes that are accepted
   took-water : (a : Ask) (p pe : Outcome) → p .water ≤ mostReading → pe .water ≤ mostReading
@@ -58,19 +51,9 @@ module _ (r : Run) (cs : Columns) where
       → zFor (stationOf r) a ≡ waterOf r (p .water) (pe .water) .z
       → takenWater r (p .water) (pe .water) cs ≡ taken r (soilFor (stationOf r) a) (waterFor (stationOf r) a) (zFor (stationOf r) a) cs
       → asked r a cs .answer .number ≡ 0 → Took r a cs
-  unfolding addOutcomes
   took-water a p pe hp hpe is soil z did h =
-      let k = waterRefusal (columnsFit cs) (long cs) r (p .number) (pe .number) in
-      let u = unless-zero k r cs (takenWater r (p .water) (pe .water) cs) (sym (ap (λ (b : Result). b .answer .number) is) ∙ h) in
-      let g = water-passes (columnsFit cs) (long cs) r (p .number) (pe .number) (u .0) in
-      let f = run-is r cs (g .0 .0) (g .0 .1) in
-      record {
-        good = record { fit = g .0 .0; run = g .0 .1 };
-        room = g .1;
-        soil = rw soil (month-layers-kept (r .soil) (p .water) (pe .water) (constantsAt (r .constants) (r .calendar)) (f .soil));
-        z = rw z (z-acceptable (r .soil) (p .water) (pe .water) (constantsAt (r .constants) (r .calendar)) (f .soil) hp hpe (f .month-constants));
-        did = is ∙ u .1 ∙ did;
-      }
+      let t = water-took r cs p pe hp hpe (sym (ap (λ (b : Result). b .answer .number) is) ∙ h) in
+      record { good = t .good; room = t .room; soil = rw soil (t .soil); z = rw z (t .z); did = is ∙ t .did ∙ did }
 
   pub took : (a : Ask) → asked r a cs .answer .number ≡ 0 → Took r a cs
   unfolding addWater addInches addZ takenWater month
@@ -88,12 +71,7 @@ module _ (r : Run) (a : Ask) (cs : Columns) (t : Took r a cs) where
   next = stateOf (asked r a cs)
 
   pub good-kept : Good (next .run) (next .columns)
-  good-kept =
-      rw (t .did)
-      (record {
-        fit = columns-kept r cs (t .good .fit) (t .good .run) (t .room) (soilFor (stationOf r) a) (t .soil) (waterFor (stationOf r) a) (zFor (stationOf r) a) (t .z);
-        run = run-kept r cs (t .good .fit) (t .good .run) (t .room) (soilFor (stationOf r) a) (t .soil) (waterFor (stationOf r) a) (zFor (stationOf r) a) (t .z);
-      })
+  good-kept = rw (t .did) (good-taken r cs (t .good) (t .room) (soilFor (stationOf r) a) (t .soil) (waterFor (stationOf r) a) (zFor (stationOf r) a) (t .z))
 
   -- one month more
   pub months-next : next .run .months ≡ suc (r .months)

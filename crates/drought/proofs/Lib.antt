@@ -2,3 +2,5 @@
 pub mod Taken
 pub mod Refused
 pub mod Readiness
+pub mod Keeps
+pub mod Accepts

@@ -2,7 +2,7 @@
 -- together of it is `taken`. Assumes nothing.
 use mathlib.Core.Path.{_≡_, ap, subst}
 use mathlib.Core.List.{List}
-use Prim.Native.Nat.{ℕ, suc, _≤_}
+use Prim.Native.Nat.{ℕ, suc, _+_, _≤_}
 use native.Mathlib.Omega.{arith}
 use lib.IntN.{ℤ}
 use lib.ListN.{set}
@@ -33,20 +33,19 @@ use Rattle.drought.specs.declared.Figures.{Figures}
 pub row-is : (s : SpellMonth) (by : ℕ) → by ≡ decisionNumber (s .decision) → rowOf (s .after .x1) (s .after .x2) (s .after .x3) by (s .index) ≡ rowFor s
 row-is s by e = rw (e, number-is (s .decision))
 
--- an add leaves at most one open month more, and settles at most one more than were open
-opens-as : (d : Decision) (run : Held) (r : Row) → addAs d run r .opens ≤ suc (run .opens)
-opens-as Nothing run r = omega arith
-opens-as (Decides w) run r = omega arith
+-- what an add settles and what it leaves open are together at most one more than were open
+counts-as : (d : Decision) (run : Held) (r : Row) → settledAs d (run .opens) + addAs d run r .opens ≤ suc (run .opens)
+counts-as Nothing run r = omega arith
+counts-as (Decides w) run r = omega arith
+
+pub counts-most : (run : Held) (r : Row) → settledCount run r + addMonth run r .opens ≤ suc (run .opens)
+counts-most run r = counts-as (r .decision) run r
 
 pub opens-most : (run : Held) (r : Row) → addMonth run r .opens ≤ suc (run .opens)
-opens-most run r = opens-as (r .decision) run r
-
-settled-as : (d : Decision) (n : ℕ) → settledAs d n ≤ suc n
-settled-as Nothing n = omega arith
-settled-as (Decides w) n = omega arith
+opens-most run r = omega (arith, counts-most run r)
 
 pub settled-most : (run : Held) (r : Row) → settledCount run r ≤ suc (run .opens)
-settled-most run r = settled-as (r .decision) (run .opens)
+settled-most run r = omega (arith, counts-most run r)
 
 module _ (months opens : ℕ) (cs : Columns) (s : SpellMonth) (by : ℕ) where
   -- what hindsight's add leaves in the columns, and its two counts

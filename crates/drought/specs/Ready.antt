@@ -1,4 +1,4 @@
--- What the private functions below the refusals may assume of the run and of the columns: their `requires` cite it. Assumes nothing.
+-- What the functions below the refusals may assume of the run and of the columns: their `requires` cite it. Assumes nothing.
 use mathlib.Core.Path.{_≡_}
 use mathlib.Core.Bool.{true}
 use Prim.Native.Nat.{ℕ, _≤_, _<_}
@@ -7,9 +7,14 @@ use Rattle.water.specs.Layers.{SoilFits}
 use Rattle.spells.specs.Values.{ValuesFit}
 use Rattle.spells.specs.declared.Running.{Running}
 use Rattle.runs.specs.Ranges.{constantsFit, calendarFits}
-use Rattle.runs.specs.Runs.{mostMonths}
+use Rattle.runs.specs.Runs.{mostMonths, isRun}
 use Rattle.runs.specs.declared.Run.{Run}
-use Rattle.drought.specs.Columns.{Columns, long}
+use Rattle.drought.specs.Columns.{Columns, long, columnsFit}
+
+-- columns that fit, and a run for them: neither 1 nor 7
+pub record Good (r : Run) (cs : Columns) : Type 0 where
+  pub fit : columnsFit cs ≡ true
+  pub run : isRun (long cs) r ≡ true
 
 -- a run and columns that a month can be added to
 pub record Ready (months opens : ℕ) (values : Running) (cs : Columns) : Type 0 where

@@ -2,7 +2,8 @@
 //
 // Every call has its promise: its answer, the run that it hands back and the whole content of every lent list
 // equal a definition of what was handed in (specs/Asked.antt), for every input, refused or not. No call has a
-// `requires`. The private functions below the calls have one, and are called only after the refusals.
+// `requires`. The functions below the calls may have one, and are called only after the refusals; those that
+// are `pub` are so for the crate `season` alone.
 use door::Answer;
 use door::MonthInches;
 use door::Reading;
@@ -206,7 +207,8 @@ pub fn whole_series(z: &[i32], index: &mut [i32], mark: &mut [u8]) -> u8
 
 // ---- refusals, each call's in the paper's order
 
-fn lengths_fit(x1: usize, x2: usize, x3: usize, index: usize, mark: usize) -> bool
+// Whether five columns of these lengths can be lent. For `season` too.
+pub fn lengths_fit(x1: usize, x2: usize, x3: usize, index: usize, mark: usize) -> bool
     ensures { λ r. ⌜ r ≡ lengthsFit x1 x2 x3 index mark ⌝ }
 {
     if x2 != x1 {
@@ -224,7 +226,8 @@ fn lengths_fit(x1: usize, x2: usize, x3: usize, index: usize, mark: usize) -> bo
     runs::length_fits(x1)
 }
 
-fn run_refusal(fit: bool, n: usize, r: Run) -> u8
+// 1 and 7, which every call on a run asks first. For `season` too.
+pub fn run_refusal(fit: bool, n: usize, r: Run) -> u8
     ensures { λ k. ⌜ k ≡ runRefusal fit n r ⌝ }
 {
     if !fit {
@@ -236,7 +239,8 @@ fn run_refusal(fit: bool, n: usize, r: Run) -> u8
     0
 }
 
-fn room_refusal(n: usize, r: Run) -> u8
+// 10, which every add asks last. For `season` too.
+pub fn room_refusal(n: usize, r: Run) -> u8
     ensures { λ k. ⌜ k ≡ roomRefusal n r ⌝ }
 {
     if (r.months as usize) < n { 0 } else { FULL }
@@ -305,8 +309,8 @@ fn no_water() -> WaterFigures
     }
 }
 
-// A refusal: its number, all figures 0, and the run given.
-fn refuse(number: u8, run: Run) -> Added
+// A refusal: its number, all figures 0, and the run given. For `season` too.
+pub fn refuse(number: u8, run: Run) -> Added
     ensures { λ a. ⌜ a ≡ refusal number run ⌝ }
 {
     let water = no_water();
@@ -450,8 +454,9 @@ fn add_month(
     }
 }
 
-// The balance of the run's month with precipitation p and PE pe, and the month added.
-fn add_measured(
+// The balance of the run's month with precipitation p and PE pe, and the month added. For `season` too,
+// which has asked for every refusal before.
+pub fn add_measured(
     run: Run,
     p: u32,
     pe: u32,

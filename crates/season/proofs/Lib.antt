@@ -1,0 +1,2 @@
+-- What the proofs of `season` share.
+pub mod Steps

@@ -1,0 +1,190 @@
+-- A season month by month: what is still to come takes what has been added to where all months take what was there at first, and the run and
+-- the columns stay good. Assumes nothing.
+use mathlib.Core.Logic.{inl, inr}
+use mathlib.Core.Path.{_≡_, refl, sym, ap, ap₂, _∙_, subst}
+use mathlib.Core.List.{List, [], _∷_}
+use Prim.Native.Nat.{ℕ, zero, suc, _+_, _≤_, _<_}
+use native.Mathlib.Numerals.{add-one}
+use native.Mathlib.Omega.{arith}
+use lib.IntN.{ℤ, pos, negsuc}
+use lib.ListN.{length, drop, getD, drop-of-length-le}
+use lib.Seq.{drop-cons}
+use Rattle.door.specs.Outcome.{outcome}
+use Rattle.door.specs.Readings.{reading}
+use Rattle.door.specs.declared.Answer.{Answer}
+use Rattle.door.specs.declared.Answer.the-variants.{Water, NoReading, NotAcceptable}
+use Rattle.door.proofs.Answer.{the-type}
+use denote.Enum.Declared.{tagOf}
+use types.Run.{OneOf}
+use Rattle.door.specs.declared.Reading.{Reading}
+use Rattle.door.specs.declared.Reading.the-variants.{Whole, Missing}
+use Rattle.door.proofs.Bounds.{reading-most}
+use Rattle.spells.specs.Spells.{stepOf}
+use Rattle.hindsight.specs.Months.{rowFor}
+use Rattle.runs.specs.Runs.{mostMonths}
+use Rattle.runs.specs.declared.Run.{Run}
+use Rattle.drought.specs.Columns.{Columns, long, columnsFit}
+use Rattle.drought.specs.Refusals.{orElse, runRefusal, roomRefusal, waterRefusal}
+use Rattle.drought.specs.Ready.{Good}
+use Rattle.drought.specs.Figures.{waterFigures}
+use Rattle.drought.specs.Asked.{Result, result, refusal, taken, takenWater, soilAfter, waterOf, heldBy, unless, addOutcomes, addWater}
+use Rattle.drought.specs.declared.Added.{Added}
+use Rattle.drought.proofs.Taken.{counts-most}
+use Rattle.drought.proofs.Accepts.{good-passes, took-water, good-taken}
+use Rattle.drought.proofs.Readiness.{lengths-are, run-is}
+use Rattle.drought.proofs.Refused.{or-second, refuses, accepts}
+use Rattle.season.specs.declared.Season.{Season}
+use Rattle.season.specs.Season.{Left, left, listed, joined, stopped, onlyIf, single, onward}
+
+-- ---- a list's -1
+pub listed-missing : (n : ℤ) → n ≡ negsuc 0 → listed n ≡ Missing
+unfolding listed
+listed-missing n e = ap listed e
+
+pub listed-whole : (n : ℤ) → (n ≡ negsuc 0 → ⊥) → listed n ≡ Whole n
+unfolding listed
+listed-whole (pos n) h = refl
+listed-whole (negsuc zero) h = absurd (h refl)
+listed-whole (negsuc (suc n)) h = refl
+
+-- ---- by a number
+pub on : (k : ℕ) (a b : Left) → k ≡ 0 → onlyIf k a b ≡ a
+on k a b e = ap (λ (n : ℕ). onlyIf n a b) e
+
+pub off : (k : ℕ) (a b : Left) → (k ≡ 0 → ⊥) → onlyIf k a b ≡ b
+off zero a b h = absurd (h refl)
+off (suc k) a b h = refl
+
+-- ---- the single add, where 1 and 7 have been asked for
+-- an answer that is not water has a refusal's number
+pub not-water : (a : Answer) → OneOf (1 ∷ 2 ∷ []) (tagOf the-type a) → outcome a .number ≡ 0 → ⊥
+not-water (Water n) t e = elim t [ inl h ↦ omega arith | inr h ↦ omega arith ]
+not-water NoReading t e = omega arith
+not-water NotAcceptable t e = omega arith
+
+module _ (r : Run) (p pe : Reading) (cs : Columns) (g : Good r cs) where
+  -- what is then asked: "precipitation 8 or 9, PE 8 or 9, 10"
+  abbrev pub number : ℕ
+  number = orElse (reading p .number) (orElse (reading pe .number) (roomRefusal (long cs) r))
+
+  abbrev all : ℕ
+  all = waterRefusal (columnsFit cs) (long cs) r (reading p .number) (reading pe .number)
+
+  number-is : number ≡ all
+  unfolding waterRefusal
+  number-is = sym (or-second (runRefusal (columnsFit cs) (long cs) r) number (good-passes r cs g))
+
+  abbrev pub done : Result
+  done = takenWater r (reading p .water) (reading pe .water) cs
+
+  pub refused-as : (k : ℕ) → k ≡ number → (k ≡ 0 → ⊥) → (a : Added) → a ≡ refusal k r → result a cs ≡ addWater r p pe cs
+  unfolding addWater addOutcomes
+  refused-as k e h a f = refuses k all r cs done (e ∙ number-is) a h f
+
+  pub accepted-as : number ≡ 0 → (b : Result) → b ≡ done → b ≡ addWater r p pe cs
+  unfolding addWater addOutcomes
+  accepted-as z b f = accepts number all r cs done number-is b z f
+
+-- ---- what an accepted month leaves
+module _ (r : Run) (p pe : Reading) (cs : Columns) (h : addWater r p pe cs .answer .number ≡ 0) where
+  abbrev b : Result
+  b = addWater r p pe cs
+
+  pub good-next : Good (b .answer .run) (b .columns)
+  unfolding addWater takenWater
+  good-next =
+      let t = took-water r cs (reading p) (reading pe) (reading-most p) (reading-most pe) h in
+      let w = waterOf r (reading p .water) (reading pe .water) in
+      rw (t .did) (good-taken r cs (t .good) (t .room) (soilAfter (r .soil) w) (t .soil) (waterFigures (reading p .water) (reading pe .water) w) (w .z) (t .z))
+
+  -- one month more, and no more settled than were open before it, with it
+  pub counts-next : (b .answer .run .months ≡ suc (r .months)) × (b .answer .settled + b .answer .run .opens ≤ suc (r .opens))
+  unfolding addWater takenWater taken
+  counts-next =
+      let t = took-water r cs (reading p) (reading pe) (reading-most p) (reading-most pe) h in
+      rw (t .did) (refl, counts-most (heldBy r cs) (rowFor (stepOf (r .values) (waterOf r (reading p .water) (reading pe .water) .z))))
+
+-- a refused month leaves the columns as they were
+pub refused-leaves : (r : Run) (p pe : Reading) (cs : Columns) → (addWater r p pe cs .answer .number ≡ 0 → ⊥) → addWater r p pe cs .columns ≡ cs
+unfolding addWater addOutcomes takenWater taken
+refused-leaves r p pe cs h = go (waterRefusal (columnsFit cs) (long cs) r (reading p .number) (reading pe .number)) h
+  where
+    done : Result
+    done = takenWater r (reading p .water) (reading pe .water) cs
+
+    go : (k : ℕ) → (unless k r cs done .answer .number ≡ 0 → ⊥) → unless k r cs done .columns ≡ cs
+    go zero h = absurd (h refl)
+    go (suc k) h = refl
+
+-- ---- a month more of the lists
+module _ (ps pes : List ℤ) (same : length ps ≡ length pes) (t : Left) (i : ℕ) where
+  abbrev month : Result
+  month = single t (getD ps i (pos 0)) (getD pes i (pos 0))
+
+  abbrev rest : Left → Left
+  rest u = onward u (drop (suc i) ps) (drop (suc i) pes)
+
+  abbrev next : Left
+  next = left (joined (t .answer) (month .answer)) (month .columns)
+
+  abbrev stop : Left
+  stop = left (stopped (t .answer) (month .answer .number)) (t .columns)
+
+  begins : i < length ps → onward t (drop i ps) (drop i pes) ≡ onlyIf (month .answer .number) (rest next) stop
+  unfolding onward
+  begins h = ap₂ (onward t) (drop-cons ps i (pos 0) h) (drop-cons pes i (pos 0) (omega arith))
+
+  pub goes-on : i < length ps → month .answer .number ≡ 0 → onward t (drop i ps) (drop i pes) ≡ rest next
+  goes-on h z = begins h ∙ on (month .answer .number) (rest next) stop z
+
+  pub stops : i < length ps → (month .answer .number ≡ 0 → ⊥) → onward t (drop i ps) (drop i pes) ≡ stop
+  stops h n = begins h ∙ off (month .answer .number) (rest next) stop n
+
+  pub ends : length ps ≤ i → onward t (drop i ps) (drop i pes) ≡ t
+  unfolding onward
+  ends h = ap₂ (onward t) (drop-of-length-le ps h) (drop-of-length-le pes {i = i} (omega arith))
+
+-- a run on columns that fit holds few months
+pub most : (r : Run) (cs : Columns) → Good r cs → r .months ≤ mostMonths
+most r cs g =
+    let l = lengths-are (long cs) (length (cs .x2)) (length (cs .x3)) (length (cs .index)) (length (cs .mark)) (g .fit) in
+    omega (arith, l .4, run-is r cs (g .fit) (g .run) .months)
+
+-- ---- the columns keep their lengths
+abbrev pub SameLengths : Columns → Columns → Type 0
+SameLengths cs ds =
+    (length (cs .x1) ≡ length (ds .x1))
+    × (length (cs .x2) ≡ length (ds .x2))
+    × (length (cs .x3) ≡ length (ds .x3))
+    × (length (cs .index) ≡ length (ds .index))
+    × (length (cs .mark) ≡ length (ds .mark))
+
+pub lengths-then : (bs cs ds : Columns) → SameLengths bs cs → SameLengths cs ds → SameLengths bs ds
+lengths-then bs cs ds p q = (p .0 ∙ q .0, p .1 ∙ q .1, p .2 ∙ q .2, p .3 ∙ q .3, p .4 ∙ q .4)
+
+-- ---- a pass: what the single add left, in the code's terms
+module _ (ps pes : List ℤ) (same : length ps ≡ length pes) (s : Season) (cs : Columns) (i : ℕ) (h : i < length ps) (a : Added) (ds : Columns)
+    (e : result a ds ≡ single (left s cs) (getD ps i (pos 0)) (getD pes i (pos 0))) where
+  abbrev alone : Result
+  alone = single (left s cs) (getD ps i (pos 0)) (getD pes i (pos 0))
+
+  numbers : alone .answer .number ≡ a .number
+  numbers = sym (ap (λ (b : Result). b .answer .number) e)
+
+  pub joins : {w : Left} (u : Season) → a .number ≡ 0 → u ≡ joined s a → onward (left s cs) (drop i ps) (drop i pes) ≡ w → onward (left u ds) (drop (i + 1) ps) (drop (i + 1) pes) ≡ w
+  joins u z j o =
+      rw (add-one, j) (ap (λ (b : Result). onward (left (joined s (b .answer)) (b .columns)) (drop (suc i) ps) (drop (suc i) pes)) e ∙ sym (goes-on ps pes same (left s cs) i h (numbers ∙ z)) ∙ o)
+
+  pub breaks : {w : Left} (u : Season) → (a .number ≡ 0 → ⊥) → u ≡ stopped s (a .number) → onward (left s cs) (drop i ps) (drop i pes) ≡ w → left u ds ≡ w
+  breaks u n j o =
+      let m : alone .answer .number ≡ 0 → ⊥ = λ z. n (sym numbers ∙ z) in
+      let kept : ds ≡ cs = ap (λ (b : Result). b .columns) e ∙ refused-leaves (s .run) (listed (getD ps i (pos 0))) (listed (getD pes i (pos 0))) cs m in
+      rw (j, kept, ← numbers) (sym (stops ps pes same (left s cs) i h m) ∙ o)
+
+  pub good-joined : a .number ≡ 0 → Good (a .run) ds
+  good-joined z = subst (λ (b : Result). Good (b .answer .run) (b .columns)) (sym e) (good-next (s .run) (listed (getD ps i (pos 0))) (listed (getD pes i (pos 0))) cs (numbers ∙ z))
+
+  pub counts-joined : a .number ≡ 0 → (a .run .months ≡ suc (s .run .months)) × (a .settled + a .run .opens ≤ suc (s .run .opens))
+  counts-joined z =
+      subst (λ (b : Result). (b .answer .run .months ≡ suc (s .run .months)) × (b .answer .settled + b .answer .run .opens ≤ suc (s .run .opens))) (sym e)
+      (counts-next (s .run) (listed (getD ps i (pos 0))) (listed (getD pes i (pos 0))) cs (numbers ∙ z))

@@ -1,0 +1,179 @@
+-- `season::add_listed` meets its contract: each reading is refused or its water taken, and then it refuses for want of room or adds. Assumes
+-- nothing.
+use mathlib.Core.Path.{_≡_, sym, ap, _∙_}
+use mathlib.Core.Bool.{true}
+use Prim.Native.Nat.{ℕ, _<_}
+use borrow.Author.Needs.{needs}
+use mir.Facts.{toZ-ofZ}
+use denote.Ref.{now}
+use Rattle.door.specs.Outcome.{Outcome, outcome, accepted}
+use Rattle.door.specs.Readings.{reading}
+use Rattle.door.proofs.Bounds.{reading-most}
+use Rattle.drought.specs.Columns.{Columns, columns, long}
+use Rattle.drought.specs.Refusals.{orElse, roomRefusal}
+use Rattle.drought.proofs.Refused.{or-first, or-second, room-passes}
+use Rattle.drought.proofs.Readiness.{ready, watered}
+use Rattle.season.specs.Season.{listed}
+use Rattle.season.proofs.Steps.{not-water, refused-as, accepted-as}
+use Rattle.season.proofs.add_listed.Statement.{statement}
+use Rattle.season.proofs.add_listed.Tie as tie
+
+abbrev lent : tie.Start → Columns
+lent s = let a = s .args in columns (now (a .x1)) (now (a .x2)) (now (a .x3)) (now (a .index)) (now (a .mark))
+
+-- what precipitation answers: a refusal, or water
+first-is : (d : tie.After-read) → outcome (d .read .result) ≡ reading (listed (d .before .before .before .args .p))
+first-is d =
+    let f = d .before .before .before .fits .p in
+    rw (d .before .reading-of .ensures, toZ-ofZ f) at (d .read .ensures)
+
+first-refused : (n : tie.After-number) → n .number .result ≡ reading (listed (n .before .before .before .before .before .args .p)) .number
+first-refused n = n .number .ensures ∙ ap (λ (o : Outcome). o .number) (first-is (n .before .before))
+
+first-no : (n : tie.After-number) → n .number .result ≡ 0 → ⊥
+first-no n z = not-water (n .before .before .read .result) (n .before .match .keys2) (sym (n .number .ensures) ∙ z)
+
+first-water : (k : tie.After-first) → reading (listed (k .before .before .before .before .before .args .p)) ≡ accepted (k .first .given .0 .0)
+first-water k = sym (first-is (k .before .before)) ∙ ap outcome (k .first .given .1)
+
+-- what PE answers
+second-is : (d : tie.After-read2) → outcome (d .read2 .result) ≡ reading (listed (d .before .before .before .before .before .before .before .before .args .pe))
+second-is d =
+    let f = d .before .before .before .before .before .before .before .before .fits .pe in
+    rw (d .before .reading-of2 .ensures, toZ-ofZ f) at (d .read2 .ensures)
+
+second-refused : (n : tie.After-number2) → n .number2 .result ≡ reading (listed (n .before .before .before .before .before .before .before .before .before .before .args .pe)) .number
+second-refused n = n .number2 .ensures ∙ ap (λ (o : Outcome). o .number) (second-is (n .before .before))
+
+second-no : (n : tie.After-number2) → n .number2 .result ≡ 0 → ⊥
+second-no n z = not-water (n .before .before .read2 .result) (n .before .match2 .keys2) (sym (n .number2 .ensures) ∙ z)
+
+second-water : (k : tie.After-second) → reading (listed (k .before .before .before .before .before .before .before .before .before .before .args .pe)) ≡ accepted (k .second .given .0 .0)
+second-water k = sym (second-is (k .before .before)) ∙ ap outcome (k .second .given .1)
+
+-- with two amounts of water room is asked for
+room-is : (c : tie.After-room-refusal)
+    → let s = c .before .before .before .before .before .before .before .before .before .before .before .before in
+    orElse (reading (listed (s .args .p)) .number) (orElse (reading (listed (s .args .pe)) .number) (roomRefusal (long (lent s)) (s .args .run))) ≡ c .room-refusal .result
+room-is c = rw (first-water (c .before .before .before .before .before .before .before), second-water (c .before .before)) (sym (c .room-refusal .ensures))
+
+reading-of-requires : tie.Need-reading-of-requires
+reading-of-requires c κs = search needs
+
+read-requires : tie.Need-read-requires
+read-requires c κs = search needs
+
+enum-known-first : tie.Need-enum-known-first
+enum-known-first c = search needs
+
+number-requires : tie.Need-number-requires
+number-requires c κs = search needs
+
+refuse-requires : tie.Need-refuse-requires
+refuse-requires c κs = search needs
+
+returns : tie.Need-returns
+returns c =
+    let n = c .before in
+    let s = n .before .before .before .before .before in
+    let e = first-refused n in
+    refused-as (s .args .run) (listed (s .args .p)) (listed (s .args .pe)) (lent s) (s .pre) (n .number .result) (e ∙ sym (or-first _ _ (λ z. first-no n (e ∙ z)))) (first-no n) (c .refuse .result) (c .refuse .ensures)
+
+reading-of-requires-2 : tie.Need-reading-of-requires-2
+reading-of-requires-2 c κs = search needs
+
+read-requires-2 : tie.Need-read-requires-2
+read-requires-2 c κs = search needs
+
+enum-known-second : tie.Need-enum-known-second
+enum-known-second c = search needs
+
+number-requires-2 : tie.Need-number-requires-2
+number-requires-2 c κs = search needs
+
+refuse-requires-2 : tie.Need-refuse-requires-2
+refuse-requires-2 c κs = search needs
+
+returns-2 : tie.Need-returns-2
+returns-2 c =
+    let n = c .before in
+    let k = n .before .before .before .before in
+    let s = k .before .before .before .before .before .before in
+    let e = second-refused n in
+    let z = ap (λ (o : Outcome). o .number) (first-water (k .before)) in
+    refused-as (s .args .run) (listed (s .args .p)) (listed (s .args .pe)) (lent s) (s .pre) (n .number2 .result) (e ∙ sym (or-first _ _ (λ z. second-no n (e ∙ z))) ∙ sym (or-second _ _ z)) (second-no n) (c .refuse2 .result) (c .refuse2 .ensures)
+
+room-refusal-requires : tie.Need-room-refusal-requires
+room-refusal-requires c κs = search needs
+
+refuse-requires-3 : tie.Need-refuse-requires-3
+refuse-requires-3 c κs = search needs
+
+returns-3 : tie.Need-returns-3
+returns-3 c =
+    let d = c .before .before in
+    let s = d .before .before .before .before .before .before .before .before .before .before .before .before in
+    refused-as (s .args .run) (listed (s .args .p)) (listed (s .args .pe)) (lent s) (s .pre) (d .room-refusal .result) (sym (room-is d)) (c .before .if1 .taken) (c .refuse3 .result) (c .refuse3 .ensures)
+
+add-measured-requires : tie.Need-add-measured-requires
+add-measured-requires c κs =
+    let e = c .before .before .before .before .before in
+    let k = e .before .before in
+    let s = k .before .before .before .before .before .before .before .before .before .before .before in
+    let g = s .pre in
+    let m : s .args .run .months < long (lent s) = room-passes true (long (lent s)) (s .args .run) (sym (e .before .room-refusal .ensures) ∙ e .if1 .left) in
+    let p = ap (λ (o : Outcome). o .water) (first-water (k .before .before .before .before .before .before)) in
+    let q = ap (λ (o : Outcome). o .water) (second-water (k .before)) in
+    (ready (s .args .run) (lent s) (g .fit) (g .run) m, (watered (s .args .run) (lent s) (g .fit) (g .run), (rw p at (reading-most (listed (s .args .p))), rw q at (reading-most (listed (s .args .pe))))))
+
+same-length : tie.Need-same-length
+same-length c = search needs
+
+same-length-2 : tie.Need-same-length-2
+same-length-2 c = search needs
+
+same-length-3 : tie.Need-same-length-3
+same-length-3 c = search needs
+
+same-length-4 : tie.Need-same-length-4
+same-length-4 c = search needs
+
+same-length-5 : tie.Need-same-length-5
+same-length-5 c = search needs
+
+returns-4 : tie.Need-returns-4
+returns-4 c =
+    let t = c .before .before .before .before .before .before in
+    let e = t .before .before .before .before .before .before in
+    let k = e .before .before in
+    let s = k .before .before .before .before .before .before .before .before .before .before .before in
+    let p = ap (λ (o : Outcome). o .water) (first-water (k .before .before .before .before .before .before)) in
+    let q = ap (λ (o : Outcome). o .water) (second-water (k .before)) in
+    accepted-as (s .args .run) (listed (s .args .p)) (listed (s .args .pe)) (lent s) (s .pre) (room-is (e .before) ∙ e .if1 .left) _ (rw (p, q) (t .add-measured .ensures))
+
+pub add-listed-spec : {M : Type 1} → statement M
+add-listed-spec =
+    tie.close
+    (tie.spec
+    reading-of-requires
+    read-requires
+    enum-known-first
+    number-requires
+    refuse-requires
+    returns
+    reading-of-requires-2
+    read-requires-2
+    enum-known-second
+    number-requires-2
+    refuse-requires-2
+    returns-2
+    room-refusal-requires
+    refuse-requires-3
+    returns-3
+    add-measured-requires
+    same-length
+    same-length-2
+    same-length-3
+    same-length-4
+    same-length-5
+    returns-4)

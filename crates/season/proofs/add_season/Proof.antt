@@ -1,0 +1,272 @@
+-- `season::add_season` meets its contract: what is still to come takes what has been added to where all months take the run at entry. Assumes
+-- nothing.
+use mathlib.Core.Path.{_≡_, refl, sym, ap, _∙_, subst}
+use mathlib.Core.Bool.{_&&_}
+use mathlib.Core.List.{List}
+use Prim.Native.Nat.{ℕ, _+_, _-_, _≤_, _<_}
+use native.Mathlib.Omega.{arith}
+use borrow.Author.Needs.{needs}
+use borrow.Author.Tests.{eqb-true}
+use lib.IntN.{pos}
+use lib.Dec.{eqb}
+use lib.ListN.{length, drop, getD}
+use mir.Syntax.{w32}
+use mir.Val.{SFits}
+use mir.Facts.{toZ-ofZ}
+use denote.Ref.{now}
+use Rattle.runs.specs.Runs.{mostMonths}
+use Rattle.drought.specs.Columns.{Columns, columns, long, columnsFit}
+use Rattle.drought.specs.Ready.{Good}
+use Rattle.runs.proofs.Outcomes.{first, second}
+use Rattle.drought.proofs.Refused.{run-passes}
+use Rattle.drought.proofs.Readiness.{run-is}
+use Rattle.drought.specs.Asked.{result}
+use Rattle.season.specs.Season.{Left, left, single, onward, seasonRefusal, addSeason}
+use Rattle.season.specs.declared.Season.{Season}
+use Rattle.season.proofs.Steps.{most, SameLengths, lengths-then, on, off, ends, joins, breaks, good-joined, counts-joined}
+use Rattle.season.proofs.add_season.Statement.{statement}
+use Rattle.season.proofs.add_season.Tie as tie
+
+abbrev Inv-loop : tie.InvT-loop
+Inv-loop p pe x1₀ x2₀ x3₀ index₀ mark₀ n columns-fit fit number s₀ i₀ x1 x2 x3 index mark s i =
+    (i ≤ length p)
+    × (onward (left s (columns x1 x2 x3 index mark)) (drop i p) (drop i pe) ≡ onward (left s₀ (columns x1₀ x2₀ x3₀ index₀ mark₀)) p pe)
+    × Good (s .run) (columns x1 x2 x3 index mark)
+    × (s .settled + s .run .opens ≤ s .run .months)
+    × (s .added ≤ s .run .months)
+    × SameLengths (columns x1 x2 x3 index mark) (columns x1₀ x2₀ x3₀ index₀ mark₀)
+
+abbrev μ-loop : tie.MeasureT-loop
+μ-loop p pe x1₀ x2₀ x3₀ index₀ mark₀ n columns-fit fit number s₀ i₀ x1 x2 x3 index mark s i = length p - i
+
+-- ---- before the first month
+abbrev lent : tie.Start Inv-loop μ-loop → Columns
+lent s = let a = s .args in columns (now (a .x1)) (now (a .x2)) (now (a .x3)) (now (a .index)) (now (a .mark))
+
+number-is : (q : tie.After-run-refusal Inv-loop μ-loop) → let s = q .before .before .before .before in q .run-refusal .result ≡ seasonRefusal (s .args .run) (now (s .args .p)) (now (s .args .pe)) (lent s)
+unfolding seasonRefusal
+number-is q = rw (q .before .lists-fit .ensures, q .before .before .lengths-fit .ensures) at (q .run-refusal .ensures)
+
+lengths-fit-requires : tie.Need-lengths-fit-requires Inv-loop μ-loop
+lengths-fit-requires c κs = search needs
+
+lists-fit-requires : tie.Need-lists-fit-requires Inv-loop μ-loop
+lists-fit-requires c κs = search needs
+
+run-refusal-requires : tie.Need-run-refusal-requires Inv-loop μ-loop
+run-refusal-requires c κs = search needs
+
+nothing-added-requires : tie.Need-nothing-added-requires Inv-loop μ-loop
+nothing-added-requires c κs = search needs
+
+returns : tie.Need-returns Inv-loop μ-loop
+unfolding addSeason
+returns c =
+    let q = c .before in
+    let s = q .before .before .before .before .before in
+    let e = number-is (q .before) in
+    let n = c .if1 .taken in
+    rw (q .nothing-added .ensures, e) (sym (off (seasonRefusal (s .args .run) (now (s .args .p)) (now (s .args .pe)) (lent s)) _ _ (λ z. n (e ∙ z))))
+
+passes : (e : tie.Else1 Inv-loop μ-loop) → let s = e .before .before .before .before .before .before in (length (now (s .args .p)) ≡ length (now (s .args .pe))) × Good (s .args .run) (lent s)
+unfolding seasonRefusal
+passes e =
+    let s = e .before .before .before .before .before .before in
+    let t = eqb (length (now (s .args .p))) (length (now (s .args .pe))) in
+    let a = run-passes (t && columnsFit (lent s)) (long (lent s)) (s .args .run) (sym (number-is (e .before .before)) ∙ e .if1 .left) in
+    (eqb-true _ _ (first t (columnsFit (lent s)) (a .0)), record { fit = second t (columnsFit (lent s)) (a .0); run = a .1 })
+
+loop-holds : tie.Need-loop-holds Inv-loop μ-loop
+loop-holds c =
+    let n = c .before .nothing-added .ensures in
+    let g = passes c .1 in
+    let s = c .before .before .before .before .before .before in
+    let f = run-is (s .args .run) (lent s) (g .fit) (g .run) in
+    (omega arith, refl, rw n g, rw n (omega (arith, f .opens)), rw n (omega arith), (refl, refl, refl, refl, refl))
+
+mul-rain : tie.Need-mul-rain Inv-loop μ-loop
+mul-rain c = search needs
+
+shared-slice-copy-out-rain : tie.Need-shared-slice-copy-out-rain Inv-loop μ-loop
+shared-slice-copy-out-rain c = search needs
+
+mul-demand : tie.Need-mul-demand Inv-loop μ-loop
+mul-demand c = search needs
+
+shared-slice-copy-out-demand : tie.Need-shared-slice-copy-out-demand Inv-loop μ-loop
+shared-slice-copy-out-demand c =
+    let l = c .before .before in
+    omega (arith, l .loop-test .taken, passes (l .before .before) .0)
+
+add-listed-requires : tie.Need-add-listed-requires Inv-loop μ-loop
+add-listed-requires c κs = c .before .before .before .before .before .before .before .before .before .loop .inv .2
+
+-- with nothing refused before the first month, all is what the months make
+whole : (e : tie.Else1 Inv-loop μ-loop) (w : Left)
+    → let q = e .before in
+    let s = q .before .before .before .before .before in
+    w ≡ onward (left (q .nothing-added .result) (lent s)) (now (s .args .p)) (now (s .args .pe)) → w ≡ addSeason (s .args .run) (now (s .args .p)) (now (s .args .pe)) (lent s)
+unfolding addSeason
+whole e w h =
+    let q = e .before in
+    let z = e .if1 .left in
+    let k = number-is (q .before) in
+    h ∙ rw (q .nothing-added .ensures, z) (sym (on _ _ _ (sym k ∙ z)))
+
+-- ---- a pass
+abbrev inside : tie.After-add-listed Inv-loop μ-loop → tie.In-loop Inv-loop μ-loop
+inside t = t .before .before .before .before .before .before .before .before .before
+
+abbrev start : tie.At-loop Inv-loop μ-loop → tie.Start Inv-loop μ-loop
+start a = a .before .before .before .before .before .before .before
+
+abbrev so-far : tie.At-loop Inv-loop μ-loop → Columns
+so-far a = let l = a .loop in columns (l .x1) (l .x2) (l .x3) (l .index) (l .mark)
+
+-- what the single add has left
+abbrev then : tie.After-add-listed Inv-loop μ-loop → Columns
+then t = let l = t .add-listed .last .1 .1 .1 in columns (l .0) (l .1 .0) (l .1 .1 .0) (l .1 .1 .1 .0) (l .1 .1 .1 .1 .0)
+
+alone : (t : tie.After-add-listed Inv-loop μ-loop)
+    → let a = inside t .before in
+    result (t .add-listed .result) (then t) ≡ single (left (a .loop .s) (so-far a)) (getD (now (start a .args .p)) (a .loop .i) (pos 0)) (getD (now (start a .args .pe)) (a .loop .i) (pos 0))
+alone t =
+    let d = t .before .before .before .before .before .before in
+    let a = inside t .before in
+    let f : SFits w32 (getD (now (start a .args .p)) (a .loop .i) (pos 0)) = record { sfits = d .before .rain .given } in
+    let g : SFits w32 (getD (now (start a .args .pe)) (a .loop .i) (pos 0)) = record { sfits = d .demand .given } in
+    rw (toZ-ofZ f, toZ-ofZ g) at (t .add-listed .ensures)
+
+long-kept : (t : tie.After-add-listed Inv-loop μ-loop) → SameLengths (then t) (lent (start (inside t .before)))
+long-kept t =
+    let a = inside t .before in
+    let k = t .add-listed .kept .1 .1 .1 in
+    lengths-then (then t) (so-far a) (lent (start a)) (k .0, k .1 .0, k .1 .1 .0, k .1 .1 .1 .0, k .1 .1 .1 .1 .0) (a .loop .inv .5)
+
+room : (l : tie.In-loop Inv-loop μ-loop) → l .before .loop .i + 1 < 18446744073709551616
+room l = omega arith
+
+stopped-by-requires : tie.Need-stopped-by-requires Inv-loop μ-loop
+stopped-by-requires c κs = search needs
+
+same-length : tie.Need-same-length Inv-loop μ-loop
+same-length c = long-kept (c .before .before .before .before .before .before .before .before) .0
+
+same-length-2 : tie.Need-same-length-2 Inv-loop μ-loop
+same-length-2 c = long-kept (c .before .before .before .before .before .before .before .before) .1
+
+same-length-3 : tie.Need-same-length-3 Inv-loop μ-loop
+same-length-3 c = long-kept (c .before .before .before .before .before .before .before .before) .2
+
+same-length-4 : tie.Need-same-length-4 Inv-loop μ-loop
+same-length-4 c = long-kept (c .before .before .before .before .before .before .before .before) .3
+
+same-length-5 : tie.Need-same-length-5 Inv-loop μ-loop
+same-length-5 c = long-kept (c .before .before .before .before .before .before .before .before) .4
+
+returns-2 : tie.Need-returns-2 Inv-loop μ-loop
+returns-2 c =
+    let k = c .before .before in
+    let t = k .before .before .before .before .before .before in
+    let l = inside t in
+    let a = l .before in
+    let s = start a in
+    let e = passes (a .before) in
+    let j = breaks (now (s .args .p)) (now (s .args .pe)) (e .0) (a .loop .s) (so-far a) (a .loop .i) (l .loop-test .taken) (t .add-listed .result) (then t) (alone t) (c .stopped-by .result) (c .before .if2 .taken) (c .stopped-by .ensures) (a .loop .inv .1) in
+    whole (a .before) _ j
+
+joined-by-requires : tie.Need-joined-by-requires Inv-loop μ-loop
+joined-by-requires c κs =
+    let t = c .before .before .before .before .before .before .before in
+    let l = inside t in
+    let a = l .before in
+    let s = start a in
+    let e = passes (a .before) in
+    let n = counts-joined (now (s .args .p)) (now (s .args .pe)) (e .0) (a .loop .s) (so-far a) (a .loop .i) (l .loop-test .taken) (t .add-listed .result) (then t) (alone t) (c .if2 .left) in
+    let m = most (a .loop .s .run) (so-far a) (a .loop .inv .2) in
+    (omega (arith, a .loop .inv .4, m), omega (arith, a .loop .inv .3, n .1, m))
+
+add-i : tie.Need-add-i Inv-loop μ-loop
+add-i c =
+    let l = inside (c .before .before .before .before .before .before .before .before) in
+    record { fits = omega (arith, room l) }
+
+loop-less : tie.Need-loop-less Inv-loop μ-loop
+loop-less c =
+    let l = inside (c .before .before .before .before .before .before .before .before) in
+    omega (arith, l .loop-test .taken)
+
+loop-again : tie.Need-loop-again Inv-loop μ-loop
+loop-again c =
+    let t = c .before .before .before .before .before .before .before .before in
+    let l = inside t in
+    let a = l .before in
+    let s = start a in
+    let e = passes (a .before) in
+    let z = c .before .if2 .left in
+    let u = c .joined-by .ensures in
+    let n = counts-joined (now (s .args .p)) (now (s .args .pe)) (e .0) (a .loop .s) (so-far a) (a .loop .i) (l .loop-test .taken) (t .add-listed .result) (then t) (alone t) z in (
+      omega (arith, l .loop-test .taken),
+      joins (now (s .args .p)) (now (s .args .pe)) (e .0) (a .loop .s) (so-far a) (a .loop .i) (l .loop-test .taken) (t .add-listed .result) (then t) (alone t) (c .joined-by .result) z u (a .loop .inv .1),
+      rw u (good-joined (now (s .args .p)) (now (s .args .pe)) (e .0) (a .loop .s) (so-far a) (a .loop .i) (l .loop-test .taken) (t .add-listed .result) (then t) (alone t) z),
+      rw u (omega (arith, a .loop .inv .3, n .0, n .1)),
+      rw u (omega (arith, a .loop .inv .4, n .0)),
+      long-kept t,
+    )
+
+same-length-6 : tie.Need-same-length-6 Inv-loop μ-loop
+same-length-6 c = c .before .loop .inv .5 .0
+
+same-length-7 : tie.Need-same-length-7 Inv-loop μ-loop
+same-length-7 c = c .before .loop .inv .5 .1
+
+same-length-8 : tie.Need-same-length-8 Inv-loop μ-loop
+same-length-8 c = c .before .loop .inv .5 .2
+
+same-length-9 : tie.Need-same-length-9 Inv-loop μ-loop
+same-length-9 c = c .before .loop .inv .5 .3
+
+same-length-10 : tie.Need-same-length-10 Inv-loop μ-loop
+same-length-10 c = c .before .loop .inv .5 .4
+
+returns-3 : tie.Need-returns-3 Inv-loop μ-loop
+returns-3 c =
+    let a = c .before in
+    let s = start a in
+    let e = passes (a .before) in
+    whole (a .before) _ (sym (ends (now (s .args .p)) (now (s .args .pe)) (e .0) (left (a .loop .s) (so-far a)) (a .loop .i) (c .loop-test .left)) ∙ a .loop .inv .1)
+
+pub add-season-spec : {M : Type 1} → statement M
+add-season-spec =
+    tie.close
+    (tie.spec
+    Inv-loop
+    μ-loop
+    lengths-fit-requires
+    lists-fit-requires
+    run-refusal-requires
+    nothing-added-requires
+    returns
+    loop-holds
+    mul-rain
+    shared-slice-copy-out-rain
+    mul-demand
+    shared-slice-copy-out-demand
+    add-listed-requires
+    stopped-by-requires
+    same-length
+    same-length-2
+    same-length-3
+    same-length-4
+    same-length-5
+    returns-2
+    joined-by-requires
+    add-i
+    loop-less
+    loop-again
+    same-length-6
+    same-length-7
+    same-length-8
+    same-length-9
+    same-length-10
+    returns-3)

@@ -1,0 +1,2 @@
+-- What the promise of `season` cites: document 02, E2.
+pub mod Season

@@ -1,0 +1,69 @@
+-- Document 02, E2, "A season in one call": what the call answers, the run that it hands back and what every lent list then holds. Each month
+-- is the single add's, `addWater` of the crate `drought`, on the run and the columns that the month before left. Assumes nothing.
+use Prim.Native.Nat.{ℕ, zero, suc, _+_}
+use mathlib.Core.Bool.{_&&_}
+use mathlib.Core.List.{List, [], _∷_}
+use lib.IntN.{ℤ, pos, negsuc}
+use lib.Dec.{eqb}
+use lib.ListN.{length}
+use Rattle.door.specs.declared.Reading.{Reading}
+use Rattle.door.specs.declared.Reading.the-variants.{Whole, Missing}
+use Rattle.runs.specs.declared.Run.{Run}
+use Rattle.drought.specs.Columns.{Columns, long, columnsFit}
+use Rattle.drought.specs.Refusals.{runRefusal}
+use Rattle.drought.specs.Figures.{noFigures}
+use Rattle.drought.specs.Asked.{Result, addWater}
+use Rattle.drought.specs.declared.Added.{Added}
+use Rattle.season.specs.declared.Season.{Season}
+
+-- "two lists in whole thousandths, precipitation and PE, with -1 for missing"
+unfoldable pub listed : ℤ → Reading
+listed (pos n) = Whole (pos n)
+listed (negsuc zero) = Missing
+listed (negsuc (suc n)) = Whole (negsuc (suc n))
+
+-- what a season leaves: its answer, with the run, and the five columns
+pub record Left : Type 0 where
+  pub answer : Season
+  pub columns : Columns
+
+abbrev pub left : Season → Columns → Left
+left s cs = record { answer = s; columns = cs }
+
+-- before the first month: "the figures are the last added month's (0 if none)"
+abbrev pub nothing : ℕ → Run → Season
+nothing k r = record { number = k; added = 0; settled = 0; figures = noFigures; run = r }
+
+-- a month more: its figures and its run, "settled counts summed"
+abbrev pub joined : Season → Added → Season
+joined s a = record { number = 0; added = s .added + 1; settled = s .settled + a .settled; figures = a .figures; run = a .run }
+
+-- "the call stops, keeps the earlier ones, and returns that refusal with how many were added"
+abbrev pub stopped : Season → ℕ → Season
+stopped s k = record { number = k; added = s .added; settled = s .settled; figures = s .figures; run = s .run }
+
+-- by a number: what follows where it is 0, and otherwise what stops
+abbrev pub onlyIf : ℕ → Left → Left → Left
+onlyIf zero on stop = on
+onlyIf (suc k) on stop = stop
+
+-- the single add of a month to a season so far
+abbrev pub single : Left → ℤ → ℤ → Result
+single t p pe = addWater (t .answer .run) (listed p) (listed pe) (t .columns)
+
+-- "add the months in order .. At the first month that a single add refuses, the call stops"
+unfoldable pub onward : Left → List ℤ → List ℤ → Left
+onward t [] pes = t
+onward t (p ∷ ps) [] = t
+onward t (p ∷ ps) (pe ∷ pes) =
+    let b = single t p pe in
+    onlyIf (b .answer .number) (onward (left (joined (t .answer) (b .answer)) (b .columns)) ps pes) (left (stopped (t .answer) (b .answer .number)) (t .columns))
+
+-- "1 also covers two lists of unequal length, and 1 and 7 are checked once, before the first month"
+unfoldable pub seasonRefusal : Run → List ℤ → List ℤ → Columns → ℕ
+seasonRefusal r ps pes cs = runRefusal (eqb (length ps) (length pes) && columnsFit cs) (long cs) r
+
+-- ---- ADD A SEASON
+unfoldable pub addSeason : Run → List ℤ → List ℤ → Columns → Left
+addSeason r ps pes cs =
+    onlyIf (seasonRefusal r ps pes cs) (onward (left (nothing 0 r) cs) ps pes) (left (nothing (seasonRefusal r ps pes cs) r) cs)
