@@ -12,7 +12,7 @@ mod card;
 mod reference;
 
 use card::{Columns, MonthInches, Reading, Run};
-use reference::{Added, Refusal};
+use reference::{Added, Refusal, Season};
 use std::hint::black_box;
 use std::time::{Duration, Instant};
 
@@ -48,10 +48,12 @@ type Round = fn(&mut Inputs) -> u32;
 /// A kind's name, the operations in a round, and its sides.
 type Kind = (&'static str, usize, &'static [(&'static str, Round)]);
 
-const KINDS: [Kind; 7] = [
+const KINDS: [Kind; 9] = [
     ("add-water", MONTHS, &[("library", add::water_library), ("rust", add::water_rust)]),
     ("add-inches", MONTHS, &[("library", add::inches_library), ("rust", add::inches_rust)]),
     ("add-z", MONTHS, &[("library", add::z_library), ("rust", add::z_rust)]),
+    ("season-6", MONTHS, &season::sides(season::six_library, season::six_rust)),
+    ("season-2400", MONTHS, &season::sides(season::all_library, season::all_rust)),
     ("series", 1, &[("library", series::library), ("rust", series::rust)]),
     ("series-open", 1, &[("library", series::open_library), ("rust", series::open_rust)]),
     (
@@ -116,6 +118,8 @@ struct Inputs {
     run: Run,
     /// Precipitation and PE of each month, in thousandths.
     water: Vec<(i32, i32)>,
+    /// The same months as the two lists of a season.
+    season: (Vec<i32>, Vec<i32>),
     z: Vec<i32>,
     /// Z that leave every month after the first open.
     open: Vec<i32>,
@@ -148,12 +152,13 @@ impl Inputs {
             let p = random(state, 0, 2_700) + random(state, 0, 2_700);
             (p, pe[month % 12] * random(state, 80, 120) / 100)
         };
-        let water = (0..MONTHS).map(&mut month).collect();
+        let water: Vec<(i32, i32)> = (0..MONTHS).map(&mut month).collect();
+        let season = water.iter().copied().unzip();
         let z = (0..MONTHS).map(|_| random(state, -3_000, 3_000)).collect();
         let mut open = vec![0; MONTHS];
         open[..2].copy_from_slice(&[12, -3]);
         let (inches, mm) = (measures(state, 12, 100.0), measures(state, 300, 2_540.0));
-        Inputs { run: fresh_run(), water, z, open, inches, mm, lists: Lists::new(MONTHS) }
+        Inputs { run: fresh_run(), water, season, z, open, inches, mm, lists: Lists::new(MONTHS) }
     }
 }
 
@@ -248,6 +253,55 @@ mod add {
             let _ = black_box(add(&mut run, z, &mut k));
         }
         run.months
+    }
+}
+
+/// The months of a round in seasons, one after another. The same months added singly are sides of the same kind.
+mod season {
+    use super::*;
+
+    pub const fn sides(library: Round, rust: Round) -> [(&'static str, Round); 4] {
+        [
+            ("library", library),
+            ("library-singly", add::water_library),
+            ("rust", rust),
+            ("rust-singly", add::water_rust),
+        ]
+    }
+
+    fn by_library(inputs: &mut Inputs, months: usize) -> u32 {
+        let (mut run, mut k) = (inputs.run, inputs.lists.lend());
+        let (p, pe) = &inputs.season;
+        for (p, pe) in p.chunks(months).zip(pe.chunks(months)) {
+            run = card::add_season(run, p, pe, &mut k).run;
+        }
+        run.months
+    }
+
+    fn by_rust(inputs: &mut Inputs, months: usize) -> u32 {
+        let add: fn(&mut Run, &[i32], &[i32], &mut Columns) -> Season = black_box(reference::add_season);
+        let (mut run, mut k) = (inputs.run, inputs.lists.lend());
+        let (p, pe) = &inputs.season;
+        for (p, pe) in p.chunks(months).zip(pe.chunks(months)) {
+            black_box(add(&mut run, p, pe, &mut k));
+        }
+        run.months
+    }
+
+    pub fn six_library(inputs: &mut Inputs) -> u32 {
+        by_library(inputs, 6)
+    }
+
+    pub fn six_rust(inputs: &mut Inputs) -> u32 {
+        by_rust(inputs, 6)
+    }
+
+    pub fn all_library(inputs: &mut Inputs) -> u32 {
+        by_library(inputs, MONTHS)
+    }
+
+    pub fn all_rust(inputs: &mut Inputs) -> u32 {
+        by_rust(inputs, MONTHS)
     }
 }
 
@@ -374,6 +428,7 @@ mod stack {
         "probe add_water",
         "probe add_inches",
         "probe add_z",
+        "probe add_season",
         "probe row",
         "probe whole_series",
     );
@@ -385,6 +440,7 @@ mod stack {
         fn probe_add_water(run: Run, p: Reading, pe: Reading, x1: *mut i32, n1: usize, x2: *mut i32, n2: usize, x3: *mut i32, n3: usize, index: *mut i32, ni: usize, mark: *mut u8, nm: usize) -> card::Added;
         fn probe_add_inches(run: Run, month: MonthInches, x1: *mut i32, n1: usize, x2: *mut i32, n2: usize, x3: *mut i32, n3: usize, index: *mut i32, ni: usize, mark: *mut u8, nm: usize) -> card::Added;
         fn probe_add_z(run: Run, z: i32, x1: *mut i32, n1: usize, x2: *mut i32, n2: usize, x3: *mut i32, n3: usize, index: *mut i32, ni: usize, mark: *mut u8, nm: usize) -> card::Added;
+        fn probe_add_season(run: Run, p: *const i32, np: usize, pe: *const i32, npe: usize, x1: *mut i32, n1: usize, x2: *mut i32, n2: usize, x3: *mut i32, n3: usize, index: *mut i32, ni: usize, mark: *mut u8, nm: usize) -> card::Season;
         fn probe_row(run: Run, row: usize, x1: *const i32, n1: usize, x2: *const i32, n2: usize, x3: *const i32, n3: usize, index: *const i32, ni: usize, mark: *const u8, nm: usize) -> card::Shown;
         fn probe_whole_series(z: *const i32, nz: usize, index: *mut i32, ni: usize, mark: *mut u8, nm: usize) -> u8;
     }
@@ -410,6 +466,7 @@ mod stack {
         Water(Reading, Reading),
         Inches(f32, f32),
         Z(i32),
+        Season([i32; 6], [i32; 6]),
         Row(usize),
     }
 
@@ -425,6 +482,7 @@ mod stack {
                 Call::Water(p, pe) => next = probe_add_water(*run, p, pe, x1, n, x2, n, x3, n, index, n, mark, marks).run,
                 Call::Inches(p, pe) => next = probe_add_inches(*run, MonthInches { p, pe }, x1, n, x2, n, x3, n, index, n, mark, marks).run,
                 Call::Z(z) => next = probe_add_z(*run, z, x1, n, x2, n, x3, n, index, n, mark, marks).run,
+                Call::Season(p, pe) => next = probe_add_season(*run, p.as_ptr(), 6, pe.as_ptr(), 6, x1, n, x2, n, x3, n, index, n, mark, marks).run,
                 Call::Row(row) => _ = black_box(probe_row(*run, row, x1, n, x2, n, x3, n, index, n, mark, marks)),
             }
         });
@@ -465,6 +523,15 @@ mod stack {
 
     fn z(state: &mut u64, refused: bool) -> Call {
         Call::Z(if refused { i32::MAX } else { random(state, -9_000, 9_000) })
+    }
+
+    fn season(state: &mut u64, refused: bool) -> Call {
+        let mut months = || [(); 6].map(|()| random(state, 0, 9_000));
+        let (p, mut pe) = (months(), months());
+        if refused {
+            pe[random(state, 0, 5) as usize] = card::NO_READING;
+        }
+        Call::Season(p, pe)
     }
 
     fn row(state: &mut u64, refused: bool) -> Call {
@@ -522,6 +589,7 @@ mod stack {
             ("add water", deepest_with_run(water)),
             ("add inches", deepest_with_run(inches)),
             ("add Z", deepest_with_run(z)),
+            ("season", deepest_with_run(season)),
             ("row", deepest_with_run(row)),
             ("whole series", deepest_whole_series()),
         ];

@@ -1,13 +1,13 @@
 //! Calls the library and the reference on the same inputs and compares everything: every field of the answer, the
-//! run handed back, and every place of every list lent, with some places before and after it that nobody lent. At
-//! the first difference it prints the call, its inputs and both outcomes, and ends with status 1. An argument
-//! multiplies the random cases.
+//! run handed back, and every place of every list lent, with some places before and after it that nobody lent. A
+//! season is compared with the library's single adds of its months as well. At the first difference it prints the
+//! call, its inputs and the outcomes, and ends with status 1. An argument multiplies the random cases.
 
 #[path = "../../host/card.rs"]
 mod card;
 mod reference;
 
-use card::{Added, Answer, Columns, Figures, MonthInches, Reading, Run, Shown, Soil, Started, Values};
+use card::{Added, Answer, Columns, Figures, MonthInches, Reading, Run, Season, Shown, Soil, Started, Values};
 use reference::{Decides, MOST_MONTHS, MOST_Z};
 use std::fmt::Debug;
 
@@ -31,6 +31,7 @@ fn main() {
     any_runs(&mut check, times);
     thresholds(&mut check);
     refusals(&mut check);
+    seasons(&mut check, times);
     check.print();
 }
 
@@ -97,8 +98,37 @@ fn marks(random: &mut Random, length: usize) -> Vec<u8> {
     (0..length + 2 * EDGE).map(|_| random.bits() as u8).collect()
 }
 
+/// The two lists of a season: precipitation and PE, in whole thousandths, with -1 for missing.
+#[derive(Clone, Debug)]
+struct Months {
+    p: Vec<i32>,
+    pe: Vec<i32>,
+}
+
+/// What stands before and after a list of readings. It is good, so that whoever reads too far adds too much.
+const BESIDE: [i32; EDGE] = [700; EDGE];
+
+fn edged(readings: &[i32]) -> Vec<i32> {
+    [&BESIDE, readings, &BESIDE].concat()
+}
+
+/// Whether such a list is as it was.
+fn unchanged(edged: &[i32], readings: &[i32]) -> bool {
+    let (before, rest) = edged.split_at(EDGE);
+    let (held, after) = rest.split_at(readings.len());
+    before == BESIDE && held == readings && after == BESIDE
+}
+
+/// A season's reading as that of a single add.
+fn listed(reading: i32) -> Reading {
+    match reading {
+        card::NO_READING => Reading::missing(),
+        _ => Reading::whole(reading),
+    }
+}
+
 /// Five columns: X1, X2, X3 and index, and mark.
-#[derive(Clone, PartialEq)]
+#[derive(Clone, Default, PartialEq)]
 struct Five {
     numbers: [Vec<i32>; 4],
     mark: Vec<u8>,
@@ -109,13 +139,35 @@ impl Five {
         let [x1, x2, x3, index] = &mut self.numbers;
         Columns { x1: inner(x1), x2: inner(x2), x3: inner(x3), index: inner(index), mark: inner(&mut self.mark) }
     }
+
+    /// The places in which they are not as they should be; `side` says whose they are.
+    fn differences(&self, side: &str, expected: &Five) -> Vec<String> {
+        let mut found = Vec::new();
+        let columns = self.numbers.iter().zip(&expected.numbers);
+        for (name, (held, wanted)) in ["X1", "X2", "X3", "index"].iter().zip(columns) {
+            differing(&format!("{side}, {name}"), held, wanted, &mut found);
+        }
+        differing(&format!("{side}, mark"), &self.mark, &expected.mark, &mut found);
+        found
+    }
 }
 
-/// The same columns three times: lent to the library, lent to the reference, and as they should be.
+fn differing<T: Debug + PartialEq>(name: &str, held: &[T], expected: &[T], found: &mut Vec<String>) {
+    for (place, (held, expected)) in held.iter().zip(expected).enumerate() {
+        if held != expected {
+            let place = place as i64 - EDGE as i64;
+            found.push(format!("{name}[{place}]: {held:?}, expected {expected:?}"));
+        }
+    }
+}
+
+/// The same columns three times: lent to the library, lent to the reference, and as they should be. And once more
+/// while a season is compared, for its months to be added singly.
 struct Lists {
     library: Five,
     reference: Five,
     expected: Five,
+    singly: Five,
 }
 
 impl Lists {
@@ -123,7 +175,7 @@ impl Lists {
         let [x1, x2, x3, index, mark] = lengths;
         let numbers = [x1, x2, x3, index].map(|length| numbers(random, length, fill));
         let five = Five { numbers, mark: marks(random, mark) };
-        Lists { library: five.clone(), reference: five.clone(), expected: five }
+        Lists { library: five.clone(), reference: five.clone(), expected: five, singly: Five::default() }
     }
 
     fn lengths(&mut self) -> [usize; 5] {
@@ -131,21 +183,29 @@ impl Lists {
         [k.x1.len(), k.x2.len(), k.x3.len(), k.index.len(), k.mark.len()]
     }
 
-    /// Takes over from the reference what an add may write: "the new month's place in the five columns, and index
-    /// and mark of the open months it settles, and nothing else".
-    fn expect_month(&mut self, run: &Run, settled: u32) {
+    /// Takes over from the reference what adds of so many months may write: "the new month's place in the five
+    /// columns, and index and mark of the open months it settles, and nothing else".
+    fn expect_months(&mut self, run: &Run, added: u32, settled: u32) {
         let month = run.months as usize;
+        let end = month + added as usize;
         let first = if settled > 0 { month - run.opens as usize } else { month };
         let (from, to) = (self.reference.lend(), self.expected.lend());
-        to.x1[month] = from.x1[month];
-        to.x2[month] = from.x2[month];
-        to.x3[month] = from.x3[month];
-        to.index[first..=month].copy_from_slice(&from.index[first..=month]);
-        to.mark[first..=month].copy_from_slice(&from.mark[first..=month]);
+        to.x1[month..end].copy_from_slice(&from.x1[month..end]);
+        to.x2[month..end].copy_from_slice(&from.x2[month..end]);
+        to.x3[month..end].copy_from_slice(&from.x3[month..end]);
+        to.index[first..end].copy_from_slice(&from.index[first..end]);
+        to.mark[first..end].copy_from_slice(&from.mark[first..end]);
     }
 
     fn agree(&self) -> bool {
         self.library == self.expected && self.reference == self.expected
+    }
+
+    /// The columns that a season's months are added to singly, as they were before it.
+    fn lend_singly(&mut self) -> Columns<'_> {
+        self.singly.numbers.clone_from(&self.expected.numbers);
+        self.singly.mark.clone_from(&self.expected.mark);
+        self.singly.lend()
     }
 
     /// X1, X2 and X3 of the run's open months, which an add settles from and does not write.
@@ -156,27 +216,10 @@ impl Lists {
         values.enumerate().filter(|(month, _)| months.contains(month)).map(|(_, values)| values).collect()
     }
 
-    /// The places in which the three are not the same.
+    /// The places in which the library's and the reference's are not as they should be.
     fn differences(&self) -> Vec<String> {
-        let mut found = Vec::new();
-        let names = ["X1", "X2", "X3", "index"];
-        for (column, name) in names.iter().enumerate() {
-            let side = |five: &Five| five.numbers[column].iter().map(|&x| i64::from(x)).collect();
-            differing(name, [side(&self.library), side(&self.reference), side(&self.expected)], &mut found);
-        }
-        let side = |five: &Five| five.mark.iter().map(|&x| i64::from(x)).collect();
-        differing("mark", [side(&self.library), side(&self.reference), side(&self.expected)], &mut found);
-        found
-    }
-}
-
-fn differing(name: &str, [library, reference, expected]: [Vec<i64>; 3], found: &mut Vec<String>) {
-    for place in 0..expected.len() {
-        let (a, b, c) = (library[place], reference[place], expected[place]);
-        if (a, b) != (c, c) {
-            let place = place as i64 - EDGE as i64;
-            found.push(format!("{name}[{place}]: library {a}, reference {b}, expected {c}"));
-        }
+        let library = self.library.differences("library", &self.expected);
+        [library, self.reference.differences("reference", &self.expected)].concat()
     }
 }
 
@@ -189,11 +232,13 @@ enum Call {
     AddWater,
     AddInches,
     AddZ,
+    AddSeason,
     Row,
     WholeSeries,
 }
 
-const CALLS: [&str; 7] = ["read", "start", "add water", "add inches", "add Z", "row", "whole series"];
+const CALLS: [&str; 8] =
+    ["read", "start", "add water", "add inches", "add Z", "add season", "row", "whole series"];
 
 /// An add, with what is added.
 #[derive(Clone, Copy, Debug)]
@@ -245,6 +290,14 @@ impl Add {
     }
 }
 
+/// A season by the reference, in the form of the library's answer.
+fn by_reference(months: &Months, run: &Run, k: &mut Columns) -> Season {
+    let mut run = *run;
+    let season = reference::add_season(&mut run, &months.p, &months.pe, k);
+    let number = season.refused.map_or(0, |refusal| refusal as u8);
+    Season { number, added: season.added, settled: season.settled, figures: season.figures, run }
+}
+
 /// "A refused start: all zeros."
 const NO_RUN: Run = Run {
     months: 0,
@@ -275,12 +328,22 @@ struct Branches {
     most_settled: u32,
 }
 
+/// What the seasons came to.
+#[derive(Default)]
+struct Seasons {
+    months: u64,
+    most_months: u32,
+    /// Refused after some months were added.
+    stopped: u64,
+}
+
 struct Check {
     random: Random,
     kinds: Vec<(&'static str, u64)>,
     kind: usize,
-    refused: [[u64; 13]; 7],
+    refused: [[u64; 13]; CALLS.len()],
     branches: Branches,
+    seasons: Seasons,
 }
 
 impl Check {
@@ -289,8 +352,9 @@ impl Check {
             random: Random(seed),
             kinds: Vec::new(),
             kind: 0,
-            refused: [[0; 13]; 7],
+            refused: [[0; 13]; CALLS.len()],
             branches: Branches::default(),
+            seasons: Seasons::default(),
         }
     }
 
@@ -360,7 +424,7 @@ impl Check {
         let library = what.library(run, &mut lists.library.lend());
         let reference = what.reference(run, &mut lists.reference.lend());
         if reference.number == 0 {
-            lists.expect_month(run, reference.settled);
+            lists.expect_months(run, 1, reference.settled);
             self.account(run, &reference);
         }
         let refused_changed = reference.number != 0 && reference.run != *run;
@@ -370,6 +434,56 @@ impl Check {
         }
         self.count(what.call(), reference.number);
         reference
+    }
+
+    /// A season, by the library, by the reference and by the library's single adds.
+    fn season(&mut self, months: &Months, run: &Run, lists: &mut Lists) -> Season {
+        let (mut p, mut pe) = (edged(&months.p), edged(&months.pe));
+        let library = card::add_season(*run, inner(&mut p), inner(&mut pe), &mut lists.library.lend());
+        let reference = by_reference(months, run, &mut lists.reference.lend());
+        let singly = self.singly(months, run, &mut lists.lend_singly());
+        let answers = library == reference && singly == reference;
+        if answers && reference.added > 0 {
+            lists.expect_months(run, reference.added, reference.settled);
+        }
+        let lent = unchanged(&p, &months.p) && unchanged(&pe, &months.pe);
+        if !answers || !lent || !lists.agree() || lists.singly != lists.expected {
+            let inputs = (months, run, lists.lengths(), lists.open_months(run));
+            let singly = (singly, lists.singly.differences("singly", &lists.expected));
+            let library = (library, lists.differences(), p, pe, singly);
+            differ(Call::AddSeason, &inputs, &library, &reference);
+        }
+        self.count(Call::AddSeason, reference.number);
+        self.seasons.months += u64::from(reference.added);
+        self.seasons.most_months = self.seasons.most_months.max(reference.added);
+        self.seasons.stopped += u64::from(reference.added > 0 && reference.number != 0);
+        reference
+    }
+
+    /// A season's months added singly by the library, until one is refused. 1 and 7, which a season of no months
+    /// asks as well, are learnt from a row that no run has.
+    fn singly(&mut self, months: &Months, run: &Run, k: &mut Columns) -> Season {
+        let number = match card::row(*run, usize::MAX, k).number {
+            _ if months.p.len() != months.pe.len() => 1,
+            11 => 0,
+            refusal => refusal,
+        };
+        let mut season = Season { number, added: 0, settled: 0, figures: Figures::default(), run: *run };
+        for (&p, &pe) in months.p.iter().zip(&months.pe) {
+            if season.number != 0 {
+                break;
+            }
+            let added = card::add_water(season.run, listed(p), listed(pe), k);
+            season.number = added.number;
+            if added.number == 0 {
+                self.account(&season.run, &added);
+                season.added += 1;
+                season.settled += added.settled;
+                season.figures = added.figures;
+                season.run = added.run;
+            }
+        }
+        season
     }
 
     /// Reads a row; what the lists hold is compared by the next add, or by `untouched`.
@@ -441,7 +555,12 @@ impl Check {
         println!("decided with X1 {x1}, X2 {x2}, X3 {x3}, nothing {nothing}");
         let [steady, ended, wet, dry] = b.exact;
         println!("exactly at V = 0 {steady}, at 1000 U = E {ended}, at X1 = 1,000 {wet}, at X2 = -1,000 {dry}");
-        println!("months settled {}, most by one call {}", b.settled, b.most_settled);
+        println!("months settled {}, most by one add {}", b.settled, b.most_settled);
+        let s = &self.seasons;
+        println!(
+            "seasons added {} months, at most {}; stopped in the middle {}",
+            s.months, s.most_months, s.stopped
+        );
         println!();
         let cases: u64 = self.kinds.iter().map(|kind| kind.1).sum();
         println!("cross-check: {cases} cases, no difference");
@@ -463,6 +582,9 @@ fn worked_months(c: &mut Check) {
     let w = w1.figures.water;
     assert_eq!((w.ls, w.lu, w.et, w.pl, w.cafec, w1.figures.z), (500, 500, 2000, 1500, 2125, -1688));
     assert_eq!((w1.run.soil.surface, w1.run.soil.underlying, w1.run.calendar), (0, 2500, 2));
+    let months = Months { p: vec![1000, 700, 700], pe: vec![2500, -1, 700] };
+    let w1_alone = Season { number: 8, added: 1, settled: w1.settled, figures: w1.figures, run: w1.run };
+    assert_eq!(c.season(&months, &run, &mut lists), w1_alone);
 
     let run = c.start(&constants, [6000, 500, 4900, 12]).run;
     let w2 = c.add(Add::Inches(MonthInches { p: 2.0, pe: 0.4 }), &run, &mut lists);
@@ -968,6 +1090,8 @@ fn all_calls(c: &mut Check, run: &Run, lists: &mut Lists) {
     let (p, pe) = (pick_reading(&mut c.random, 9_000), pick_reading(&mut c.random, 9_000));
     c.add(Add::Water(p, pe), run, lists);
     c.add(Add::Inches(MonthInches { p: 2.5, pe: 3.0625 }), run, lists);
+    let season = if c.random.one_in(2) { vec![] } else { vec![700, 2_500] };
+    c.season(&Months { p: season.clone(), pe: season }, run, lists);
     for row in [0, run.months.wrapping_sub(1) as usize, run.months as usize] {
         c.row(run, row, lists);
     }
@@ -1207,5 +1331,211 @@ fn whole_refusals(c: &mut Check) {
                 }
             }
         }
+    }
+}
+
+// ---- Seasons -----------------------------------------------------------------------------------------------
+
+/// Constants by which every month's Z is P - PE: alpha and K are 10,000, and the others 0.
+const PLAIN: [i32; 60] = {
+    let mut constants = [0; 60];
+    let mut first = 0;
+    while first < 60 {
+        (constants[first], constants[first + 4]) = (10_000, 10_000);
+        first += 5;
+    }
+    constants
+};
+
+/// Readings at the edges, beside a good one.
+const EDGES: [i32; 8] = [700, 0, 100_000, -1, -2, 100_001, i32::MIN, i32::MAX];
+
+/// A run that is one, with any values or fresh, and often with a Z that is P - PE.
+fn season_run(random: &mut Random, length: usize, fresh: bool) -> Run {
+    let mut run = any_good_run(random, length);
+    if fresh {
+        (run.months, run.opens, run.values) = (0, 0, NO_RUN.values);
+    }
+    if random.one_in(2) {
+        run.constants = PLAIN;
+    }
+    run
+}
+
+/// Good readings of so many months. Where the run's Z is P - PE, they are chosen for their Z.
+fn good_months(random: &mut Random, run: &Run, length: usize) -> Months {
+    let most_p = random.pick(&[300, 4_000, 9_000, 9_000, 100_000]);
+    let most_pe = random.pick(&[300, 4_000, 9_000, 9_000, 100_000]);
+    let mut style = random.pick(&STYLES);
+    let change = random.pick(&[3, 12, 60, 1_500]);
+    let mut values = run.values;
+    let readings = (0..length).map(|_| {
+        if run.constants != PLAIN {
+            return (random.within(0, most_p) as i32, random.within(0, most_pe) as i32);
+        }
+        if random.one_in(change) {
+            style = random.pick(&STYLES);
+        }
+        let z = pick_z(random, style, &values).clamp(-100_000, 100_000);
+        values = reference::spell_month(&values, z).values;
+        (z.max(0), (-z).max(0))
+    });
+    let (p, pe) = readings.unzip();
+    Months { p, pe }
+}
+
+/// Puts a reading at an edge, or any number, into one list or both.
+fn spoil(random: &mut Random, months: &mut Months) {
+    let place = random.below(months.p.len().max(1) as u64) as usize;
+    let way = random.below(3);
+    for (list, spoiled) in [(&mut months.p, way != 0), (&mut months.pe, way != 1)] {
+        let (any, edge) = (random.bits() as i32, random.pick(&EDGES));
+        let reading = random.pick(&[-1, any, edge, edge]);
+        if let Some(place) = list.get_mut(place).filter(|_| spoiled) {
+            *place = reading;
+        }
+    }
+}
+
+fn seasons(c: &mut Check, times: u64) {
+    season_lengths(c, times);
+    season_edges(c);
+    season_refusals(c);
+    long_seasons(c, times);
+    mixed_seasons(c, times);
+}
+
+fn season_lengths(c: &mut Check, times: u64) {
+    for (name, fresh) in [("seasons, 0 to 12 months, fresh", true), ("seasons, 0 to 12 months, any run", false)] {
+        c.kind(name);
+        for number in 0..3_900 * times {
+            let length = c.random.within(1, 40) as usize;
+            let fill = c.random.pick(&[Fill::AnyBits, Fill::Small, Fill::Small]);
+            let mut lists = Lists::new(&mut c.random, [length; 5], fill);
+            let run = season_run(&mut c.random, length, fresh);
+            let mut months = good_months(&mut c.random, &run, number as usize % 13);
+            if c.random.one_in(4) {
+                spoil(&mut c.random, &mut months);
+            }
+            c.season(&months, &run, &mut lists);
+        }
+    }
+    c.kind("seasons, running full");
+    for length in 1..=12 {
+        for held in 0..=length {
+            let mut lists = Lists::new(&mut c.random, [length; 5], Fill::Small);
+            for months in 0..=13 {
+                let mut run = season_run(&mut c.random, length, false);
+                run.months = held as u32;
+                (run.opens, run.values.v) = (run.opens.min(run.months), 0);
+                let months = good_months(&mut c.random, &run, months);
+                c.season(&months, &run, &mut lists);
+            }
+        }
+    }
+}
+
+/// Edges of precipitation and of PE at every place, with room to spare, and running full before that month, at it
+/// and after it.
+fn season_edges(c: &mut Check) {
+    c.kind("seasons, edges at every place");
+    for length in 1..=12usize {
+        for place in 0..length {
+            for room in [place.saturating_sub(1), place, place + 1, length + 2] {
+                let held = c.random.within(1, 6) as usize;
+                let mut lists = Lists::new(&mut c.random, [held + room; 5], Fill::Small);
+                let mut run = season_run(&mut c.random, held, false);
+                run.months = held as u32;
+                let good = good_months(&mut c.random, &run, length);
+                for p in EDGES {
+                    for pe in EDGES {
+                        let mut months = good.clone();
+                        (months.p[place], months.pe[place]) = (p, pe);
+                        c.season(&months, &run, &mut lists);
+                    }
+                }
+            }
+        }
+    }
+}
+
+/// Columns and runs with faults, and lists of unequal length.
+fn season_refusals(c: &mut Check) {
+    c.kind("several refusals, seasons");
+    let mut run = any_good_run(&mut c.random, 5);
+    (run.months, run.opens, run.values) = (3, 2, Values { x1: 40, x2: -30, x3: 0, v: 0 });
+    for lengths in length_faults() {
+        let mut lists = Lists::new(&mut c.random, lengths, Fill::AnyBits);
+        for run in run_faults(&run) {
+            for (p, pe) in [(0, 0), (0, 1), (1, 0), (1, 1), (2, 3), (3, 2), (4, 4)] {
+                for reading in [700, -1, 100_001] {
+                    c.season(&Months { p: vec![reading; p], pe: vec![700; pe] }, &run, &mut lists);
+                }
+            }
+        }
+    }
+}
+
+/// Seasons as long as the columns may be, and longer than they are.
+fn long_seasons(c: &mut Check, times: u64) {
+    let groups = [("seasons, up to 400 months", 13, 400, 200), ("seasons, up to 3,000 months", 401, 3_000, 30)];
+    for (name, least, most, amount) in groups {
+        c.kind(name);
+        for number in 0..amount * times {
+            let season = c.random.within(least, most) as usize;
+            let most = season.min(MOST_MONTHS) as i64;
+            let length = if number % 2 == 0 { MOST_MONTHS } else { c.random.within(1, most) as usize };
+            let mut lists = Lists::new(&mut c.random, [length; 5], Fill::AnyBits);
+            let run = season_run(&mut c.random, length, number % 4 < 2);
+            let mut months = good_months(&mut c.random, &run, season);
+            if c.random.one_in(3) {
+                spoil(&mut c.random, &mut months);
+            }
+            c.season(&months, &run, &mut lists);
+        }
+    }
+    c.kind("seasons, about 2,400 months");
+    for season in [MOST_MONTHS - 1, MOST_MONTHS, MOST_MONTHS + 1, 10_000] {
+        let mut lists = Lists::new(&mut c.random, [MOST_MONTHS; 5], Fill::AnyBits);
+        let mut run = season_run(&mut c.random, MOST_MONTHS, true);
+        let months = good_months(&mut c.random, &run, season);
+        c.season(&months, &run, &mut lists);
+        // The second month and those after it stay open until the last, which decides for all of them.
+        run.constants = PLAIN;
+        let mut months = Months { p: vec![0; season], pe: vec![0; season] };
+        (months.p[0], months.pe[1]) = (12, 3);
+        months.p[season.min(MOST_MONTHS) - 1] = 3_000;
+        c.season(&months, &run, &mut lists);
+    }
+}
+
+/// Seasons and single adds on one run until it is full, and a season more.
+fn mixed_seasons(c: &mut Check, times: u64) {
+    c.kind("seasons and single adds, mixed");
+    for _ in 0..400 * times {
+        let most = c.random.pick(&[12, 30, 60, 120, 400]);
+        let length = c.random.within(1, most) as usize;
+        let mut lists = Lists::new(&mut c.random, [length; 5], Fill::AnyBits);
+        let mut run = season_run(&mut c.random, length, true);
+        while (run.months as usize) < length {
+            run = if c.random.one_in(2) {
+                let season = c.random.pick(&[0, 1, 2, 3, 6, 6, 12]);
+                let mut months = good_months(&mut c.random, &run, season);
+                if c.random.one_in(4) {
+                    spoil(&mut c.random, &mut months);
+                }
+                c.season(&months, &run, &mut lists).run
+            } else {
+                let style = c.random.pick(&STYLES);
+                let what = pick_add(&mut c.random, Way::Mixed, style, &run.values);
+                c.add(what, &run, &mut lists).run
+            };
+        }
+        let months = good_months(&mut c.random, &run, 2);
+        c.season(&months, &run, &mut lists);
+        for row in 0..=length {
+            c.row(&run, row, &mut lists);
+        }
+        c.untouched(&run, &mut lists);
     }
 }

@@ -29,6 +29,18 @@ FAULTS = [
     ('V beyond its limit let in', '4_000_150 * u64::from(run.months)', '4_000_151 * u64::from(run.months)'),
     ('the calendar stands still', '    run.calendar = run.calendar % 12 + 1;\n', ''),
     ('a whole series settled to the end', 'mark[first..].fill(OPEN);', 'mark[first..].fill(SETTLED);'),
+    ('a season goes on after a refused month', '        let p = listed(p)?;\n', '        let Ok(p) = listed(p) else { continue };\n'),
+    ('a season stops one month late', '        let pe = listed(pe)?;\n        let month = add_amounts(run, p, pe, k)?;\n', '        let month = add_amounts(run, p, listed(pe).unwrap_or(0), k)?;\n        listed(pe)?;\n'),
+    ('a refused season hands back the run given', '    season.refused = add_months(run, p, pe, k, &mut season).err();\n', '    let given = *run;\n    season.refused = add_months(run, p, pe, k, &mut season).err();\n    if season.refused.is_some() {\n        *run = given;\n    }\n'),
+    ('a refused season has no figures', 'add_months(run, p, pe, k, &mut season).err();\n', 'add_months(run, p, pe, k, &mut season).err();\n    if season.refused.is_some() {\n        season.figures = Figures::default();\n    }\n'),
+    ("a season's first figures kept", '        season.figures = month.figures;\n', '        if season.added == 1 {\n            season.figures = month.figures;\n        }\n'),
+    ("a season's last settled count alone", 'season.settled += month.settled;', 'season.settled = month.settled;'),
+    ('-1 in a season not acceptable', '        -1 => Err(Refusal::Missing),\n', ''),
+    ('a season of no months asks nothing of the run', '    check(run, k)?;\n    for (&p, &pe)', '    if let Err(refusal) = check(run, k) {\n        if refusal == Refusal::Lengths || !p.is_empty() {\n            return Err(refusal);\n        }\n    }\n    for (&p, &pe)'),
+    ('unequal lists of a season cut to the shorter', '    if p.len() != pe.len() {\n        return Err(Refusal::Lengths);\n    }\n    check(run, k)?;\n', '    check(run, k)?;\n'),
+    ('unequal lists of a season refused after the run', '    if p.len() != pe.len() {\n        return Err(Refusal::Lengths);\n    }\n    check(run, k)?;\n', '    check(run, k)?;\n    if p.len() != pe.len() {\n        return Err(Refusal::Lengths);\n    }\n'),
+    ('PE of a season read before precipitation', '        let p = listed(p)?;\n        let pe = listed(pe)?;\n', '        let pe = listed(pe)?;\n        let p = listed(p)?;\n'),
+    ('a season full before its readings', '        let p = listed(p)?;\n', '        if run.months as usize == k.x1.len() {\n            return Err(Refusal::Full);\n        }\n        let p = listed(p)?;\n'),
 ]
 
 

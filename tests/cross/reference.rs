@@ -1,6 +1,7 @@
-//! Document 01 in plain Rust, written from that document alone and in its order, for the library to be compared
-//! with and measured against. The sentences quoted in the comments are the document's. It shares the library's
-//! data types and nothing else. A call borrows the run and changes it only where it does what it was asked.
+//! Document 01 in plain Rust and in its order, with document 02's season in one call (E2), written from these two
+//! alone, for the library to be compared with and measured against. The sentences quoted in the comments are the
+//! documents'. It shares the library's data types and nothing else. A call borrows the run and changes it only
+//! where it does what it was asked, a season month by month.
 #![allow(dead_code)]
 
 use crate::card::{self, Columns, Figures, MonthInches, Reading, Run, Shown, Soil, Values, Water};
@@ -448,6 +449,52 @@ pub fn add_z(run: &mut Run, z: i32, k: &mut Columns) -> Result<Added, Refusal> {
     }
     // "For an added Z all those before Z are 0."
     Ok(add(run, Water::default(), z, k))
+}
+
+/// What a season answers. All but the refusal tells of the months that were added.
+#[derive(Clone, Copy, Debug)]
+pub struct Season {
+    pub added: u32,
+    pub settled: u32,
+    pub figures: Figures,
+    pub refused: Option<Refusal>,
+}
+
+/// A reading in a season's lists: "in whole thousandths", "with -1 for missing".
+#[inline]
+fn listed(reading: i32) -> Result<u32, Refusal> {
+    match reading {
+        0..=100_000 => Ok(reading as u32),
+        -1 => Err(Refusal::Missing),
+        _ => Err(Refusal::NotAcceptable),
+    }
+}
+
+/// "A season in one call." "At the first month that a single add refuses, the call stops, keeps the earlier ones,
+/// and returns that refusal with how many were added."
+pub fn add_season(run: &mut Run, p: &[i32], pe: &[i32], k: &mut Columns) -> Season {
+    let mut season = Season { added: 0, settled: 0, figures: Figures::default(), refused: None };
+    season.refused = add_months(run, p, pe, k, &mut season).err();
+    season
+}
+
+/// "Add the months in order." Each one's order of refusals is that of an add of water from 8 on.
+fn add_months(run: &mut Run, p: &[i32], pe: &[i32], k: &mut Columns, season: &mut Season) -> Result<(), Refusal> {
+    // "1 also covers two lists of unequal length, and 1 and 7 are checked once, before the first month."
+    if p.len() != pe.len() {
+        return Err(Refusal::Lengths);
+    }
+    check(run, k)?;
+    for (&p, &pe) in p.iter().zip(pe) {
+        let p = listed(p)?;
+        let pe = listed(pe)?;
+        let month = add_amounts(run, p, pe, k)?;
+        // "The figures are the last added month's (0 if none), settled counts summed, also on a refusal."
+        season.added += 1;
+        season.settled += month.settled;
+        season.figures = month.figures;
+    }
+    Ok(())
 }
 
 /// "Show a month's row (what the five columns hold there)." "Row: 1, 7, 11." "Rows are numbered from 0."

@@ -28,7 +28,7 @@ use Rattle.demands.proofs.Took.{took, good-kept}
 use Rattle.demands.specs.Demands.{numberOf, Honest, begun}
 use Rattle.demands.proofs.Shown.{refused-add}
 
-zero-or : (k : ℕ) → (k ≡ 0) ⊎ (k ≡ 0 → ⊥)
+pub zero-or : (k : ℕ) → (k ≡ 0) ⊎ (k ≡ 0 → ⊥)
 zero-or zero = inl refl
 zero-or (suc k) = inr (λ e. omega arith)
 
@@ -45,7 +45,7 @@ pub good-always : (s : State) (asks : List Ask) → Good (s .run) (s .columns) �
 good-always s [] g = g
 good-always s (a ∷ later) g = good-always (after s a) later (good-after s a g)
 
-not-both : (n : ℕ) → n ≡ 0 → Honest n
+pub not-both : (n : ℕ) → n ≡ 0 → Honest n
 not-both n e = ((λ h. omega arith), (λ h. omega arith))
 
 or-honest : (a b : ℕ) → Honest a → Honest b → Honest (orElse a b)

@@ -8,4 +8,6 @@ pub mod Singly
 pub mod Demands
 pub mod OneOutcome
 pub mod WorkedMonths
+pub mod Seasons
 pub mod Rejected
+pub mod SeasonRejected

@@ -1,10 +1,12 @@
--- Any two outcomes that a promise of `drought` allows are identical: each promise is an equation of the whole outcome with a definition of the
+-- Any two outcomes that a promise of `drought` or of `season` allows are identical: each promise is an equation of the whole outcome with a definition of the
 -- input. Assumes nothing.
 use mathlib.Core.Path.{_≡_, sym, ap, _∙_}
 use Rattle.drought.specs.Columns.{Columns}
 use Rattle.drought.specs.Asked.{Result, result}
 use Rattle.drought.specs.declared.Added.{Added}
 use Rattle.drought.specs.declared.Shown.{Shown}
+use Rattle.season.specs.Season.{Left, left}
+use Rattle.season.specs.declared.Season.{Season}
 
 -- an add: the answer with the run in it, and all five columns
 pub one-add : (said : Result) (a b : Added) (cs ds : Columns) → result a cs ≡ said → result b ds ≡ said → (a ≡ b) × (cs ≡ ds)
@@ -13,3 +15,7 @@ one-add said a b cs ds p q = let e = p ∙ sym q in (ap (λ (r : Result). r .ans
 -- a row
 pub one-row : (said a b : Shown) → a ≡ said → b ≡ said → a ≡ b
 one-row said a b p q = p ∙ sym q
+
+-- a season: the answer with the run in it, and all five columns
+pub one-season : (said : Left) (a b : Season) (cs ds : Columns) → left a cs ≡ said → left b ds ≡ said → (a ≡ b) × (cs ≡ ds)
+one-season said a b cs ds p q = let e = p ∙ sym q in (ap (λ (t : Left). t .answer) e, ap (λ (t : Left). t .columns) e)

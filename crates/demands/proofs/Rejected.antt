@@ -33,13 +33,13 @@ abbrev minus : ℕ → ℤ
 minus n = negℤ (pos n)
 
 -- a run as a start of this capacity gives it, with constants and storages of 0, and columns of n places
-abbrev bare : ℤ → Run
+abbrev pub bare : ℤ → Run
 bare capacity = freshRun (replicate 60 (pos 0)) capacity (pos 0) (pos 0) (pos 1)
 
-abbrev begun : Run
+abbrev pub begun : Run
 begun = bare (pos 6000)
 
-abbrev blank : ℕ → Columns
+abbrev pub blank : ℕ → Columns
 blank n = columns (replicate n (pos 0)) (replicate n (pos 0)) (replicate n (pos 0)) (replicate n (pos 0)) (replicate n 0)
 
 abbrev more : Result → ℤ → Result

@@ -1,4 +1,5 @@
 -- The words in which the demands are said, the demands, and the worked months.
 pub mod Months
 pub mod Demands
+pub mod Seasons
 pub mod Worked

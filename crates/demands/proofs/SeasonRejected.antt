@@ -1,0 +1,152 @@
+-- WRONG SEASONS, and that none keeps the promise of the call, as proofs/Rejected.antt has it for the single calls: a program is any function
+-- from what is handed in to what it leaves; each theorem takes one that keeps the promise and is wrong in the way that the theorem names, and
+-- comes to a contradiction on months that are worked out here. Assumes nothing.
+use mathlib.Core.Path.{_≡_, refl, sym, ap, _∙_}
+use mathlib.Core.List.{List, [], _∷_}
+use mathlib.Core.Bool.{Bool, true, false, cond, _&&_}
+use native.Mathlib.Omega.{arith}
+use lib.IntN.{ℤ, pos, negsuc}
+use lib.Dec.{eqb}
+use lib.ListN.{length}
+use borrow.Author.Tests.{eq-eqb, ne-eqb}
+use Rattle.exact.specs.Nearest.{nearest, nearestℕ}
+use Rattle.exact.specs.Next.{nextOf}
+use Rattle.door.specs.Readings.{reading, whole}
+use Rattle.water.specs.Layers.{surfaceHolds, underlyingHolds}
+use Rattle.water.specs.Balance.{underLoss, balanceOf, otherMonth, toSurface, toUnderlying}
+use Rattle.water.specs.Expected.{potentialSurface, potentialUnderlying, potentialsOf, nOf, expectedOf, zOf, monthOf}
+use Rattle.spells.specs.Spells.{turn, uOf, vOf, eOf, qOf, endingOf, percentOf, raised, lowered, largerInSize, provisional, steadyMonth, abatingValues, abatingMonth, founded, unfounded, tried, noSpell, endingMonth, inForce, stepOf}
+use Rattle.runs.specs.Ranges.{limitOf, constantFits, constantsFitTo, constantsAt, calendarFits, nextCalendar}
+use Rattle.runs.specs.Runs.{lengthFits, zFits, soilFits, sizesFit, signsFit, vFits, isRun}
+use Rattle.runs.specs.declared.Run.{Run}
+use Rattle.drought.specs.Columns.{Columns, long, lengthsFit, columnsFit}
+use Rattle.drought.specs.Refusals.{badLists, notARun, runRefusal, roomRefusal, waterRefusal}
+use Rattle.drought.specs.Figures.{noFigures}
+use Rattle.drought.specs.Asked.{taken, takenWater, addOutcomes, addWater}
+use Rattle.drought.specs.declared.Figures.{Figures}
+use Rattle.season.specs.Season.{Left, listed, onward, seasonRefusal, addSeason}
+use Rattle.demands.proofs.Rejected.{begun, blank}
+
+-- a thousandth, two thousandths, and a missing month; PE is 0
+abbrev rain : List ℤ
+rain = pos 1 ∷ pos 2 ∷ negsuc 0 ∷ []
+
+abbrev none : List ℤ
+none = pos 0 ∷ pos 0 ∷ pos 0 ∷ []
+
+abbrev broken : Left
+broken = addSeason begun rain none (blank 3)
+
+-- the first month alone
+abbrev one : Left
+one = addSeason begun (pos 1 ∷ []) (pos 0 ∷ []) (blank 3)
+
+-- the first two
+abbrev two : Left
+two = addSeason begun (pos 1 ∷ pos 2 ∷ []) (pos 0 ∷ pos 0 ∷ []) (blank 3)
+
+-- the second, after the first
+abbrev last : Left
+last = addSeason (one .answer .run) (pos 2 ∷ []) (pos 0 ∷ []) (one .columns)
+
+record WorkedSeason : Type 0 where
+  broken-number : broken .answer .number ≡ 8
+  broken-added : broken .answer .added ≡ 2
+  broken-months : broken .answer .run .months ≡ 2
+  broken-p : broken .answer .figures .water .p ≡ 2
+  broken-settled : broken .answer .settled ≡ 2
+  one-number : one .answer .number ≡ 0
+  one-p : one .answer .figures .water .p ≡ 1
+  one-settled : one .answer .settled ≡ 1
+  two-number : two .answer .number ≡ 0
+  two-p : two .answer .figures .water .p ≡ 2
+  two-settled : two .answer .settled ≡ 2
+  last-settled : last .answer .settled ≡ 1
+
+worked : WorkedSeason
+unfolding nearest nearestℕ nextOf turn uOf vOf eOf qOf endingOf percentOf raised lowered largerInSize provisional steadyMonth abatingValues abatingMonth founded unfounded tried noSpell endingMonth inForce stepOf surfaceHolds underlyingHolds underLoss balanceOf otherMonth toSurface toUnderlying potentialSurface potentialUnderlying potentialsOf nOf expectedOf zOf monthOf limitOf constantFits constantsFitTo constantsAt calendarFits nextCalendar lengthFits zFits soilFits sizesFit signsFit vFits isRun reading whole lengthsFit runRefusal roomRefusal waterRefusal taken takenWater addOutcomes addWater listed onward seasonRefusal addSeason
+worked =
+    record {
+      broken-number = refl;
+      broken-added = refl;
+      broken-months = refl;
+      broken-p = refl;
+      broken-settled = refl;
+      one-number = refl;
+      one-p = refl;
+      one-settled = refl;
+      two-number = refl;
+      two-p = refl;
+      two-settled = refl;
+      last-settled = refl;
+    }
+
+module _ (f : Run → List ℤ → List ℤ → Columns → Left) (keeps : (r : Run) (ps pes : List ℤ) (cs : Columns) → f r ps pes cs ≡ addSeason r ps pes cs) where
+  is-broken : f begun rain none (blank 3) ≡ broken
+  is-broken = keeps begun rain none (blank 3)
+
+  is-one : f begun (pos 1 ∷ []) (pos 0 ∷ []) (blank 3) ≡ one
+  is-one = keeps begun (pos 1 ∷ []) (pos 0 ∷ []) (blank 3)
+
+  is-two : f begun (pos 1 ∷ pos 2 ∷ []) (pos 0 ∷ pos 0 ∷ []) (blank 3) ≡ two
+  is-two = keeps begun (pos 1 ∷ pos 2 ∷ []) (pos 0 ∷ pos 0 ∷ []) (blank 3)
+
+  is-last : f (one .answer .run) (pos 2 ∷ []) (pos 0 ∷ []) (one .columns) ≡ last
+  is-last = keeps (one .answer .run) (pos 2 ∷ []) (pos 0 ∷ []) (one .columns)
+
+  -- stops one month late: the missing month, here always the last, is counted as added
+  pub stops-late : ((r : Run) (ps pes : List ℤ) (cs : Columns) → f r ps pes cs .answer .number ≡ 8 → f r ps pes cs .answer .added ≡ length ps) → ⊥
+  stops-late h =
+      let a = rw is-broken at (h begun rain none (blank 3)) in
+      let e = sym (worked .broken-added) ∙ a (worked .broken-number) in
+      omega arith
+
+  -- drops the earlier months on a refusal
+  pub drops-earlier : ((r : Run) (ps pes : List ℤ) (cs : Columns) → f r ps pes cs .answer .number ≡ 8 → f r ps pes cs .answer .run ≡ r) → ⊥
+  drops-earlier h =
+      let a = rw is-broken at (h begun rain none (blank 3)) in
+      let e = sym (worked .broken-months) ∙ ap (λ (r : Run). r .months) (a (worked .broken-number)) in
+      omega arith
+
+  -- .. or their figures
+  pub drops-figures : ((r : Run) (ps pes : List ℤ) (cs : Columns) → f r ps pes cs .answer .number ≡ 8 → f r ps pes cs .answer .figures ≡ noFigures) → ⊥
+  drops-figures h =
+      let a = rw is-broken at (h begun rain none (blank 3)) in
+      let e = sym (worked .broken-p) ∙ ap (λ (g : Figures). g .water .p) (a (worked .broken-number)) in
+      omega arith
+
+  -- answers the first month's figures
+  pub first-figures : ((r : Run) (p q pe qe : ℤ) (cs : Columns) → f r (p ∷ q ∷ []) (pe ∷ qe ∷ []) cs .answer .number ≡ 0 → f r (p ∷ q ∷ []) (pe ∷ qe ∷ []) cs .answer .figures ≡ f r (p ∷ []) (pe ∷ []) cs .answer .figures) → ⊥
+  first-figures h =
+      let a = rw (is-two, is-one) at (h begun (pos 1) (pos 2) (pos 0) (pos 0) (blank 3)) in
+      let e = sym (worked .two-p) ∙ ap (λ (g : Figures). g .water .p) (a (worked .two-number)) ∙ worked .one-p in
+      omega arith
+
+  -- the settled counts of the last month only
+  pub last-settled-only : ((r : Run) (p q pe qe : ℤ) (cs : Columns) → f r (p ∷ q ∷ []) (pe ∷ qe ∷ []) cs .answer .number ≡ 0 → let t = f r (p ∷ []) (pe ∷ []) cs in f r (p ∷ q ∷ []) (pe ∷ qe ∷ []) cs .answer .settled ≡ f (t .answer .run) (q ∷ []) (qe ∷ []) (t .columns) .answer .settled) → ⊥
+  last-settled-only h =
+      let a = rw (is-two, is-one, is-last) at (h begun (pos 1) (pos 2) (pos 0) (pos 0) (blank 3)) in
+      let e = sym (worked .two-settled) ∙ a (worked .two-number) ∙ worked .last-settled in
+      omega arith
+
+-- ---- EACH REFUSAL of the call before its first month, given exactly when
+module _ (r : Run) (ps pes : List ℤ) (cs : Columns) where
+  pub season-refused-1 : (length ps ≡ length pes → ⊥) → seasonRefusal r ps pes cs ≡ 1
+  unfolding seasonRefusal runRefusal
+  season-refused-1 h = rw (ne-eqb (length ps) (length pes) h)
+
+  pub season-refused-1-columns : columnsFit cs ≡ false → seasonRefusal r ps pes cs ≡ 1
+  unfolding seasonRefusal runRefusal
+  season-refused-1-columns h = rw h (go (eqb (length ps) (length pes)))
+    where
+      go : (t : Bool) → cond (t && false) (cond (isRun (long cs) r) 0 notARun) badLists ≡ 1
+      go true = refl
+      go false = refl
+
+  pub season-refused-7 : length ps ≡ length pes → columnsFit cs ≡ true → isRun (long cs) r ≡ false → seasonRefusal r ps pes cs ≡ 7
+  unfolding seasonRefusal runRefusal
+  season-refused-7 e h k = rw (eq-eqb (length ps) (length pes) e, h, k)
+
+  pub season-not-refused : length ps ≡ length pes → columnsFit cs ≡ true → isRun (long cs) r ≡ true → seasonRefusal r ps pes cs ≡ 0
+  unfolding seasonRefusal runRefusal
+  season-not-refused e h k = rw (eq-eqb (length ps) (length pes) e, h, k)

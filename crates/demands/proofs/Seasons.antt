@@ -1,0 +1,298 @@
+-- A season in one call leaves what its months leave that are added one by one, as specs/Seasons.antt states it. The lists are followed once
+-- (`made`); nothing of what a single add promises is proved again. Assumes nothing.
+use mathlib.Core.Path.{_≡_, refl, sym, ap, _∙_, subst}
+use mathlib.Core.Bool.{true}
+use mathlib.Core.Logic.{⊎-elim}
+use mathlib.Core.List.{List, [], _∷_, _++_, append-nil}
+use Prim.Native.Nat.{ℕ, zero, suc, _+_, _-_, _≤_, _<_}
+use native.Mathlib.Omega.{arith}
+use borrow.Author.Tests.{eq-eqb}
+use lib.IntN.{ℤ, pos}
+use lib.ListN.{length, getD, set, take, drop, length-append, length-drop}
+use lib.Seq.{getD-set-other, getD-append-add, getD-drop, length-take-le}
+use Rattle.spells.specs.Spells.{stepOf}
+use Rattle.hindsight.specs.Adding.{addMonth}
+use Rattle.hindsight.specs.Months.{rowFor}
+use Rattle.runs.specs.Start.{startRefusal}
+use Rattle.runs.specs.declared.Run.{Run}
+use Rattle.runs.proofs.RunLaws.{start-is-run}
+use Rattle.drought.specs.Columns.{Columns, long, columnsFit}
+use Rattle.drought.specs.Ready.{Good}
+use Rattle.drought.specs.Asked.{Result, heldBy, taken}
+use Rattle.drought.specs.declared.Figures.{Figures}
+use Rattle.drought.proofs.Readiness.{lengths-are}
+use Rattle.drought.proofs.Keeps.{wrote-index, wrote-mark}
+use Rattle.drought.proofs.Accepts.{good-passes}
+use Rattle.season.specs.Season.{Left, left, listed, nothing, joined, stopped, onlyIf, single, onward, seasonRefusal, addSeason}
+use Rattle.season.proofs.Steps.{on, off}
+use Rattle.demands.specs.Months.{Ask, water, asked, State, after, afterAll, Accepted, stationOf, zFor}
+use Rattle.demands.specs.Demands.{Honest, begun}
+use Rattle.demands.specs.Seasons.{monthsOf, settledBy, lastOf, leftOf, Singly, SameFrom, Seasons}
+use Rattle.demands.proofs.Took.{Took, took, good-kept, months-next, x1-next, x2-next, x3-next}
+use Rattle.demands.proofs.Sequence.{months-all, after-append, accepted-append}
+use Rattle.demands.proofs.Honest.{zero-or, not-both, never-refused, good-always}
+
+-- ---- what the months of two lists make of a season so far: n of them are added
+record Made (t : Left) (months : List Ask) (u : Left) : Type 0 where
+  n : ℕ
+  few : n ≤ length months
+  added : u .answer .added ≡ t .answer .added + n
+  accepted : Accepted (leftOf t) (take n months)
+  state : leftOf u ≡ afterAll (leftOf t) (take n months)
+  figures : u .answer .figures ≡ lastOf (t .answer .figures) (leftOf t) (take n months)
+  settled : u .answer .settled ≡ t .answer .settled + settledBy (leftOf t) (take n months)
+  done : n ≡ length months → u .answer .number ≡ 0
+  stops :
+      (a : Ask) (earlier later : List Ask) → months ≡ earlier ++ (a ∷ later) → length earlier ≡ n
+      → (u .answer .number ≡ asked (leftOf u .run) a (leftOf u .columns) .answer .number) × (u .answer .number ≡ 0 → ⊥)
+
+-- no month
+made-none : (t : Left) → t .answer .number ≡ 0 → Made t [] t
+made-none t z =
+    record {
+      n = 0;
+      few = omega arith;
+      added = omega arith;
+      accepted = tt;
+      state = refl;
+      figures = refl;
+      settled = omega arith;
+      done = λ e. z;
+      stops = λ a earlier later e l. let m = ap (length {A = Ask}) e in absurd (omega (arith, length-append earlier (a ∷ later)));
+    }
+
+abbrev later-of : List Ask → List Ask
+later-of [] = []
+later-of (a ∷ later) = later
+
+abbrev first-of : Ask → List Ask → Ask
+first-of d [] = d
+first-of d (a ∷ later) = a
+
+module _ (t : Left) (p pe : ℤ) (months : List Ask) where
+  abbrev ask : Ask
+  ask = water (listed p) (listed pe)
+
+  abbrev alone : Result
+  alone = single t p pe
+
+  abbrev next : Left
+  next = left (joined (t .answer) (alone .answer)) (alone .columns)
+
+  abbrev stop : Left
+  stop = left (stopped (t .answer) (alone .answer .number)) (t .columns)
+
+  -- a month that is added, and those after it
+  made-more : (u : Left) → alone .answer .number ≡ 0 → Made next months u → Made t (ask ∷ months) u
+  made-more u z m =
+      record {
+        n = suc (m .n);
+        few = omega (arith, m .few);
+        added = omega (arith, m .added);
+        accepted = (z, m .accepted);
+        state = m .state;
+        figures = m .figures;
+        settled = omega (arith, m .settled);
+        done = λ e. m .done (omega arith);
+        stops = later;
+      }
+    where
+      later : (a : Ask) (earlier later : List Ask) → ask ∷ months ≡ earlier ++ (a ∷ later) → length earlier ≡ suc (m .n)
+          → (u .answer .number ≡ asked (leftOf u .run) a (leftOf u .columns) .answer .number) × (u .answer .number ≡ 0 → ⊥)
+      later a [] l e h = absurd (omega arith)
+      later a (x ∷ earlier) l e h = m .stops a earlier l (ap later-of e) (omega arith)
+
+  -- a month that is refused
+  made-stop : (alone .answer .number ≡ 0 → ⊥) → Made t (ask ∷ months) stop
+  made-stop h =
+      record {
+        n = 0;
+        few = omega arith;
+        added = omega arith;
+        accepted = tt;
+        state = refl;
+        figures = refl;
+        settled = omega arith;
+        done = λ e. absurd (omega arith);
+        stops = here;
+      }
+    where
+      here : (a : Ask) (earlier later : List Ask) → ask ∷ months ≡ earlier ++ (a ∷ later) → length earlier ≡ 0
+          → (alone .answer .number ≡ asked (t .answer .run) a (t .columns) .answer .number) × (alone .answer .number ≡ 0 → ⊥)
+      here a [] l e k = (ap (λ (x : Ask). asked (t .answer .run) x (t .columns) .answer .number) (ap (first-of ask) e), h)
+      here a (x ∷ earlier) l e k = absurd (omega arith)
+
+made : (ps pes : List ℤ) (t : Left) → t .answer .number ≡ 0 → Made t (monthsOf ps pes) (onward t ps pes)
+unfolding onward
+made [] pes t z = made-none t z
+made (p ∷ ps) [] t z = made-none t z
+made (p ∷ ps) (pe ∷ pes) t z =
+    let months = monthsOf ps pes in
+    let u = onward (next t p pe months) ps pes in
+    let k = alone t p pe months .answer .number in
+    ⊎-elim
+    (λ e. subst (Made t (ask t p pe months ∷ months)) (sym (on k u (stop t p pe months) e)) (made-more t p pe months u e (made ps pes (next t p pe months) refl)))
+    (λ h. subst (Made t (ask t p pe months ∷ months)) (sym (off k u (stop t p pe months) h)) (made-stop t p pe months h))
+    (zero-or k)
+
+-- ---- from the first month on
+module _ (r : Run) (ps pes : List ℤ) (cs : Columns) where
+  abbrev here : State
+  here = record { run = r; columns = cs }
+
+  abbrev first : Left
+  first = left (nothing 0 r) cs
+
+  refused : (seasonRefusal r ps pes cs ≡ 0 → ⊥) → addSeason r ps pes cs ≡ left (nothing (seasonRefusal r ps pes cs) r) cs
+  unfolding addSeason
+  refused h = off (seasonRefusal r ps pes cs) (onward first ps pes) _ h
+
+  begins : seasonRefusal r ps pes cs ≡ 0 → addSeason r ps pes cs ≡ onward first ps pes
+  unfolding addSeason
+  begins z = on (seasonRefusal r ps pes cs) (onward first ps pes) _ z
+
+  singly : seasonRefusal r ps pes cs ≡ 0 → Singly here (monthsOf ps pes) (addSeason r ps pes cs)
+  singly z = subst (Singly here (monthsOf ps pes)) (sym (begins z)) go
+    where
+      m : Made first (monthsOf ps pes) (onward first ps pes)
+      m = made ps pes first refl
+
+      count : onward first ps pes .answer .added ≡ m .n
+      count = omega (arith, m .added)
+
+      go : Singly here (monthsOf ps pes) (onward first ps pes)
+      go =
+          record {
+            added = omega (arith, m .few, count);
+            accepted = rw count (m .accepted);
+            state = rw count (m .state);
+            figures = rw count (m .figures);
+            settled = rw count (omega (arith, m .settled));
+            done = λ e. m .done (sym count ∙ e);
+            stopped = λ a earlier later e h. m .stops a earlier later e (h ∙ count);
+          }
+
+  -- empty lists, and others: what stands when the call returns is what accepted months leave
+  here-more : Accepted here (take (addSeason r ps pes cs .answer .added) (monthsOf ps pes)) × (leftOf (addSeason r ps pes cs) ≡ afterAll here (take (addSeason r ps pes cs .answer .added) (monthsOf ps pes)))
+  here-more =
+      ⊎-elim
+      (λ z. let g = singly z in (g .accepted, g .state))
+      (λ h. rw (refused h) (tt, refl))
+      (zero-or (seasonRefusal r ps pes cs))
+
+empty : (r : Run) (cs : Columns) → addSeason r [] [] cs ≡ left (nothing (seasonRefusal r [] [] cs) r) cs
+unfolding addSeason onward
+empty r cs = go (seasonRefusal r [] [] cs)
+  where
+    go : (k : ℕ) → onlyIf k (left (nothing 0 r) cs) (left (nothing k r) cs) ≡ left (nothing k r) cs
+    go zero = refl
+    go (suc k) = refl
+
+-- ---- places that no month has are never written
+same : (n : ℕ) (cs : Columns) → SameFrom n cs cs
+same n cs = record { x1 = λ i h. refl; x2 = λ i h. refl; x3 = λ i h. refl; index = λ i h. refl; mark = λ i h. refl }
+
+then : (n m : ℕ) (bs cs ds : Columns) → n ≤ m → SameFrom n bs cs → SameFrom m cs ds → SameFrom m bs ds
+then n m bs cs ds l a b =
+    record {
+      x1 = λ i h. b .x1 i h ∙ a .x1 i (omega arith);
+      x2 = λ i h. b .x2 i h ∙ a .x2 i (omega arith);
+      x3 = λ i h. b .x3 i h ∙ a .x3 i (omega arith);
+      index = λ i h. b .index i h ∙ a .index i (omega arith);
+      mark = λ i h. b .mark i h ∙ a .mark i (omega arith);
+    }
+
+-- beyond the first m + 1 places of a list that begins anew and goes on as before
+beyond-list : {A : Type 0} (d : A) (new old : List A) (m : ℕ) → length (new ++ drop (suc m) old) ≡ length old → m < length old → (i : ℕ) → suc m ≤ i → getD (new ++ drop (suc m) old) i d ≡ getD old i d
+beyond-list d new old m e l i h =
+    let long : length new ≡ suc m = omega (arith, e, length-append new (drop (suc m) old), length-drop (suc m) old) in
+    let there : length new + (i - suc m) ≡ i = omega (arith, long) in
+    let back : suc m + (i - suc m) ≡ i = omega arith in
+    sym (ap (λ (j : ℕ). getD (new ++ drop (suc m) old) j d) there)
+    ∙ getD-append-add new (drop (suc m) old) (i - suc m) d
+    ∙ getD-drop (suc m) old (i - suc m) d
+    ∙ ap (λ (j : ℕ). getD old j d) back
+
+module _ (r : Run) (a : Ask) (cs : Columns) (t : Took r a cs) where
+  abbrev left-by : Columns
+  left-by = asked r a cs .columns
+
+  apart : (i : ℕ) → suc (r .months) ≤ i → i ≡ r .months → ⊥
+  apart i h e = omega arith
+
+  one-beyond : SameFrom (suc (r .months)) cs left-by
+  unfolding taken
+  one-beyond =
+      let row = rowFor (stepOf (r .values) (zFor (stationOf r) a)) in
+      let l = lengths-are (long cs) (length (cs .x2)) (length (cs .x3)) (length (cs .index)) (length (cs .mark)) (t .good .fit) in
+      let wi = wrote-index r cs (t .good .fit) (t .good .run) (t .room) row in
+      let wm = wrote-mark r cs (t .good .fit) (t .good .run) (t .room) row in
+      record {
+        x1 = λ i h. ap (λ (c : List ℤ). getD c i (pos 0)) (x1-next r a cs t) ∙ getD-set-other (cs .x1) (r .months) i (row .x .x1) (pos 0) (apart i h);
+        x2 = λ i h. ap (λ (c : List ℤ). getD c i (pos 0)) (x2-next r a cs t) ∙ getD-set-other (cs .x2) (r .months) i (row .x .x2) (pos 0) (apart i h);
+        x3 = λ i h. ap (λ (c : List ℤ). getD c i (pos 0)) (x3-next r a cs t) ∙ getD-set-other (cs .x3) (r .months) i (row .x .x3) (pos 0) (apart i h);
+        index = λ i h. ap (λ (b : Result). getD (b .columns .index) i (pos 0)) (t .did) ∙ beyond-list (pos 0) (addMonth (heldBy r cs) row .index) (cs .index) (r .months) (wi ∙ sym (l .2)) (omega (arith, l .2, t .room)) i h;
+        mark = λ i h. ap (λ (b : Result). getD (b .columns .mark) i 0) (t .did) ∙ beyond-list 0 (addMonth (heldBy r cs) row .mark) (cs .mark) (r .months) (wm ∙ sym (l .3)) (omega (arith, l .3, t .room)) i h;
+      }
+
+all-beyond : (s : State) (asks : List Ask) → Accepted s asks → SameFrom (s .run .months + length asks) (s .columns) (afterAll s asks .columns)
+all-beyond s [] h = same (s .run .months + 0) (s .columns)
+all-beyond s (a ∷ later) h =
+    let t = took (s .run) (s .columns) a (h .0) in
+    let m = months-next (s .run) a (s .columns) t in
+    let e : after s a .run .months + length later ≡ s .run .months + suc (length later) = omega (arith, m) in
+    then (suc (s .run .months)) (s .run .months + suc (length later)) (s .columns) (after s a .columns) (afterAll (after s a) later .columns) (omega arith) (one-beyond (s .run) a (s .columns) t)
+    (subst (λ (n : ℕ). SameFrom n (after s a .columns) (afterAll (after s a) later .columns)) e (all-beyond (after s a) later (h .1)))
+
+beyond : (r : Run) (ps pes : List ℤ) (cs : Columns) → SameFrom (r .months + addSeason r ps pes cs .answer .added) cs (addSeason r ps pes cs .columns)
+beyond r ps pes cs =
+    ⊎-elim
+    (λ z. let g = singly r ps pes cs z in
+    let n = addSeason r ps pes cs .answer .added in
+    let b = all-beyond (here r ps pes cs) (take n (monthsOf ps pes)) (g .accepted) in
+    let e : SameFrom (r .months + n) cs (afterAll (here r ps pes cs) (take n (monthsOf ps pes)) .columns) = rw (length-take-le n (monthsOf ps pes) (g .added)) at b in
+    rw (ap (λ (s : State). s .columns) (g .state)) e)
+    (λ h. rw (refused r ps pes cs h) (same (r .months + 0) cs))
+    (zero-or (seasonRefusal r ps pes cs))
+
+-- ---- after accepted months
+more : (s : State) (asks : List Ask) (ps pes : List ℤ) → Accepted s asks
+    → let t = addSeason (afterAll s asks .run) ps pes (afterAll s asks .columns) in
+    Accepted s (asks ++ take (t .answer .added) (monthsOf ps pes)) × (leftOf t ≡ afterAll s (asks ++ take (t .answer .added) (monthsOf ps pes)))
+more s asks ps pes h =
+    let n = addSeason (afterAll s asks .run) ps pes (afterAll s asks .columns) .answer .added in
+    let months = take n (monthsOf ps pes) in
+    let g = here-more (afterAll s asks .run) ps pes (afterAll s asks .columns) in
+    (accepted-append s asks months h (g .0), g .1 ∙ sym (after-append s asks months))
+
+-- ---- neither 1 nor 7
+onward-honest : (ps pes : List ℤ) (t : Left) → t .answer .number ≡ 0 → Good (t .answer .run) (t .columns) → Honest (onward t ps pes .answer .number)
+unfolding onward
+onward-honest [] pes t z g = not-both _ z
+onward-honest (p ∷ ps) [] t z g = not-both _ z
+onward-honest (p ∷ ps) (pe ∷ pes) t z g =
+    let months = monthsOf ps pes in
+    let u = onward (next t p pe months) ps pes in
+    let k = alone t p pe months .answer .number in
+    let a = ask t p pe months in
+    ⊎-elim
+    (λ e. subst (λ (w : Left). Honest (w .answer .number)) (sym (on k u (stop t p pe months) e)) (onward-honest ps pes (next t p pe months) refl (good-kept (t .answer .run) a (t .columns) (took (t .answer .run) (t .columns) a e))))
+    (λ h. subst (λ (w : Left). Honest (w .answer .number)) (sym (off k u (stop t p pe months) h)) (never-refused (t .answer .run) a (t .columns) g))
+    (zero-or k)
+
+season-honest : (r : Run) (ps pes : List ℤ) (cs : Columns) → length ps ≡ length pes → Good r cs → Honest (addSeason r ps pes cs .answer .number)
+unfolding seasonRefusal
+season-honest r ps pes cs e g =
+    let z : seasonRefusal r ps pes cs ≡ 0 = rw (eq-eqb (length ps) (length pes) e) (good-passes r cs g) in
+    rw (begins r ps pes cs z) (onward-honest ps pes (first r ps pes cs) refl g)
+
+honest : (constants : List ℤ) (c ss su m : ℤ) (cs : Columns) → startRefusal constants c ss su m ≡ 0 → columnsFit cs ≡ true → (asks : List Ask) (ps pes : List ℤ)
+    → length ps ≡ length pes
+    → Honest (addSeason (afterAll (begun constants c ss su m cs) asks .run) ps pes (afterAll (begun constants c ss su m cs) asks .columns) .answer .number)
+honest constants c ss su m cs started fit asks ps pes e =
+    let s = begun constants c ss su m cs in
+    let g = good-always s asks (record { fit = fit; run = start-is-run constants c ss su m started (long cs) }) in
+    season-honest (afterAll s asks .run) ps pes (afterAll s asks .columns) e g
+
+pub seasons : Seasons
+seasons = record { refused = refused; singly = singly; empty = empty; beyond = beyond; more = more; honest = honest }

@@ -1,0 +1,82 @@
+-- A SEASON IN ONE CALL (document 02, E2), in the words of the demands: what it leaves is what the same months leave that are added one by one,
+-- up to the first that a single add refuses. So each theorem of the three demands holds of its months as it stands. `seasons` of
+-- proofs/Seasons.antt proves it. Assumes nothing.
+use mathlib.Core.Path.{_≡_}
+use mathlib.Core.Bool.{true}
+use mathlib.Core.List.{List, [], _∷_, _++_}
+use Prim.Native.Nat.{ℕ, _+_, _≤_, _<_}
+use lib.IntN.{ℤ, pos}
+use lib.ListN.{length, getD, take}
+use Rattle.runs.specs.Start.{startRefusal}
+use Rattle.runs.specs.declared.Run.{Run}
+use Rattle.drought.specs.Columns.{Columns, columnsFit}
+use Rattle.drought.specs.Figures.{noFigures}
+use Rattle.drought.specs.declared.Figures.{Figures}
+use Rattle.season.specs.Season.{Left, left, listed, nothing, seasonRefusal, addSeason}
+use Rattle.season.specs.declared.Season.{Season}
+use Rattle.demands.specs.Months.{Ask, water, asked, State, after, afterAll, Accepted}
+use Rattle.demands.specs.Demands.{Honest, begun}
+
+-- the months of two lists
+abbrev pub monthsOf : List ℤ → List ℤ → List Ask
+monthsOf [] pes = []
+monthsOf (p ∷ ps) [] = []
+monthsOf (p ∷ ps) (pe ∷ pes) = water (listed p) (listed pe) ∷ monthsOf ps pes
+
+-- what months added one by one settle, all together
+abbrev pub settledBy : State → List Ask → ℕ
+settledBy s [] = 0
+settledBy s (a ∷ later) = asked (s .run) a (s .columns) .answer .settled + settledBy (after s a) later
+
+-- the figures of the last of them, or f where there is none
+abbrev pub lastOf : Figures → State → List Ask → Figures
+lastOf f s [] = f
+lastOf f s (a ∷ later) = lastOf (asked (s .run) a (s .columns) .answer .figures) (after s a) later
+
+-- where a season stands when its call returns
+abbrev pub leftOf : Left → State
+leftOf t = record { run = t .answer .run; columns = t .columns }
+
+-- what the months before the refused one leave, added one by one
+pub record Singly (s : State) (months : List Ask) (t : Left) : Type 0 where
+  -- so many were added, and no single add refuses one of them
+  pub added : t .answer .added ≤ length months
+  pub accepted : Accepted s (take (t .answer .added) months)
+  -- "The run and columns equal adding them singly"
+  pub state : leftOf t ≡ afterAll s (take (t .answer .added) months)
+  -- "the figures are the last added month's (0 if none), settled counts summed, also on a refusal"
+  pub figures : t .answer .figures ≡ lastOf noFigures s (take (t .answer .added) months)
+  pub settled : t .answer .settled ≡ settledBy s (take (t .answer .added) months)
+  -- all were added, or the next one is "the first month that a single add refuses", and its refusal is the answer
+  pub done : t .answer .added ≡ length months → t .answer .number ≡ 0
+  pub stopped :
+      (a : Ask) (earlier later : List Ask) → months ≡ earlier ++ (a ∷ later) → length earlier ≡ t .answer .added
+      → (t .answer .number ≡ asked (leftOf t .run) a (leftOf t .columns) .answer .number) × (t .answer .number ≡ 0 → ⊥)
+
+-- every place of the five columns from n on is as it was
+pub record SameFrom (n : ℕ) (cs ds : Columns) : Type 0 where
+  pub x1 : (i : ℕ) → n ≤ i → getD (ds .x1) i (pos 0) ≡ getD (cs .x1) i (pos 0)
+  pub x2 : (i : ℕ) → n ≤ i → getD (ds .x2) i (pos 0) ≡ getD (cs .x2) i (pos 0)
+  pub x3 : (i : ℕ) → n ≤ i → getD (ds .x3) i (pos 0) ≡ getD (cs .x3) i (pos 0)
+  pub index : (i : ℕ) → n ≤ i → getD (ds .index) i (pos 0) ≡ getD (cs .index) i (pos 0)
+  pub mark : (i : ℕ) → n ≤ i → getD (ds .mark) i 0 ≡ getD (cs .mark) i 0
+
+pub record Seasons : Type 0 where
+  -- 1 and 7, before the first month: nothing is added
+  pub refused : (r : Run) (ps pes : List ℤ) (cs : Columns) → (seasonRefusal r ps pes cs ≡ 0 → ⊥) → addSeason r ps pes cs ≡ left (nothing (seasonRefusal r ps pes cs) r) cs
+  -- otherwise it is what the single adds make of it
+  pub singly : (r : Run) (ps pes : List ℤ) (cs : Columns) → seasonRefusal r ps pes cs ≡ 0 → Singly (record { run = r; columns = cs }) (monthsOf ps pes) (addSeason r ps pes cs)
+  -- "Empty lists add nothing."
+  pub empty : (r : Run) (cs : Columns) → addSeason r [] [] cs ≡ left (nothing (seasonRefusal r [] [] cs) r) cs
+  -- demand 1's "writes nothing": no place of the refused month or of those after it is written, nor any beyond the last month added
+  pub beyond : (r : Run) (ps pes : List ℤ) (cs : Columns) → SameFrom (r .months + addSeason r ps pes cs .answer .added) cs (addSeason r ps pes cs .columns)
+  -- demand 3 and the rest of 1 and 2 as they stand: after any accepted months a season leaves what more accepted months leave
+  pub more :
+      (s : State) (asks : List Ask) (ps pes : List ℤ) → Accepted s asks
+      → let t = addSeason (afterAll s asks .run) ps pes (afterAll s asks .columns) in
+      Accepted s (asks ++ take (t .answer .added) (monthsOf ps pes)) × (leftOf t ≡ afterAll s (asks ++ take (t .answer .added) (monthsOf ps pes)))
+  -- on columns that nobody else writes no season of two lists of one length is refused 1 or 7
+  pub honest :
+      (constants : List ℤ) (c ss su m : ℤ) (cs : Columns) → startRefusal constants c ss su m ≡ 0 → columnsFit cs ≡ true → (asks : List Ask) (ps pes : List ℤ)
+      → length ps ≡ length pes
+      → Honest (addSeason (afterAll (begun constants c ss su m cs) asks .run) ps pes (afterAll (begun constants c ss su m cs) asks .columns) .answer .number)
