@@ -72,9 +72,9 @@ two : (t : Bool) (k : ℕ) → Honest k → Honest (cond t 0 k)
 two true k h = not-both 0 refl
 two false k h = h
 
-room-honest : (n : ℕ) (r : Run) → Honest (roomRefusal n r)
+room-honest : (n months : ℕ) → Honest (roomRefusal n months)
 unfolding roomRefusal
-room-honest n r = two (ltb (r .months) n) full ((λ h. omega arith), (λ h. omega arith))
+room-honest n months = two (ltb months n) full ((λ h. omega arith), (λ h. omega arith))
 
 -- the number of a call on a good run is neither 1 nor 7
 pub never-refused : (r : Run) (a : Ask) (cs : Columns) → Good r cs → Honest (asked r a cs .answer .number)
@@ -82,14 +82,14 @@ unfolding waterRefusal zRefusal month inches
 never-refused r a cs g = subst Honest (sym (refused-add r a cs .0)) (go a)
   where
     waters : (p pe : ℕ) → Honest p → Honest pe → Honest (waterRefusal (columnsFit cs) (long cs) r p pe)
-    waters p pe h k = or-honest (runRefusal (columnsFit cs) (long cs) r) (orElse p (orElse pe (roomRefusal (long cs) r))) (not-both _ (good-passes r cs g)) (or-honest p (orElse pe (roomRefusal (long cs) r)) h (or-honest pe (roomRefusal (long cs) r) k (room-honest (long cs) r)))
+    waters p pe h k = or-honest (runRefusal (columnsFit cs) (long cs) r) (orElse p (orElse pe (roomRefusal (long cs) (r .months)))) (not-both _ (good-passes r cs g)) (or-honest p (orElse pe (roomRefusal (long cs) (r .months))) h (or-honest pe (roomRefusal (long cs) (r .months)) k (room-honest (long cs) (r .months))))
 
     go : (a : Ask) → Honest (numberOf r a cs)
     go (water p pe) = waters (reading p .number) (reading pe .number) (reading-honest p) (reading-honest pe)
     go (both-inches q) = waters (month q .p .number) (month q .pe .number) (converted-honest 100 1000 1 (q .p)) (converted-honest 100 1000 1 (q .pe))
     go (anomaly z) =
-        or-honest (runRefusal (columnsFit cs) (long cs) r) (orElse (cond (zFits z) 0 badZ) (roomRefusal (long cs) r)) (not-both _ (good-passes r cs g))
-        (or-honest (cond (zFits z) 0 badZ) (roomRefusal (long cs) r) (two (zFits z) badZ ((λ h. omega arith), (λ h. omega arith))) (room-honest (long cs) r))
+        or-honest (runRefusal (columnsFit cs) (long cs) r) (orElse (cond (zFits z) 0 badZ) (roomRefusal (long cs) (r .months))) (not-both _ (good-passes r cs g))
+        (or-honest (cond (zFits z) 0 badZ) (roomRefusal (long cs) (r .months)) (two (zFits z) badZ ((λ h. omega arith), (λ h. omega arith))) (room-honest (long cs) (r .months)))
 
 -- from a start on: no sequence of calls on honest columns is ever refused 1 or 7
 pub never-refused-7 : (constants : List ℤ) (c ss su m : ℤ) (cs : Columns) → startRefusal constants c ss su m ≡ 0 → columnsFit cs ≡ true → (asks : List Ask) (a : Ask)

@@ -40,23 +40,23 @@ module _ (fit : Bool) (n : ℕ) (r : Run) where
       go true b h = (refl, cond-zero b 6 h)
       go false b h = absurd (omega arith)
 
-  pub room-passes : roomRefusal n r ≡ 0 → r .months < n
+  pub room-passes : roomRefusal n (r .months) ≡ 0 → r .months < n
   unfolding roomRefusal
   room-passes h = ltb-true (r .months) n (cond-zero (ltb (r .months) n) 9 h)
 
   pub water-passes : (p pe : ℕ) → waterRefusal fit n r p pe ≡ 0 → ((fit ≡ true) × (isRun n r ≡ true)) × (r .months < n)
   unfolding waterRefusal
   water-passes p pe h =
-      let a = or-zero (runRefusal fit n r) (orElse p (orElse pe (roomRefusal n r))) h in
-      let b = or-zero p (orElse pe (roomRefusal n r)) (a .1) in
-      let c = or-zero pe (roomRefusal n r) (b .1) in
+      let a = or-zero (runRefusal fit n r) (orElse p (orElse pe (roomRefusal n (r .months)))) h in
+      let b = or-zero p (orElse pe (roomRefusal n (r .months))) (a .1) in
+      let c = or-zero pe (roomRefusal n (r .months)) (b .1) in
       (run-passes (a .0), room-passes (c .1))
 
   pub z-passes : (z : ℤ) → zRefusal fit n r z ≡ 0 → ((fit ≡ true) × (isRun n r ≡ true)) × (r .months < n) × (natAbs z ≤ mostZ)
   unfolding zRefusal zFits
   z-passes z h =
-      let a = or-zero (runRefusal fit n r) (orElse (cond (zFits z) 0 badZ) (roomRefusal n r)) h in
-      let b = or-zero (cond (zFits z) 0 badZ) (roomRefusal n r) (a .1) in
+      let a = or-zero (runRefusal fit n r) (orElse (cond (zFits z) 0 badZ) (roomRefusal n (r .months))) h in
+      let b = or-zero (cond (zFits z) 0 badZ) (roomRefusal n (r .months)) (a .1) in
       (run-passes (a .0), room-passes (b .1), leb-true (natAbs z) mostZ (cond-zero (zFits z) 11 (b .0)))
 
   pub row-passes : (i : ℕ) → rowRefusal fit n r i ≡ 0 → ((fit ≡ true) × (isRun n r ≡ true)) × (i < r .months)

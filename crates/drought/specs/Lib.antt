@@ -5,3 +5,4 @@ pub mod Figures
 pub mod Ready
 pub mod Asked
 pub mod Spelled
+pub mod Standing

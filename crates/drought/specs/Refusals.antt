@@ -38,16 +38,16 @@ unfoldable pub runRefusal : Bool → ℕ → Run → ℕ
 runRefusal fit n r = cond fit (cond (isRun n r) 0 notARun) badLists
 
 -- .. and what every add asks last: 10
-unfoldable pub roomRefusal : ℕ → Run → ℕ
-roomRefusal n r = cond (ltb (r .months) n) 0 full
+unfoldable pub roomRefusal : ℕ → ℕ → ℕ
+roomRefusal n months = cond (ltb months n) 0 full
 
 -- "At an add of water: 1, 7, precipitation 8 or 9, PE 8 or 9, 10."
 unfoldable pub waterRefusal : Bool → ℕ → Run → ℕ → ℕ → ℕ
-waterRefusal fit n r p pe = orElse (runRefusal fit n r) (orElse p (orElse pe (roomRefusal n r)))
+waterRefusal fit n r p pe = orElse (runRefusal fit n r) (orElse p (orElse pe (roomRefusal n (r .months))))
 
 -- "At an add of Z: 1, 7, 12, 10."
 unfoldable pub zRefusal : Bool → ℕ → Run → ℤ → ℕ
-zRefusal fit n r z = orElse (runRefusal fit n r) (orElse (cond (zFits z) 0 badZ) (roomRefusal n r))
+zRefusal fit n r z = orElse (runRefusal fit n r) (orElse (cond (zFits z) 0 badZ) (roomRefusal n (r .months)))
 
 -- "Row: 1, 7, 11."
 unfoldable pub rowRefusal : Bool → ℕ → Run → ℕ → ℕ

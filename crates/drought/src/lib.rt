@@ -26,7 +26,8 @@ ghost use Rattle.drought.specs.Refusals.{runRefusal, roomRefusal, waterR
 ghost use Rattle.drought.specs.Figures.{waterFigures, noWater, figuresOf};
 ghost use Rattle.drought.specs.Ready.{Ready, Watered};
 ghost use Rattle.drought.specs.Spelled.{Spells};
-ghost use Rattle.drought.specs.Asked.{result, refusal, taken, takenWater, addOutcomes, addWater, addInches, addZ, rowOfRun};
+ghost use Rattle.drought.specs.Standing.{standingOf, runOf, addedOf, Takes};
+ghost use Rattle.drought.specs.Asked.{result, refusal, takenWater, addOutcomes, addWater, addInches, addZ, rowOfRun};
 
 // Refusals.
 const BAD_LISTS: u8 = 1;
@@ -75,6 +76,22 @@ pub struct Added {
     pub settled: u32,
     pub figures: Figures,
     pub run: Run,
+}
+
+// A run without its constants: what a month changes of it. For `season` too.
+pub struct Standing {
+    pub months: u32,
+    pub opens: u32,
+    pub calendar: u32,
+    pub soil: Soil,
+    pub values: Running,
+}
+
+// What an added month leaves beside the columns, without the run's constants. For `season` too.
+pub struct Moved {
+    pub settled: u32,
+    pub figures: Figures,
+    pub standing: Standing,
 }
 
 // What the five columns hold of a month.
@@ -160,7 +177,9 @@ pub fn add_z(
     }
     let soil = run.soil;
     let water = no_water();
-    add_month(run, soil, water, z, x1, x2, x3, index, mark)
+    let at = standing_of(run);
+    let t = add_month(at, soil, water, z, x1, x2, x3, index, mark);
+    added_of(t, run)
 }
 
 // Shows a month's row, from 0 on: 1, 7, 11.
@@ -240,10 +259,10 @@ pub fn run_refusal(fit: bool, n: usize, r: Run) -> u8
 }
 
 // 10, which every add asks last. For `season` too.
-pub fn room_refusal(n: usize, r: Run) -> u8
-    ensures { λ k. ⌜ k ≡ roomRefusal n r ⌝ }
+pub fn room_refusal(n: usize, months: u32) -> u8
+    ensures { λ k. ⌜ k ≡ roomRefusal n months ⌝ }
 {
-    if (r.months as usize) < n { 0 } else { FULL }
+    if (months as usize) < n { 0 } else { FULL }
 }
 
 fn water_refusal(fit: bool, n: usize, r: Run, p: u8, pe: u8) -> u8
@@ -259,7 +278,7 @@ fn water_refusal(fit: bool, n: usize, r: Run, p: u8, pe: u8) -> u8
     if pe != 0 {
         return pe;
     }
-    room_refusal(n, r)
+    room_refusal(n, r.months)
 }
 
 fn z_refusal(fit: bool, n: usize, r: Run, z: i32) -> u8
@@ -272,7 +291,7 @@ fn z_refusal(fit: bool, n: usize, r: Run, z: i32) -> u8
     if !runs::z_fits(z) {
         return BAD_Z;
     }
-    room_refusal(n, r)
+    room_refusal(n, r.months)
 }
 
 fn row_refusal(fit: bool, n: usize, r: Run, i: usize) -> u8
@@ -406,9 +425,56 @@ fn add_spells(
     }
 }
 
-// A month of spells, and the run with it added.
+// A run without its constants. For `season` too.
+pub fn standing_of(run: Run) -> Standing
+    ensures { λ s. ⌜ s ≡ standingOf run ⌝ }
+{
+    let soil = run.soil;
+    let values = run.values;
+    Standing {
+        months: run.months,
+        opens: run.opens,
+        calendar: run.calendar,
+        soil,
+        values,
+    }
+}
+
+// The run that stands so, with the constants of the run given. For `season` too.
+pub fn run_of(s: Standing, run: Run) -> Run
+    ensures { λ r. ⌜ r ≡ runOf s (run .constants) ⌝ }
+{
+    let soil = s.soil;
+    let values = s.values;
+    let constants = run.constants;
+    Run {
+        months: s.months,
+        opens: s.opens,
+        calendar: s.calendar,
+        soil,
+        values,
+        constants,
+    }
+}
+
+// A month added to the run given.
+fn added_of(t: Moved, run: Run) -> Added
+    ensures { λ a. ⌜ a ≡ addedOf t (run .constants) ⌝ }
+{
+    let figures = t.figures;
+    let standing = t.standing;
+    let next = run_of(standing, run);
+    Added {
+        number: 0,
+        settled: t.settled,
+        figures,
+        run: next,
+    }
+}
+
+// A month of spells, and the run with it added, whatever its constants.
 fn add_month(
-    run: Run,
+    at: Standing,
     soil: Soil,
     water: WaterFigures,
     z: i32,
@@ -417,15 +483,15 @@ fn add_month(
     x3: &mut [i32],
     index: &mut [i32],
     mark: &mut [u8],
-) -> Added
-    requires { ⌜ Ready (run .months) (run .opens) (run .values) (columns (now x1) (now x2) (now x3) (now index) (now mark)) ⌝ }
+) -> Moved
+    requires { ⌜ Ready (at .months) (at .opens) (at .values) (columns (now x1) (now x2) (now x3) (now index) (now mark)) ⌝ }
     requires { ⌜ natAbs z ≤ mostZ ⌝ }
-    ensures { λ a. ⌜ result a (columns (now (x1 .exit)) (now (x2 .exit)) (now (x3 .exit)) (now (index .exit)) (now (mark .exit))) ≡ taken run soil water z (columns (now (x1 .entry)) (now (x2 .entry)) (now (x3 .entry)) (now (index .entry)) (now (mark .entry))) ⌝ }
+    ensures { λ t. ⌜ Takes at soil water z (columns (now (x1 .entry)) (now (x2 .entry)) (now (x3 .entry)) (now (index .entry)) (now (mark .entry))) t (columns (now (x1 .exit)) (now (x2 .exit)) (now (x3 .exit)) (now (index .exit)) (now (mark .exit))) ⌝ }
 {
-    let values = run.values;
+    let values = at.values;
     let s = add_spells(
-        run.months,
-        run.opens,
+        at.months,
+        at.opens,
         values,
         water,
         z,
@@ -437,27 +503,25 @@ fn add_month(
     );
     let figures = s.figures;
     let moved = s.values;
-    let constants = run.constants;
-    let next = Run {
-        months: run.months + 1,
+    let standing = Standing {
+        months: at.months + 1,
         opens: s.opens,
-        calendar: runs::next_calendar(run.calendar),
+        calendar: runs::next_calendar(at.calendar),
         soil,
         values: moved,
-        constants,
     };
-    Added {
-        number: 0,
+    Moved {
         settled: s.settled,
         figures,
-        run: next,
+        standing,
     }
 }
 
 // The balance of the run's month with precipitation p and PE pe, and the month added. For `season` too,
 // which has asked for every refusal before.
 pub fn add_measured(
-    run: Run,
+    at: Standing,
+    constants: &[i32; 60],
     p: u32,
     pe: u32,
     x1: &mut [i32],
@@ -465,15 +529,14 @@ pub fn add_measured(
     x3: &mut [i32],
     index: &mut [i32],
     mark: &mut [u8],
-) -> Added
-    requires { ⌜ Ready (run .months) (run .opens) (run .values) (columns (now x1) (now x2) (now x3) (now index) (now mark)) ⌝ }
-    requires { ⌜ Watered run ⌝ }
+) -> Moved
+    requires { ⌜ Ready (at .months) (at .opens) (at .values) (columns (now x1) (now x2) (now x3) (now index) (now mark)) ⌝ }
+    requires { ⌜ Watered (runOf at (now constants)) ⌝ }
     requires { ⌜ (p ≤ mostReading) × (pe ≤ mostReading) ⌝ }
-    ensures { λ a. ⌜ result a (columns (now (x1 .exit)) (now (x2 .exit)) (now (x3 .exit)) (now (index .exit)) (now (mark .exit))) ≡ takenWater run p pe (columns (now (x1 .entry)) (now (x2 .entry)) (now (x3 .entry)) (now (index .entry)) (now (mark .entry))) ⌝ }
+    ensures { λ t. ⌜ result (addedOf t (now (constants .entry))) (columns (now (x1 .exit)) (now (x2 .exit)) (now (x3 .exit)) (now (index .exit)) (now (mark .exit))) ≡ takenWater (runOf at (now (constants .entry))) p pe (columns (now (x1 .entry)) (now (x2 .entry)) (now (x3 .entry)) (now (index .entry)) (now (mark .entry))) ⌝ }
 {
-    let soil = run.soil;
-    let constants = run.constants;
-    let k = runs::constants_at(&constants, run.calendar);
+    let soil = at.soil;
+    let k = runs::constants_at(constants, at.calendar);
     let m = water::month_of(soil, p, pe, k);
     let water = water_figures(p, pe, m);
     let left = Soil {
@@ -481,7 +544,7 @@ pub fn add_measured(
         surface: m.surface,
         underlying: m.underlying,
     };
-    add_month(run, left, water, m.z, x1, x2, x3, index, mark)
+    add_month(at, left, water, m.z, x1, x2, x3, index, mark)
 }
 
 fn water_figures(p: u32, pe: u32, m: Month) -> WaterFigures
@@ -524,5 +587,17 @@ fn add_answers(
     }
     let measured = door::water(p);
     let potential = door::water(pe);
-    add_measured(run, measured, potential, x1, x2, x3, index, mark)
+    let at = standing_of(run);
+    let t = add_measured(
+        at,
+        &run.constants,
+        measured,
+        potential,
+        x1,
+        x2,
+        x3,
+        index,
+        mark,
+    );
+    added_of(t, run)
 }

@@ -65,7 +65,7 @@ not-water NotAcceptable t e = omega arith
 module _ (r : Run) (p pe : Reading) (cs : Columns) (g : Good r cs) where
   -- what is then asked: "precipitation 8 or 9, PE 8 or 9, 10"
   abbrev pub number : ℕ
-  number = orElse (reading p .number) (orElse (reading pe .number) (roomRefusal (long cs) r))
+  number = orElse (reading p .number) (orElse (reading pe .number) (roomRefusal (long cs) (r .months)))
 
   abbrev all : ℕ
   all = waterRefusal (columnsFit cs) (long cs) r (reading p .number) (reading pe .number)
@@ -103,6 +103,13 @@ module _ (r : Run) (p pe : Reading) (cs : Columns) (h : addWater r p pe cs .answ
   counts-next =
       let t = took-water r cs (reading p) (reading pe) (reading-most p) (reading-most pe) h in
       rw (t .did) (refl, counts-most (heldBy r cs) (rowFor (stepOf (r .values) (waterOf r (reading p .water) (reading pe .water) .z))))
+
+-- what hands back the run given added no month, so its number is a refusal's
+pub refused-not : (r : Run) (p pe : Reading) (cs ds : Columns) (k : ℕ) → result (refusal k r) ds ≡ addWater r p pe cs → k ≡ 0 → ⊥
+refused-not r p pe cs ds k e z =
+    let n = counts-next r p pe cs (sym (ap (λ (b : Result). b .answer .number) e) ∙ z) .0 in
+    let m = ap (λ (b : Result). b .answer .run .months) e in
+    omega (arith, n, m)
 
 -- a refused month leaves the columns as they were
 pub refused-leaves : (r : Run) (p pe : Reading) (cs : Columns) → (addWater r p pe cs .answer .number ≡ 0 → ⊥) → addWater r p pe cs .columns ≡ cs

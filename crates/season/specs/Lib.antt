@@ -1,2 +1,3 @@
--- What the promise of `season` cites: document 02, E2.
+-- What the contracts of `season` cite: document 02, E2 (Season), and what the code holds between months (Going).
 pub mod Season
+pub mod Going

@@ -5,8 +5,9 @@
 // the months one by one with the single add's own, so what a single add promises holds of each month here.
 use door::Answer;
 use door::Reading;
-use drought::Added;
 use drought::Figures;
+use drought::Moved;
+use drought::Standing;
 use runs::Run;
 ghost use mathlib.Core.Path.{_≡_};
 ghost use mathlib.Core.Bool.{_&&_};
@@ -14,8 +15,10 @@ ghost use Prim.Native.Nat.{_+_, _≤_};
 ghost use lib.Dec.{eqb};
 ghost use Rattle.drought.specs.Columns.{columns};
 ghost use Rattle.drought.specs.Ready.{Good};
+ghost use Rattle.drought.specs.Standing.{runOf};
 ghost use Rattle.drought.specs.Asked.{result, addWater};
-ghost use Rattle.season.specs.Season.{listed, nothing, joined, stopped, left, addSeason};
+ghost use Rattle.season.specs.Season.{listed, left, addSeason};
+ghost use Rattle.season.specs.Going.{mostCount, begun, joinedBy, seasonOf, numberOf, singleOf};
 
 // What a season answers: 0 or the refusal that stopped it, how many months were added, how many these settled,
 // the figures of the last one added, and the run.
@@ -26,6 +29,20 @@ pub struct Season {
     pub settled: u32,
     pub figures: Figures,
     pub run: Run,
+}
+
+// A season so far: its months' counts, the last one's figures, and the run without its constants.
+struct Going {
+    added: u32,
+    settled: u32,
+    figures: Figures,
+    standing: Standing,
+}
+
+// What the single add of a month gives, without the run's constants.
+enum Single {
+    Added(Moved),
+    Refused(u8),
 }
 
 // A month of no reading in a list.
@@ -48,24 +65,23 @@ pub fn add_season(
     let columns_fit = drought::lengths_fit(n, x2.len(), x3.len(), index.len(), mark.len());
     let fit = lists_fit(p.len(), pe.len(), columns_fit);
     let number = drought::run_refusal(fit, n, run);
-    let mut s = nothing_added(number, run);
+    let mut s = nothing_added(run);
     if number != 0 {
-        return s;
+        return season_of(s, number, run);
     }
     let mut i: usize = 0;
     while i < p.len() {
-        let so_far = s.run;
+        let at = s.standing;
         let rain = p[i];
         let demand = pe[i];
-        let a = add_listed(so_far, rain, demand, x1, x2, x3, index, mark);
-        let refused = a.number;
-        if refused != 0 {
-            return stopped_by(s, refused);
-        }
-        s = joined_by(s, a);
+        let a = add_listed(at, &run.constants, rain, demand, x1, x2, x3, index, mark);
+        let Single::Added(m) = a else {
+            return season_of(s, number_of(a), run);
+        };
+        s = joined_by(s, m);
         i += 1;
     }
-    s
+    season_of(s, 0, run)
 }
 
 // Whether two lists of these lengths can be a season for columns that fit or not.
@@ -79,48 +95,58 @@ fn lists_fit(p: usize, pe: usize, fit: bool) -> bool
 }
 
 // Before the first month.
-fn nothing_added(number: u8, run: Run) -> Season
-    ensures { λ s. ⌜ s ≡ nothing number run ⌝ }
+fn nothing_added(run: Run) -> Going
+    ensures { λ s. ⌜ s ≡ begun run ⌝ }
 {
-    let none = drought::refuse(number, run);
+    let none = drought::refuse(0, run);
     let figures = none.figures;
-    Season {
-        number,
+    let standing = drought::standing_of(run);
+    Going {
         added: 0,
         settled: 0,
         figures,
-        run,
+        standing,
     }
 }
 
-// A month refused: the season is what the months before it made, with its number.
-fn stopped_by(s: Season, number: u8) -> Season
-    ensures { λ r. ⌜ r ≡ stopped s number ⌝ }
+// The season that stands so, ended by this number.
+fn season_of(s: Going, number: u8, run: Run) -> Season
+    ensures { λ r. ⌜ r ≡ seasonOf s number (run .constants) ⌝ }
 {
     let figures = s.figures;
-    let run = s.run;
+    let standing = s.standing;
+    let last = drought::run_of(standing, run);
     Season {
         number,
         added: s.added,
         settled: s.settled,
         figures,
-        run,
+        run: last,
     }
 }
 
-// A month added: its figures and its run, and the counts with it.
-fn joined_by(s: Season, a: Added) -> Season
-    requires { ⌜ (s .added + 1 ≤ 4294967295) × (s .settled + a .settled ≤ 4294967295) ⌝ }
-    ensures { λ r. ⌜ r ≡ joined s a ⌝ }
+// A month added: its figures and where it leaves the run, and the counts with it.
+fn joined_by(s: Going, m: Moved) -> Going
+    requires { ⌜ (s .added + 1 ≤ mostCount) × (s .settled + m .settled ≤ mostCount) ⌝ }
+    ensures { λ r. ⌜ r ≡ joinedBy s m ⌝ }
 {
-    let figures = a.figures;
-    let run = a.run;
-    Season {
-        number: 0,
+    let figures = m.figures;
+    let standing = m.standing;
+    Going {
         added: s.added + 1,
-        settled: s.settled + a.settled,
+        settled: s.settled + m.settled,
         figures,
-        run,
+        standing,
+    }
+}
+
+// The number of what a single add gives.
+fn number_of(a: Single) -> u8
+    ensures { λ r. ⌜ r ≡ numberOf a ⌝ }
+{
+    match a {
+        Single::Added(_) => 0,
+        Single::Refused(number) => number,
     }
 }
 
@@ -136,7 +162,8 @@ fn reading_of(n: i32) -> Reading
 
 // The single add of a month of the lists, to columns and a run that have been asked for 1 and 7.
 fn add_listed(
-    run: Run,
+    at: Standing,
+    constants: &[i32; 60],
     p: i32,
     pe: i32,
     x1: &mut [i32],
@@ -144,21 +171,22 @@ fn add_listed(
     x3: &mut [i32],
     index: &mut [i32],
     mark: &mut [u8],
-) -> Added
-    requires { ⌜ Good run (columns (now x1) (now x2) (now x3) (now index) (now mark)) ⌝ }
-    ensures { λ a. ⌜ result a (columns (now (x1 .exit)) (now (x2 .exit)) (now (x3 .exit)) (now (index .exit)) (now (mark .exit))) ≡ addWater run (listed p) (listed pe) (columns (now (x1 .entry)) (now (x2 .entry)) (now (x3 .entry)) (now (index .entry)) (now (mark .entry))) ⌝ }
+) -> Single
+    requires { ⌜ Good (runOf at (now constants)) (columns (now x1) (now x2) (now x3) (now index) (now mark)) ⌝ }
+    ensures { λ a. ⌜ result (singleOf a (runOf at (now (constants .entry)))) (columns (now (x1 .exit)) (now (x2 .exit)) (now (x3 .exit)) (now (index .exit)) (now (mark .exit))) ≡ addWater (runOf at (now (constants .entry))) (listed p) (listed pe) (columns (now (x1 .entry)) (now (x2 .entry)) (now (x3 .entry)) (now (index .entry)) (now (mark .entry))) ⌝ }
 {
     let first = door::read(reading_of(p));
     let Answer::Water(measured) = first else {
-        return drought::refuse(door::number(first), run);
+        return Single::Refused(door::number(first));
     };
     let second = door::read(reading_of(pe));
     let Answer::Water(potential) = second else {
-        return drought::refuse(door::number(second), run);
+        return Single::Refused(door::number(second));
     };
-    let full = drought::room_refusal(x1.len(), run);
+    let full = drought::room_refusal(x1.len(), at.months);
     if full != 0 {
-        return drought::refuse(full, run);
+        return Single::Refused(full);
     }
-    drought::add_measured(run, measured, potential, x1, x2, x3, index, mark)
+    let m = drought::add_measured(at, constants, measured, potential, x1, x2, x3, index, mark);
+    Single::Added(m)
 }

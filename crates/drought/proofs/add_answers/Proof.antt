@@ -34,22 +34,22 @@ refuse-requires c κs = search needs
 
 -- its number is the definition's
 abbrev asked : tie.Start → ℕ
-asked s = waterRefusal (columnsFit (lent s)) (long (lent s)) (s .args .run) (outcome (s .args .p) .number) (outcome (s .args .pe) .number)
+asked s = waterRefusal (columnsFit (lent s)) (long (lent s)) (s .args .t1) (outcome (s .args .p) .number) (outcome (s .args .pe) .number)
 
 number-is : (c : tie.After-water-refusal) → c .water-refusal .result ≡ asked (c .before .before .before .before .before)
 number-is c = rw (c .before .before .before .lengths-fit .ensures, c .before .before .number .ensures, c .before .number2 .ensures) at (c .water-refusal .ensures)
 
-passes : (c : tie.Else1) → ((columnsFit (lent (c .before .before .before .before .before .before)) ≡ true) × (isRun (long (lent (c .before .before .before .before .before .before))) (c .before .before .before .before .before .before .args .run) ≡ true)) × (c .before .before .before .before .before .before .args .run .months < long (lent (c .before .before .before .before .before .before)))
+passes : (c : tie.Else1) → ((columnsFit (lent (c .before .before .before .before .before .before)) ≡ true) × (isRun (long (lent (c .before .before .before .before .before .before))) (c .before .before .before .before .before .before .args .t1) ≡ true)) × (c .before .before .before .before .before .before .args .t1 .months < long (lent (c .before .before .before .before .before .before)))
 passes c =
     let s = c .before .before .before .before .before .before in
-    water-passes (columnsFit (lent s)) (long (lent s)) (s .args .run) (outcome (s .args .p) .number) (outcome (s .args .pe) .number) (sym (number-is (c .before)) ∙ c .if1 .left)
+    water-passes (columnsFit (lent s)) (long (lent s)) (s .args .t1) (outcome (s .args .p) .number) (outcome (s .args .pe) .number) (sym (number-is (c .before)) ∙ c .if1 .left)
 
 returns : tie.Need-returns
 unfolding addOutcomes
 returns c =
     let d = c .before .before in
     let s = d .before .before .before .before .before in
-    refuses (d .water-refusal .result) (asked s) (s .args .run) (lent s) (takenWater (s .args .run) (outcome (s .args .p) .water) (outcome (s .args .pe) .water) (lent s)) (number-is d) (c .refuse .result) (c .before .if1 .taken) (c .refuse .ensures)
+    refuses (d .water-refusal .result) (asked s) (s .args .t1) (lent s) (takenWater (s .args .t1) (outcome (s .args .p) .water) (outcome (s .args .pe) .water) (lent s)) (number-is d) (c .refuse .result) (c .before .if1 .taken) (c .refuse .ensures)
 
 water-requires : tie.Need-water-requires
 water-requires c κs = search needs
@@ -57,13 +57,20 @@ water-requires c κs = search needs
 water-requires-2 : tie.Need-water-requires-2
 water-requires-2 c κs = search needs
 
+standing-of-requires : tie.Need-standing-of-requires
+standing-of-requires c κs = search needs
+
 add-measured-requires : tie.Need-add-measured-requires
 add-measured-requires c κs =
-    let w = c .before .before .before .before .before in
+    let o = c .before .before .before .before .before .before .before in
+    let w = o .before in
     let e = w .before .before in
     let s = e .before .before .before .before .before .before in
     let p = passes e in
-    (ready (s .args .run) (lent s) (p .0 .0) (p .0 .1) (p .1), (watered (s .args .run) (lent s) (p .0 .0) (p .0 .1), rw (w .before .water .ensures, w .water2 .ensures) (s .pre)))
+    (rw (o .standing-of .ensures) (ready (s .args .t1) (lent s) (p .0 .0) (p .0 .1) (p .1)), (rw (o .standing-of .ensures) (watered (s .args .t1) (lent s) (p .0 .0) (p .0 .1)), rw (w .before .water .ensures, w .water2 .ensures) (s .pre)))
+
+added-of-requires : tie.Need-added-of-requires
+added-of-requires c κs = search needs
 
 same-length : tie.Need-same-length
 same-length c = search needs
@@ -83,12 +90,13 @@ same-length-5 c = search needs
 returns-2 : tie.Need-returns-2
 unfolding addOutcomes
 returns-2 c =
-    let t = c .before .before .before .before .before .before in
-    let w = t .before .before .before .before .before .before in
+    let t = c .before .before .before .before .before .before .before in
+    let o = t .before .before .before .before .before .before .before .before in
+    let w = o .before in
     let e = w .before .before in
     let s = e .before .before .before .before .before .before in
-    accepts (e .before .water-refusal .result) (asked s) (s .args .run) (lent s) (takenWater (s .args .run) (outcome (s .args .p) .water) (outcome (s .args .pe) .water) (lent s)) (number-is (e .before)) _ (e .if1 .left)
-    (rw (w .before .water .ensures, w .water2 .ensures) at (t .add-measured .ensures))
+    accepts (e .before .water-refusal .result) (asked s) (s .args .t1) (lent s) (takenWater (s .args .t1) (outcome (s .args .p) .water) (outcome (s .args .pe) .water) (lent s)) (number-is (e .before)) _ (e .if1 .left)
+    (rw (c .added-of .ensures) (rw (w .before .water .ensures, w .water2 .ensures, o .standing-of .ensures) at (t .add-measured .ensures)))
 
 pub add-answers-spec : {M : Type 1} → statement M
 add-answers-spec =
@@ -102,7 +110,9 @@ add-answers-spec =
     returns
     water-requires
     water-requires-2
+    standing-of-requires
     add-measured-requires
+    added-of-requires
     same-length
     same-length-2
     same-length-3

@@ -17,41 +17,37 @@ use Rattle.runs.specs.Ranges.{constantsAt}
 use Rattle.runs.proofs.RunLaws.{constants-at-fit}
 use Rattle.drought.specs.Columns.{Columns, columns}
 use Rattle.drought.specs.Asked.{takenWater, waterOf}
+use Rattle.drought.specs.Standing.{runOf}
 use Rattle.drought.proofs.add_measured.Statement.{statement}
 use Rattle.drought.proofs.add_measured.Tie as tie
 
-slice-aggregate-constants-at : tie.Need-slice-aggregate-constants-at
-slice-aggregate-constants-at c = search needs
-
 constants-at-requires : tie.Need-constants-at-requires
-constants-at-requires c κs =
-    let p = c .before .before .before .before .pre in
-    let e = slice-aggregate-constants-at c in
-    (omega arith, (p .1 .0 .constants, p .1 .0 .calendar))
+constants-at-requires c κs = search needs
 
 -- the month's constants fit
 fit : (c : tie.After-constants-at) → ConstantsFit (c .constants-at .result)
 fit c =
-    let s = c .before .before .before .before .before in
-    rw (c .constants-at .ensures) (constants-at-fit (s .args .run .constants) (s .args .run .calendar) (s .pre .1 .0 .constants) (s .pre .1 .0 .calendar))
+    let s = c .before .before .before .before in
+    rw (c .constants-at .ensures) (constants-at-fit (now (s .args .constants)) (s .args .at .calendar) (s .pre .1 .0 .constants) (s .pre .1 .0 .calendar))
 
 month-of-requires : tie.Need-month-of-requires
-month-of-requires c κs = let p = c .before .before .before .before .before .pre in (p .1 .0 .soil, (p .1 .1, fit c))
+month-of-requires c κs = let p = c .before .before .before .before .pre in (p .1 .0 .soil, (p .1 .1, fit c))
 
 water-figures-requires : tie.Need-water-figures-requires
 water-figures-requires c κs = search needs
 
 -- the month of water is the run's
-month-is : (c : tie.After-month-of) → let a = c .before .before .before .before .before .before .args in c .month-of .result ≡ waterOf (a .run) (a .p) (a .pe)
+month-is : (c : tie.After-month-of) → let a = c .before .before .before .before .before .args in c .month-of .result ≡ waterOf (runOf (a .at) (now (a .constants))) (a .p) (a .pe)
 month-is c = rw (c .before .constants-at .ensures) at (c .month-of .ensures)
 
 -- its Z may be added
 bounded : (c : tie.After-month-of) → natAbs (c .month-of .result .z) ≤ mostZ
 bounded c =
-    let s = c .before .before .before .before .before .before in
+    let s = c .before .before .before .before .before in
     let a = s .args in
-    let k = constants-at-fit (a .run .constants) (a .run .calendar) (s .pre .1 .0 .constants) (s .pre .1 .0 .calendar) in
-    rw (month-is c) (z-acceptable (a .run .soil) (a .p) (a .pe) (constantsAt (a .run .constants) (a .run .calendar)) (s .pre .1 .0 .soil) (s .pre .1 .1 .0) (s .pre .1 .1 .1) k)
+    let w = s .pre .1 .0 in
+    let k = constants-at-fit (now (a .constants)) (a .at .calendar) (w .constants) (w .calendar) in
+    rw (month-is c) (z-acceptable (a .at .soil) (a .p) (a .pe) (constantsAt (now (a .constants)) (a .at .calendar)) (w .soil) (s .pre .1 .1 .0) (s .pre .1 .1 .1) k)
 
 fits : (c : tie.After-month-of) → SFits w32 (c .month-of .result .z)
 fits c = let z = bounded c in search held
@@ -60,7 +56,7 @@ add-month-requires : tie.Need-add-month-requires
 add-month-requires c κs =
     let d = c .before .before .before .before .before .before .before in
     let f = fits d in
-    (d .before .before .before .before .before .before .pre .0, simp toZ-ofZ (bounded d))
+    (d .before .before .before .before .before .pre .0, simp toZ-ofZ (bounded d))
 
 same-length : tie.Need-same-length
 same-length c = search needs
@@ -82,13 +78,12 @@ unfolding takenWater
 returns c =
     let t = c .before .before .before .before .before .before in
     let d = t .before .before .before .before .before .before .before .before in
-    rw (← month-is d) (rw (toZ-ofZ (fits d), t .before .before .before .before .before .before .before .water-figures .ensures) at (t .add-month .ensures))
+    rw (← month-is d) (rw (toZ-ofZ (fits d), t .before .before .before .before .before .before .before .water-figures .ensures) at (t .add-month .ensures (now (d .before .before .before .before .before .args .constants))))
 
 pub add-measured-spec : {M : Type 1} → statement M
 add-measured-spec =
     tie.close
     (tie.spec
-    slice-aggregate-constants-at
     constants-at-requires
     month-of-requires
     water-figures-requires

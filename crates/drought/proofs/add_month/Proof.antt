@@ -5,6 +5,7 @@ use native.Mathlib.Numerals.{add-one}
 use mir.Facts.{toZ-ofZ}
 use denote.Ref.{now}
 use Rattle.drought.specs.Columns.{columns}
+use Rattle.drought.specs.Standing.{runOf}
 use Rattle.drought.proofs.Taken.{taken-is}
 use borrow.Author.Needs.{needs}
 use Rattle.drought.proofs.add_month.Statement.{statement}
@@ -13,8 +14,8 @@ use Rattle.drought.proofs.add_month.Tie as tie
 add-spells-requires : tie.Need-add-spells-requires
 add-spells-requires c κs = search needs
 
-add-t26 : tie.Need-add-t26
-add-t26 c = search needs
+add-t25 : tie.Need-add-t25
+add-t25 c = search needs
 
 next-calendar-requires : tie.Need-next-calendar-requires
 next-calendar-requires c κs = search needs
@@ -36,14 +37,14 @@ same-length-5 c = search needs
 
 returns : tie.Need-returns
 returns c =
-    let t = c .before .before .before .before .before .before .before .before .before .before .before in
+    let t = c .before .before .before .before .before .before .before .before .before .before in
     let s = t .before .before .before .before .before .before .before .before in
     let a = s .args in
     let fz = s .fits .z in
     let last = t .add-spells .last .1 .1 .1 .1 .1 in
-    taken-is (a .run) (a .soil) (a .water) (a .z) (columns (now (a .x1)) (now (a .x2)) (now (a .x3)) (now (a .index)) (now (a .mark))) (t .add-spells .result) (columns (last .0) (last .1 .0) (last .1 .1 .0) (last .1 .1 .1 .0) (last .1 .1 .1 .1 .0)) (a .run .months + 1) (c .next-calendar .result)
+    λ k. taken-is (runOf (a .at) k) (a .soil) (a .water) (a .z) (columns (now (a .x1)) (now (a .x2)) (now (a .x3)) (now (a .index)) (now (a .mark))) (t .add-spells .result) (columns (last .0) (last .1 .0) (last .1 .1 .0) (last .1 .1 .1 .0) (last .1 .1 .1 .1 .0)) (a .at .months + 1) (c .next-calendar .result)
     (rw (toZ-ofZ fz) at (t .add-spells .ensures))
-    (add-one (a .run .months))
+    (add-one (a .at .months))
     (c .next-calendar .ensures)
 
 pub add-month-spec : {M : Type 1} → statement M
@@ -51,7 +52,7 @@ add-month-spec =
     tie.close
     (tie.spec
     add-spells-requires
-    add-t26
+    add-t25
     next-calendar-requires
     same-length
     same-length-2

@@ -49,13 +49,20 @@ returns c =
 no-water-requires : tie.Need-no-water-requires
 no-water-requires c κs = search needs
 
+standing-of-requires : tie.Need-standing-of-requires
+standing-of-requires c κs = search needs
+
 add-month-requires : tie.Need-add-month-requires
 add-month-requires c κs =
-    let e = c .before .before .before .before .before .before .before in
+    let o = c .before .before .before .before .before in
+    let e = o .before .before .before in
     let s = e .before .before .before .before in
     let f = s .fits .z in
     let p = passes e in
-    (ready (s .args .run) (lent s) (p .0 .0) (p .0 .1) (p .1), simp toZ-ofZ (p .2))
+    (rw (o .standing-of .ensures) (ready (s .args .run) (lent s) (p .0 .0) (p .0 .1) (p .1)), simp toZ-ofZ (p .2))
+
+added-of-requires : tie.Need-added-of-requires
+added-of-requires c κs = search needs
 
 same-length : tie.Need-same-length
 same-length c = search needs
@@ -75,13 +82,14 @@ same-length-5 c = search needs
 returns-2 : tie.Need-returns-2
 unfolding addZ
 returns-2 c =
-    let t = c .before .before .before .before .before .before in
-    let w = t .before .before .before .before .before .before in
+    let t = c .before .before .before .before .before .before .before in
+    let o = t .before .before .before .before .before .before in
+    let w = o .before in
     let e = w .before .before in
     let s = e .before .before .before .before in
     let f = s .fits .z in
     accepts (e .before .z-refusal .result) _ (s .args .run) (lent s) (takenZ (s .args .run) (s .args .z) (lent s)) (number-is (e .before)) _ (e .if1 .left)
-    (rw (w .no-water .ensures, toZ-ofZ f) at (t .add-month .ensures))
+    (rw (c .added-of .ensures) (rw (w .no-water .ensures, o .standing-of .ensures, toZ-ofZ f) at (t .add-month .ensures (s .args .run .constants))))
 
 pub add-z-spec : {M : Type 1} → statement M
 add-z-spec =
@@ -92,7 +100,9 @@ add-z-spec =
     refuse-requires
     returns
     no-water-requires
+    standing-of-requires
     add-month-requires
+    added-of-requires
     same-length
     same-length-2
     same-length-3

@@ -1,6 +1,6 @@
 -- `season::add_listed` meets its contract: each reading is refused or its water taken, and then it refuses for want of room or adds. Assumes
 -- nothing.
-use mathlib.Core.Path.{_≡_, sym, ap, _∙_}
+use mathlib.Core.Path.{_≡_, refl, sym, ap, _∙_}
 use mathlib.Core.Bool.{true}
 use Prim.Native.Nat.{ℕ, _<_}
 use borrow.Author.Needs.{needs}
@@ -9,7 +9,9 @@ use denote.Ref.{now}
 use Rattle.door.specs.Outcome.{Outcome, outcome, accepted}
 use Rattle.door.specs.Readings.{reading}
 use Rattle.door.proofs.Bounds.{reading-most}
+use Rattle.runs.specs.declared.Run.{Run}
 use Rattle.drought.specs.Columns.{Columns, columns, long}
+use Rattle.drought.specs.Standing.{runOf}
 use Rattle.drought.specs.Refusals.{orElse, roomRefusal}
 use Rattle.drought.proofs.Refused.{or-first, or-second, room-passes}
 use Rattle.drought.proofs.Readiness.{ready, watered}
@@ -20,6 +22,9 @@ use Rattle.season.proofs.add_listed.Tie as tie
 
 abbrev lent : tie.Start → Columns
 lent s = let a = s .args in columns (now (a .x1)) (now (a .x2)) (now (a .x3)) (now (a .index)) (now (a .mark))
+
+abbrev given : tie.Start → Run
+given s = runOf (s .args .at) (now (s .args .constants))
 
 -- what precipitation answers: a refusal, or water
 first-is : (d : tie.After-read) → outcome (d .read .result) ≡ reading (listed (d .before .before .before .args .p))
@@ -54,7 +59,7 @@ second-water k = sym (second-is (k .before .before)) ∙ ap outcome (k .second .
 -- with two amounts of water room is asked for
 room-is : (c : tie.After-room-refusal)
     → let s = c .before .before .before .before .before .before .before .before .before .before .before .before in
-    orElse (reading (listed (s .args .p)) .number) (orElse (reading (listed (s .args .pe)) .number) (roomRefusal (long (lent s)) (s .args .run))) ≡ c .room-refusal .result
+    orElse (reading (listed (s .args .p)) .number) (orElse (reading (listed (s .args .pe)) .number) (roomRefusal (long (lent s)) (given s .months))) ≡ c .room-refusal .result
 room-is c = rw (first-water (c .before .before .before .before .before .before .before), second-water (c .before .before)) (sym (c .room-refusal .ensures))
 
 reading-of-requires : tie.Need-reading-of-requires
@@ -69,15 +74,11 @@ enum-known-first c = search needs
 number-requires : tie.Need-number-requires
 number-requires c κs = search needs
 
-refuse-requires : tie.Need-refuse-requires
-refuse-requires c κs = search needs
-
 returns : tie.Need-returns
-returns c =
-    let n = c .before in
+returns n =
     let s = n .before .before .before .before .before in
     let e = first-refused n in
-    refused-as (s .args .run) (listed (s .args .p)) (listed (s .args .pe)) (lent s) (s .pre) (n .number .result) (e ∙ sym (or-first _ _ (λ z. first-no n (e ∙ z)))) (first-no n) (c .refuse .result) (c .refuse .ensures)
+    refused-as (given s) (listed (s .args .p)) (listed (s .args .pe)) (lent s) (s .pre) (n .number .result) (e ∙ sym (or-first _ _ (λ z. first-no n (e ∙ z)))) (first-no n) _ refl
 
 reading-of-requires-2 : tie.Need-reading-of-requires-2
 reading-of-requires-2 c κs = search needs
@@ -91,29 +92,22 @@ enum-known-second c = search needs
 number-requires-2 : tie.Need-number-requires-2
 number-requires-2 c κs = search needs
 
-refuse-requires-2 : tie.Need-refuse-requires-2
-refuse-requires-2 c κs = search needs
-
 returns-2 : tie.Need-returns-2
-returns-2 c =
-    let n = c .before in
+returns-2 n =
     let k = n .before .before .before .before in
     let s = k .before .before .before .before .before .before in
     let e = second-refused n in
     let z = ap (λ (o : Outcome). o .number) (first-water (k .before)) in
-    refused-as (s .args .run) (listed (s .args .p)) (listed (s .args .pe)) (lent s) (s .pre) (n .number2 .result) (e ∙ sym (or-first _ _ (λ z. second-no n (e ∙ z))) ∙ sym (or-second _ _ z)) (second-no n) (c .refuse2 .result) (c .refuse2 .ensures)
+    refused-as (given s) (listed (s .args .p)) (listed (s .args .pe)) (lent s) (s .pre) (n .number2 .result) (e ∙ sym (or-first _ _ (λ z. second-no n (e ∙ z))) ∙ sym (or-second _ _ z)) (second-no n) _ refl
 
 room-refusal-requires : tie.Need-room-refusal-requires
 room-refusal-requires c κs = search needs
 
-refuse-requires-3 : tie.Need-refuse-requires-3
-refuse-requires-3 c κs = search needs
-
 returns-3 : tie.Need-returns-3
 returns-3 c =
-    let d = c .before .before in
+    let d = c .before in
     let s = d .before .before .before .before .before .before .before .before .before .before .before .before in
-    refused-as (s .args .run) (listed (s .args .p)) (listed (s .args .pe)) (lent s) (s .pre) (d .room-refusal .result) (sym (room-is d)) (c .before .if1 .taken) (c .refuse3 .result) (c .refuse3 .ensures)
+    refused-as (given s) (listed (s .args .p)) (listed (s .args .pe)) (lent s) (s .pre) (d .room-refusal .result) (sym (room-is d)) (c .if1 .taken) _ refl
 
 add-measured-requires : tie.Need-add-measured-requires
 add-measured-requires c κs =
@@ -121,10 +115,10 @@ add-measured-requires c κs =
     let k = e .before .before in
     let s = k .before .before .before .before .before .before .before .before .before .before .before in
     let g = s .pre in
-    let m : s .args .run .months < long (lent s) = room-passes true (long (lent s)) (s .args .run) (sym (e .before .room-refusal .ensures) ∙ e .if1 .left) in
+    let m : given s .months < long (lent s) = room-passes true (long (lent s)) (given s) (sym (e .before .room-refusal .ensures) ∙ e .if1 .left) in
     let p = ap (λ (o : Outcome). o .water) (first-water (k .before .before .before .before .before .before)) in
     let q = ap (λ (o : Outcome). o .water) (second-water (k .before)) in
-    (ready (s .args .run) (lent s) (g .fit) (g .run) m, (watered (s .args .run) (lent s) (g .fit) (g .run), (rw p at (reading-most (listed (s .args .p))), rw q at (reading-most (listed (s .args .pe))))))
+    (ready (given s) (lent s) (g .fit) (g .run) m, (watered (given s) (lent s) (g .fit) (g .run), (rw p at (reading-most (listed (s .args .p))), rw q at (reading-most (listed (s .args .pe))))))
 
 same-length : tie.Need-same-length
 same-length c = search needs
@@ -149,7 +143,7 @@ returns-4 c =
     let s = k .before .before .before .before .before .before .before .before .before .before .before in
     let p = ap (λ (o : Outcome). o .water) (first-water (k .before .before .before .before .before .before)) in
     let q = ap (λ (o : Outcome). o .water) (second-water (k .before)) in
-    accepted-as (s .args .run) (listed (s .args .p)) (listed (s .args .pe)) (lent s) (s .pre) (room-is (e .before) ∙ e .if1 .left) _ (rw (p, q) (t .add-measured .ensures))
+    accepted-as (given s) (listed (s .args .p)) (listed (s .args .pe)) (lent s) (s .pre) (room-is (e .before) ∙ e .if1 .left) _ (rw (p, q) (t .add-measured .ensures))
 
 pub add-listed-spec : {M : Type 1} → statement M
 add-listed-spec =
@@ -159,16 +153,13 @@ add-listed-spec =
     read-requires
     enum-known-first
     number-requires
-    refuse-requires
     returns
     reading-of-requires-2
     read-requires-2
     enum-known-second
     number-requires-2
-    refuse-requires-2
     returns-2
     room-refusal-requires
-    refuse-requires-3
     returns-3
     add-measured-requires
     same-length

@@ -3,11 +3,11 @@
 use mathlib.Core.Path.{_≡_, refl, sym, ap, _∙_, subst}
 use mathlib.Core.Bool.{_&&_}
 use mathlib.Core.List.{List}
-use Prim.Native.Nat.{ℕ, _+_, _-_, _≤_, _<_}
+use Prim.Native.Nat.{ℕ, suc, _+_, _-_, _≤_, _<_}
 use native.Mathlib.Omega.{arith}
 use borrow.Author.Needs.{needs}
 use borrow.Author.Tests.{eqb-true}
-use lib.IntN.{pos}
+use lib.IntN.{ℤ, pos}
 use lib.Dec.{eqb}
 use lib.ListN.{length, drop, getD}
 use mir.Syntax.{w32}
@@ -21,29 +21,33 @@ use Rattle.runs.proofs.Outcomes.{first, second}
 use Rattle.drought.proofs.Refused.{run-passes}
 use Rattle.drought.proofs.Readiness.{run-is}
 use Rattle.drought.specs.Asked.{result}
-use Rattle.season.specs.Season.{Left, left, single, onward, seasonRefusal, addSeason}
+use Rattle.drought.specs.Standing.{runOf, addedOf}
+use Rattle.season.specs.Season.{Left, left, listed, single, onward, seasonRefusal, addSeason}
+use Rattle.season.specs.Going.{seasonOf, numberOf, singleOf}
 use Rattle.season.specs.declared.Season.{Season}
-use Rattle.season.proofs.Steps.{most, SameLengths, lengths-then, on, off, ends, joins, breaks, good-joined, counts-joined}
+use Rattle.season.specs.declared.Going.{Going}
+use Rattle.season.specs.declared.Single.{Single}
+use Rattle.season.proofs.Steps.{most, SameLengths, lengths-then, on, off, ends, joins, breaks, refused-not, good-joined, counts-joined}
 use Rattle.season.proofs.add_season.Statement.{statement}
 use Rattle.season.proofs.add_season.Tie as tie
 
 abbrev Inv-loop : tie.InvT-loop
-Inv-loop p pe x1₀ x2₀ x3₀ index₀ mark₀ n columns-fit fit number s₀ i₀ x1 x2 x3 index mark s i =
+Inv-loop p pe x1₀ x2₀ x3₀ index₀ mark₀ run n columns-fit fit number s₀ i₀ x1 x2 x3 index mark s i =
     (i ≤ length p)
-    × (onward (left s (columns x1 x2 x3 index mark)) (drop i p) (drop i pe) ≡ onward (left s₀ (columns x1₀ x2₀ x3₀ index₀ mark₀)) p pe)
-    × Good (s .run) (columns x1 x2 x3 index mark)
-    × (s .settled + s .run .opens ≤ s .run .months)
-    × (s .added ≤ s .run .months)
+    × (onward (left (seasonOf s 0 (run .constants)) (columns x1 x2 x3 index mark)) (drop i p) (drop i pe) ≡ onward (left (seasonOf s₀ 0 (run .constants)) (columns x1₀ x2₀ x3₀ index₀ mark₀)) p pe)
+    × Good (runOf (s .standing) (run .constants)) (columns x1 x2 x3 index mark)
+    × (s .settled + s .standing .opens ≤ s .standing .months)
+    × (s .added ≤ s .standing .months)
     × SameLengths (columns x1 x2 x3 index mark) (columns x1₀ x2₀ x3₀ index₀ mark₀)
 
 abbrev μ-loop : tie.MeasureT-loop
-μ-loop p pe x1₀ x2₀ x3₀ index₀ mark₀ n columns-fit fit number s₀ i₀ x1 x2 x3 index mark s i = length p - i
+μ-loop p pe x1₀ x2₀ x3₀ index₀ mark₀ run n columns-fit fit number s₀ i₀ x1 x2 x3 index mark s i = length p - i
 
 -- ---- before the first month
 abbrev lent : tie.Start Inv-loop μ-loop → Columns
 lent s = let a = s .args in columns (now (a .x1)) (now (a .x2)) (now (a .x3)) (now (a .index)) (now (a .mark))
 
-number-is : (q : tie.After-run-refusal Inv-loop μ-loop) → let s = q .before .before .before .before in q .run-refusal .result ≡ seasonRefusal (s .args .run) (now (s .args .p)) (now (s .args .pe)) (lent s)
+number-is : (q : tie.After-run-refusal Inv-loop μ-loop) → let s = q .before .before .before .before in q .run-refusal .result ≡ seasonRefusal (s .args .t1) (now (s .args .p)) (now (s .args .pe)) (lent s)
 unfolding seasonRefusal
 number-is q = rw (q .before .lists-fit .ensures, q .before .before .lengths-fit .ensures) at (q .run-refusal .ensures)
 
@@ -59,21 +63,24 @@ run-refusal-requires c κs = search needs
 nothing-added-requires : tie.Need-nothing-added-requires Inv-loop μ-loop
 nothing-added-requires c κs = search needs
 
+season-of-requires : tie.Need-season-of-requires Inv-loop μ-loop
+season-of-requires c κs = search needs
+
 returns : tie.Need-returns Inv-loop μ-loop
 unfolding addSeason
 returns c =
-    let q = c .before in
+    let q = c .before .before in
     let s = q .before .before .before .before .before in
     let e = number-is (q .before) in
-    let n = c .if1 .taken in
-    rw (q .nothing-added .ensures, e) (sym (off (seasonRefusal (s .args .run) (now (s .args .p)) (now (s .args .pe)) (lent s)) _ _ (λ z. n (e ∙ z))))
+    let n = c .before .if1 .taken in
+    rw (c .season-of .ensures, q .nothing-added .ensures, e) (sym (off (seasonRefusal (s .args .t1) (now (s .args .p)) (now (s .args .pe)) (lent s)) _ _ (λ z. n (e ∙ z))))
 
-passes : (e : tie.Else1 Inv-loop μ-loop) → let s = e .before .before .before .before .before .before in (length (now (s .args .p)) ≡ length (now (s .args .pe))) × Good (s .args .run) (lent s)
+passes : (e : tie.Else1 Inv-loop μ-loop) → let s = e .before .before .before .before .before .before in (length (now (s .args .p)) ≡ length (now (s .args .pe))) × Good (s .args .t1) (lent s)
 unfolding seasonRefusal
 passes e =
     let s = e .before .before .before .before .before .before in
     let t = eqb (length (now (s .args .p))) (length (now (s .args .pe))) in
-    let a = run-passes (t && columnsFit (lent s)) (long (lent s)) (s .args .run) (sym (number-is (e .before .before)) ∙ e .if1 .left) in
+    let a = run-passes (t && columnsFit (lent s)) (long (lent s)) (s .args .t1) (sym (number-is (e .before .before)) ∙ e .if1 .left) in
     (eqb-true _ _ (first t (columnsFit (lent s)) (a .0)), record { fit = second t (columnsFit (lent s)) (a .0); run = a .1 })
 
 loop-holds : tie.Need-loop-holds Inv-loop μ-loop
@@ -81,7 +88,7 @@ loop-holds c =
     let n = c .before .nothing-added .ensures in
     let g = passes c .1 in
     let s = c .before .before .before .before .before .before in
-    let f = run-is (s .args .run) (lent s) (g .fit) (g .run) in
+    let f = run-is (s .args .t1) (lent s) (g .fit) (g .run) in
     (omega arith, refl, rw n g, rw n (omega (arith, f .opens)), rw n (omega arith), (refl, refl, refl, refl, refl))
 
 mul-rain : tie.Need-mul-rain Inv-loop μ-loop
@@ -99,23 +106,23 @@ shared-slice-copy-out-demand c =
     omega (arith, l .loop-test .taken, passes (l .before .before) .0)
 
 add-listed-requires : tie.Need-add-listed-requires Inv-loop μ-loop
-add-listed-requires c κs = c .before .before .before .before .before .before .before .before .before .loop .inv .2
+add-listed-requires c κs = c .before .before .before .before .before .before .before .before .before .before .before .loop .inv .2
 
 -- with nothing refused before the first month, all is what the months make
 whole : (e : tie.Else1 Inv-loop μ-loop) (w : Left)
     → let q = e .before in
     let s = q .before .before .before .before .before in
-    w ≡ onward (left (q .nothing-added .result) (lent s)) (now (s .args .p)) (now (s .args .pe)) → w ≡ addSeason (s .args .run) (now (s .args .p)) (now (s .args .pe)) (lent s)
+    w ≡ onward (left (seasonOf (q .nothing-added .result) 0 (s .args .t1 .constants)) (lent s)) (now (s .args .p)) (now (s .args .pe)) → w ≡ addSeason (s .args .t1) (now (s .args .p)) (now (s .args .pe)) (lent s)
 unfolding addSeason
 whole e w h =
     let q = e .before in
     let z = e .if1 .left in
     let k = number-is (q .before) in
-    h ∙ rw (q .nothing-added .ensures, z) (sym (on _ _ _ (sym k ∙ z)))
+    h ∙ rw (q .nothing-added .ensures) (sym (on _ _ _ (sym k ∙ z)))
 
 -- ---- a pass
 abbrev inside : tie.After-add-listed Inv-loop μ-loop → tie.In-loop Inv-loop μ-loop
-inside t = t .before .before .before .before .before .before .before .before .before
+inside t = t .before .before .before .before .before .before .before .before .before .before .before
 
 abbrev start : tie.At-loop Inv-loop μ-loop → tie.Start Inv-loop μ-loop
 start a = a .before .before .before .before .before .before .before
@@ -125,116 +132,156 @@ so-far a = let l = a .loop in columns (l .x1) (l .x2) (l .x3) (l .index) (l .mar
 
 -- what the single add has left
 abbrev then : tie.After-add-listed Inv-loop μ-loop → Columns
-then t = let l = t .add-listed .last .1 .1 .1 in columns (l .0) (l .1 .0) (l .1 .1 .0) (l .1 .1 .1 .0) (l .1 .1 .1 .1 .0)
+then t = let l = t .add-listed .last .1 .1 .1 .1 in columns (l .0) (l .1 .0) (l .1 .1 .0) (l .1 .1 .1 .0) (l .1 .1 .1 .1 .0)
+
+-- the run's constants, and the season before the pass
+abbrev constants : tie.At-loop Inv-loop μ-loop → List ℤ
+constants a = start a .args .t1 .constants
+
+abbrev before : tie.At-loop Inv-loop μ-loop → Season
+before a = seasonOf (a .loop .s) 0 (constants a)
+
+abbrev ps : tie.At-loop Inv-loop μ-loop → List ℤ
+ps a = now (start a .args .p)
+
+abbrev pes : tie.At-loop Inv-loop μ-loop → List ℤ
+pes a = now (start a .args .pe)
 
 alone : (t : tie.After-add-listed Inv-loop μ-loop)
     → let a = inside t .before in
-    result (t .add-listed .result) (then t) ≡ single (left (a .loop .s) (so-far a)) (getD (now (start a .args .p)) (a .loop .i) (pos 0)) (getD (now (start a .args .pe)) (a .loop .i) (pos 0))
+    result (singleOf (t .add-listed .result) (before a .run)) (then t) ≡ single (left (before a) (so-far a)) (getD (ps a) (a .loop .i) (pos 0)) (getD (pes a) (a .loop .i) (pos 0))
 alone t =
-    let d = t .before .before .before .before .before .before in
+    let d = t .before .before .before .before .before .before .before .before in
     let a = inside t .before in
-    let f : SFits w32 (getD (now (start a .args .p)) (a .loop .i) (pos 0)) = record { sfits = d .before .rain .given } in
-    let g : SFits w32 (getD (now (start a .args .pe)) (a .loop .i) (pos 0)) = record { sfits = d .demand .given } in
+    let f : SFits w32 (getD (ps a) (a .loop .i) (pos 0)) = record { sfits = d .before .rain .given } in
+    let g : SFits w32 (getD (pes a) (a .loop .i) (pos 0)) = record { sfits = d .demand .given } in
     rw (toZ-ofZ f, toZ-ofZ g) at (t .add-listed .ensures)
 
 long-kept : (t : tie.After-add-listed Inv-loop μ-loop) → SameLengths (then t) (lent (start (inside t .before)))
 long-kept t =
     let a = inside t .before in
-    let k = t .add-listed .kept .1 .1 .1 in
+    let k = t .add-listed .kept .1 .1 .1 .1 in
     lengths-then (then t) (so-far a) (lent (start a)) (k .0, k .1 .0, k .1 .1 .0, k .1 .1 .1 .0, k .1 .1 .1 .1 .0) (a .loop .inv .5)
 
 room : (l : tie.In-loop Inv-loop μ-loop) → l .before .loop .i + 1 < 18446744073709551616
 room l = omega arith
 
-stopped-by-requires : tie.Need-stopped-by-requires Inv-loop μ-loop
-stopped-by-requires c κs = search needs
+enum-known-a : tie.Need-enum-known-a Inv-loop μ-loop
+enum-known-a c = search needs
+
+enum-told : tie.Need-enum-told Inv-loop μ-loop
+enum-told c = search needs
+
+number-of-requires : tie.Need-number-of-requires Inv-loop μ-loop
+number-of-requires c κs = search needs
+
+season-of-requires-2 : tie.Need-season-of-requires-2 Inv-loop μ-loop
+season-of-requires-2 c κs = search needs
 
 same-length : tie.Need-same-length Inv-loop μ-loop
-same-length c = long-kept (c .before .before .before .before .before .before .before .before) .0
+same-length c = long-kept (c .before .before .before .before .before .before .before .before .before .before) .0
 
 same-length-2 : tie.Need-same-length-2 Inv-loop μ-loop
-same-length-2 c = long-kept (c .before .before .before .before .before .before .before .before) .1
+same-length-2 c = long-kept (c .before .before .before .before .before .before .before .before .before .before) .1
 
 same-length-3 : tie.Need-same-length-3 Inv-loop μ-loop
-same-length-3 c = long-kept (c .before .before .before .before .before .before .before .before) .2
+same-length-3 c = long-kept (c .before .before .before .before .before .before .before .before .before .before) .2
 
 same-length-4 : tie.Need-same-length-4 Inv-loop μ-loop
-same-length-4 c = long-kept (c .before .before .before .before .before .before .before .before) .3
+same-length-4 c = long-kept (c .before .before .before .before .before .before .before .before .before .before) .3
 
 same-length-5 : tie.Need-same-length-5 Inv-loop μ-loop
-same-length-5 c = long-kept (c .before .before .before .before .before .before .before .before) .4
+same-length-5 c = long-kept (c .before .before .before .before .before .before .before .before .before .before) .4
 
+-- a month that is refused
 returns-2 : tie.Need-returns-2 Inv-loop μ-loop
 returns-2 c =
-    let k = c .before .before in
-    let t = k .before .before .before .before .before .before in
+    let n = c .before in
+    let o = n .before in
+    let t = o .before .before .before .before .before .before .before .before in
     let l = inside t in
     let a = l .before in
-    let s = start a in
-    let e = passes (a .before) in
-    let j = breaks (now (s .args .p)) (now (s .args .pe)) (e .0) (a .loop .s) (so-far a) (a .loop .i) (l .loop-test .taken) (t .add-listed .result) (then t) (alone t) (c .stopped-by .result) (c .before .if2 .taken) (c .stopped-by .ensures) (a .loop .inv .1) in
-    whole (a .before) _ j
+    let told = o .enum-told .given .1 in
+    let k = n .number-of .ensures ∙ ap numberOf told in
+    let e = sym (ap (λ (x : Single). result (singleOf x (before a .run)) (then t)) told) ∙ alone t in
+    let i = a .loop .i in
+    let no = refused-not (before a .run) (listed (getD (ps a) i (pos 0))) (listed (getD (pes a) i (pos 0))) (so-far a) (then t) _ e in
+    whole (a .before) _ (breaks (ps a) (pes a) (passes (a .before) .0) (before a) (so-far a) i (l .loop-test .taken) _ (then t) e (c .season-of2 .result) no (c .season-of2 .ensures ∙ ap (λ (x : ℕ). seasonOf (a .loop .s) x (constants a)) k) (a .loop .inv .1))
+
+-- a month that is added
+abbrev pass : tie.After-known-told Inv-loop μ-loop → tie.After-add-listed Inv-loop μ-loop
+pass k = k .before .before .before .before .before .before .before .before .before
+
+took : (k : tie.After-known-told Inv-loop μ-loop)
+    → let t = pass k in
+    let a = inside t .before in
+    result (addedOf (k .before .a .given .0 .0) (constants a)) (then t) ≡ single (left (before a) (so-far a)) (getD (ps a) (a .loop .i) (pos 0)) (getD (pes a) (a .loop .i) (pos 0))
+took k = let t = pass k in sym (ap (λ (x : Single). result (singleOf x (before (inside t .before) .run)) (then t)) (k .before .a .given .1)) ∙ alone t
+
+counts : (k : tie.After-known-told Inv-loop μ-loop)
+    → let m = k .before .a .given .0 .0 in
+    let s = inside (pass k) .before .loop .s in
+    (m .standing .months ≡ suc (s .standing .months)) × (m .settled + m .standing .opens ≤ suc (s .standing .opens))
+counts k =
+    let t = pass k in
+    let l = inside t in
+    let a = l .before in
+    counts-joined (ps a) (pes a) (passes (a .before) .0) (before a) (so-far a) (a .loop .i) (l .loop-test .taken) (addedOf (k .before .a .given .0 .0) (constants a)) (then t) (took k) refl
 
 joined-by-requires : tie.Need-joined-by-requires Inv-loop μ-loop
 joined-by-requires c κs =
-    let t = c .before .before .before .before .before .before .before in
-    let l = inside t in
-    let a = l .before in
-    let s = start a in
-    let e = passes (a .before) in
-    let n = counts-joined (now (s .args .p)) (now (s .args .pe)) (e .0) (a .loop .s) (so-far a) (a .loop .i) (l .loop-test .taken) (t .add-listed .result) (then t) (alone t) (c .if2 .left) in
-    let m = most (a .loop .s .run) (so-far a) (a .loop .inv .2) in
+    let a = inside (pass c) .before in
+    let n = counts c in
+    let m = most (before a .run) (so-far a) (a .loop .inv .2) in
     (omega (arith, a .loop .inv .4, m), omega (arith, a .loop .inv .3, n .1, m))
 
 add-i : tie.Need-add-i Inv-loop μ-loop
-add-i c =
-    let l = inside (c .before .before .before .before .before .before .before .before) in
-    record { fits = omega (arith, room l) }
+add-i c = record { fits = omega (arith, room (inside (pass (c .before)))) }
 
 loop-less : tie.Need-loop-less Inv-loop μ-loop
-loop-less c =
-    let l = inside (c .before .before .before .before .before .before .before .before) in
-    omega (arith, l .loop-test .taken)
+loop-less c = omega (arith, inside (pass (c .before)) .loop-test .taken)
 
 loop-again : tie.Need-loop-again Inv-loop μ-loop
 loop-again c =
-    let t = c .before .before .before .before .before .before .before .before in
+    let k = c .before in
+    let t = pass k in
     let l = inside t in
     let a = l .before in
-    let s = start a in
-    let e = passes (a .before) in
-    let z = c .before .if2 .left in
+    let e = passes (a .before) .0 in
+    let m = addedOf (k .before .a .given .0 .0) (constants a) in
     let u = c .joined-by .ensures in
-    let n = counts-joined (now (s .args .p)) (now (s .args .pe)) (e .0) (a .loop .s) (so-far a) (a .loop .i) (l .loop-test .taken) (t .add-listed .result) (then t) (alone t) z in (
+    let n = counts k in (
       omega (arith, l .loop-test .taken),
-      joins (now (s .args .p)) (now (s .args .pe)) (e .0) (a .loop .s) (so-far a) (a .loop .i) (l .loop-test .taken) (t .add-listed .result) (then t) (alone t) (c .joined-by .result) z u (a .loop .inv .1),
-      rw u (good-joined (now (s .args .p)) (now (s .args .pe)) (e .0) (a .loop .s) (so-far a) (a .loop .i) (l .loop-test .taken) (t .add-listed .result) (then t) (alone t) z),
+      joins (ps a) (pes a) e (before a) (so-far a) (a .loop .i) (l .loop-test .taken) m (then t) (took k) (seasonOf (c .joined-by .result) 0 (constants a)) refl (ap (λ (g : Going). seasonOf g 0 (constants a)) u) (a .loop .inv .1),
+      rw u (good-joined (ps a) (pes a) e (before a) (so-far a) (a .loop .i) (l .loop-test .taken) m (then t) (took k) refl),
       rw u (omega (arith, a .loop .inv .3, n .0, n .1)),
       rw u (omega (arith, a .loop .inv .4, n .0)),
       long-kept t,
     )
 
+season-of-requires-3 : tie.Need-season-of-requires-3 Inv-loop μ-loop
+season-of-requires-3 c κs = search needs
+
 same-length-6 : tie.Need-same-length-6 Inv-loop μ-loop
-same-length-6 c = c .before .loop .inv .5 .0
+same-length-6 c = c .before .before .loop .inv .5 .0
 
 same-length-7 : tie.Need-same-length-7 Inv-loop μ-loop
-same-length-7 c = c .before .loop .inv .5 .1
+same-length-7 c = c .before .before .loop .inv .5 .1
 
 same-length-8 : tie.Need-same-length-8 Inv-loop μ-loop
-same-length-8 c = c .before .loop .inv .5 .2
+same-length-8 c = c .before .before .loop .inv .5 .2
 
 same-length-9 : tie.Need-same-length-9 Inv-loop μ-loop
-same-length-9 c = c .before .loop .inv .5 .3
+same-length-9 c = c .before .before .loop .inv .5 .3
 
 same-length-10 : tie.Need-same-length-10 Inv-loop μ-loop
-same-length-10 c = c .before .loop .inv .5 .4
+same-length-10 c = c .before .before .loop .inv .5 .4
 
 returns-3 : tie.Need-returns-3 Inv-loop μ-loop
 returns-3 c =
-    let a = c .before in
-    let s = start a in
-    let e = passes (a .before) in
-    whole (a .before) _ (sym (ends (now (s .args .p)) (now (s .args .pe)) (e .0) (left (a .loop .s) (so-far a)) (a .loop .i) (c .loop-test .left)) ∙ a .loop .inv .1)
+    let l = c .before in
+    let a = l .before in
+    whole (a .before) _ (ap (λ (s : Season). left s (so-far a)) (c .season-of3 .ensures) ∙ sym (ends (ps a) (pes a) (passes (a .before) .0) (left (before a) (so-far a)) (a .loop .i) (l .loop-test .left)) ∙ a .loop .inv .1)
 
 pub add-season-spec : {M : Type 1} → statement M
 add-season-spec =
@@ -246,6 +293,7 @@ add-season-spec =
     lists-fit-requires
     run-refusal-requires
     nothing-added-requires
+    season-of-requires
     returns
     loop-holds
     mul-rain
@@ -253,7 +301,10 @@ add-season-spec =
     mul-demand
     shared-slice-copy-out-demand
     add-listed-requires
-    stopped-by-requires
+    enum-known-a
+    enum-told
+    number-of-requires
+    season-of-requires-2
     same-length
     same-length-2
     same-length-3
@@ -264,6 +315,7 @@ add-season-spec =
     add-i
     loop-less
     loop-again
+    season-of-requires-3
     same-length-6
     same-length-7
     same-length-8
