@@ -1,6 +1,6 @@
 -- What a start gives and each add keeps is a run again: on columns that nobody else writes no call is ever refused 1 or 7, whatever was asked
 -- before, accepted or refused. Assumes nothing.
-use mathlib.Core.Path.{_≡_, refl, sym, ap, _∙_, subst}
+use mathlib.Core.Path.{_≡_, refl, sym, _∙_, subst}
 use mathlib.Core.Bool.{Bool, true, false, cond}
 use mathlib.Core.Logic.{_⊎_, inl, inr, ⊎-elim}
 use mathlib.Core.List.{List, [], _∷_}
@@ -10,12 +10,12 @@ use lib.IntN.{ℤ, pos, negsuc}
 use lib.Dec.{leb, ltb}
 use lib.Ieee.{Float}
 use Rattle.door.specs.Exact.{within, nearestTo}
-use Rattle.door.specs.Outcome.{Outcome, accepted, refused, missing, notAcceptable}
+use Rattle.door.specs.Outcome.{accepted, refused, notAcceptable}
 use Rattle.door.specs.Readings.{mostReading, whole, converted, inches, millimetres, reading, month}
 use Rattle.door.specs.declared.Reading.{Reading}
 use Rattle.door.specs.declared.Reading.the-variants.{Whole, Inches, Millimetres, Missing}
-use Rattle.runs.specs.Runs.{isRun, zFits}
-use Rattle.runs.specs.Start.{startRefusal, freshRun}
+use Rattle.runs.specs.Runs.{zFits}
+use Rattle.runs.specs.Start.{startRefusal}
 use Rattle.runs.specs.declared.Run.{Run}
 use Rattle.runs.proofs.RunLaws.{start-is-run}
 use Rattle.drought.specs.Columns.{Columns, long, columnsFit}

@@ -1,7 +1,7 @@
 -- Rows that a step with a state gives, month after month. Assumes nothing.
 use mathlib.Core.Path.{_≡_, refl, ap}
 use mathlib.Core.List.{List, [], _∷_, _++_}
-use Prim.Native.Nat.{ℕ, suc}
+use Prim.Native.Nat.{suc}
 use lib.ListN.{length}
 use Rattle.hindsight.specs.Rule.{Row}
 use Rattle.hindsight.specs.Columns.{rowsOf, stateOf}

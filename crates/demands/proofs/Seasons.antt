@@ -3,12 +3,12 @@
 use mathlib.Core.Path.{_≡_, refl, sym, ap, _∙_, subst}
 use mathlib.Core.Bool.{true}
 use mathlib.Core.Logic.{⊎-elim}
-use mathlib.Core.List.{List, [], _∷_, _++_, append-nil}
+use mathlib.Core.List.{List, [], _∷_, _++_}
 use Prim.Native.Nat.{ℕ, zero, suc, _+_, _-_, _≤_, _<_}
 use native.Mathlib.Omega.{arith}
 use borrow.Author.Tests.{eq-eqb}
 use lib.IntN.{ℤ, pos}
-use lib.ListN.{length, getD, set, take, drop, length-append, length-drop}
+use lib.ListN.{length, getD, take, drop, length-append, length-drop}
 use lib.Seq.{getD-set-other, getD-append-add, getD-drop, length-take-le}
 use Rattle.spells.specs.Spells.{stepOf}
 use Rattle.hindsight.specs.Adding.{addMonth}
@@ -19,7 +19,6 @@ use Rattle.runs.proofs.RunLaws.{start-is-run}
 use Rattle.drought.specs.Columns.{Columns, long, columnsFit}
 use Rattle.drought.specs.Ready.{Good}
 use Rattle.drought.specs.Asked.{Result, heldBy, taken}
-use Rattle.drought.specs.declared.Figures.{Figures}
 use Rattle.drought.proofs.Readiness.{lengths-are}
 use Rattle.drought.proofs.Keeps.{wrote-index, wrote-mark}
 use Rattle.drought.proofs.Accepts.{good-passes}
@@ -29,7 +28,7 @@ use Rattle.demands.specs.Months.{Ask, water, asked, State, after, afterA
 use Rattle.demands.specs.Demands.{Honest, begun}
 use Rattle.demands.specs.Seasons.{monthsOf, settledBy, lastOf, leftOf, Singly, SameFrom, Seasons}
 use Rattle.demands.proofs.Took.{Took, took, good-kept, months-next, x1-next, x2-next, x3-next}
-use Rattle.demands.proofs.Sequence.{months-all, after-append, accepted-append}
+use Rattle.demands.proofs.Sequence.{after-append, accepted-append}
 use Rattle.demands.proofs.Honest.{zero-or, not-both, never-refused, good-always}
 
 -- ---- what the months of two lists make of a season so far: n of them are added

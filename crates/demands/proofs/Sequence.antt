@@ -1,22 +1,19 @@
 -- Months added one by one. After any accepted months the columns hold the rows of all months so far (`held-all`), whatever they held at
 -- first; the run and the columns stay good, so no call is refused 1 or 7; the running values of an earlier month are never written again.
 -- Assumes nothing.
-use mathlib.Core.Path.{_≡_, refl, sym, ap, _∙_, subst}
+use mathlib.Core.Path.{_≡_, refl, ap, _∙_}
 use mathlib.Core.List.{List, [], _∷_, _++_}
-use Prim.Native.Nat.{ℕ, zero, suc, _+_, _≤_, _<_}
+use Prim.Native.Nat.{ℕ, _+_, _<_}
 use native.Mathlib.Omega.{arith}
 use lib.IntN.{ℤ, pos}
-use lib.ListN.{length, getD, set, take}
-use lib.Seq.{getD-set-other, getD-take}
-use Rattle.hindsight.specs.Rule.{Row}
-use Rattle.hindsight.specs.Adding.{addMonth, addTo, addAll}
+use lib.ListN.{length, getD}
+use lib.Seq.{getD-set-other}
+use Rattle.hindsight.specs.Adding.{addTo}
 use Rattle.hindsight.specs.Adding.{Run as Held}
 use Rattle.hindsight.specs.Columns.{rowsOf}
-use Rattle.runs.specs.declared.Run.{Run}
-use Rattle.drought.specs.Columns.{Columns, columnsFit, long}
-use Rattle.drought.specs.Asked.{Result, heldBy}
-use Rattle.demands.specs.Months.{Ask, asked, State, stateOf, after, afterAll, Accepted, Station, stationOf, stationNext, stationRow, rowsOfMonths}
-use Rattle.demands.proofs.Took.{Took, took, good-kept, months-next, station-next, held-next, x1-next, x2-next, x3-next}
+use Rattle.drought.specs.Asked.{heldBy}
+use Rattle.demands.specs.Months.{Ask, State, after, afterAll, Accepted, Station, stationOf, stationNext, stationRow, rowsOfMonths}
+use Rattle.demands.proofs.Took.{took, months-next, station-next, held-next, x1-next, x2-next, x3-next}
 
 abbrev heldIn : State → Held
 heldIn s = heldBy (s .run) (s .columns)

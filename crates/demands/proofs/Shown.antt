@@ -1,19 +1,17 @@
 -- The theorems of the three demands, one by one. They are stated together, in the demands' order and words, in specs/Demands.antt, and proofs/
 -- Demands.antt puts these together to that statement. Assumes nothing.
 use mathlib.Core.Path.{_≡_, refl, sym, ap, _∙_, subst}
-use mathlib.Core.Logic.{_↔_, _⊎_}
-use mathlib.Core.List.{List, [], _∷_, _++_, append-nil}
-use Prim.Native.Nat.{ℕ, zero, suc, _+_, _-_, _≤_, _<_}
+use mathlib.Core.Logic.{_↔_}
+use mathlib.Core.List.{List, _++_}
+use Prim.Native.Nat.{ℕ, zero, suc, _+_, _-_, _<_}
 use native.Mathlib.Omega.{arith}
-use lib.IntN.{ℤ, pos, natAbs}
+use lib.IntN.{ℤ, pos}
 use lib.ListN.{length, getD, take, replicate, length-append}
 use lib.Seq.{getD-take}
-use Rattle.door.specs.Outcome.{Outcome}
 use Rattle.door.specs.Readings.{reading, month}
 use Rattle.door.specs.declared.Reading.{Reading}
 use Rattle.door.specs.declared.MonthInches.{MonthInches}
 use Rattle.water.specs.Layers.{SoilFits}
-use Rattle.water.specs.declared.Soil.{Soil}
 use Rattle.water.proofs.Theorems.{month-water-kept}
 use Rattle.spells.specs.Spells.{stepOf}
 use Rattle.hindsight.specs.Rule.{Row, forward}
@@ -24,21 +22,16 @@ use Rattle.hindsight.specs.Adding.{fresh as nothing-held}
 use Rattle.hindsight.specs.Columns.{rowsOf}
 use Rattle.hindsight.specs.Columns.{stateOf as stateAfter}
 use Rattle.hindsight.proofs.Hindsight.{every-index, every-mark, open-exactly, settled-stays, last-are-open, opens-counts, answers-settled, add-append}
-use Rattle.hindsight.proofs.Adding.{series-is-adding}
-use Rattle.runs.specs.Runs.{isRun}
 use Rattle.runs.specs.Ranges.{constantsAt}
 use Rattle.runs.specs.Start.{startRefusal, startOf, freshRun, zeroRun, startedWith}
 use Rattle.runs.specs.declared.Run.{Run}
-use Rattle.runs.specs.declared.Started.{Started}
-use Rattle.runs.proofs.RunLaws.{start-is-run}
 use Rattle.drought.specs.Columns.{Columns, long, columnsFit}
-use Rattle.drought.specs.Ready.{Good}
 use Rattle.drought.specs.Refusals.{waterRefusal, zRefusal}
-use Rattle.drought.specs.Figures.{figuresOf, waterFigures, noFigures}
-use Rattle.drought.specs.Asked.{Result, result, refusal, heldBy, soilAfter, taken, takenWater, takenZ, unless, addOutcomes, addWater, addInches, addZ}
+use Rattle.drought.specs.Figures.{figuresOf, waterFigures}
+use Rattle.drought.specs.Asked.{Result, heldBy, soilAfter, taken, takenWater, takenZ, unless, addOutcomes, addWater, addInches, addZ}
 use Rattle.drought.proofs.Readiness.{run-is}
-use Rattle.demands.specs.Months.{Ask, water, inches, anomaly, asked, State, stateOf, after, afterAll, Accepted, Station, stationOf, watered, zFor, soilFor, waterFor, stationNext, stationRow, rowsOfMonths}
-use Rattle.demands.proofs.Took.{Took, took, good-kept, settled-is, held-next}
+use Rattle.demands.specs.Months.{Ask, water, inches, anomaly, asked, State, after, afterAll, Accepted, stationOf, watered, zFor, soilFor, waterFor, stationNext, stationRow, rowsOfMonths}
+use Rattle.demands.proofs.Took.{Took, took, settled-is, held-next}
 use Rattle.demands.specs.Demands.{numberOf, Answers, Balances}
 use Rattle.demands.proofs.Rows.{rows-long, rows-append}
 use Rattle.demands.proofs.Sequence.{held-all, months-all, values-stay, after-append, accepted-append}

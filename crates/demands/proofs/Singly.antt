@@ -1,20 +1,20 @@
 -- The whole series gives exactly what adding its Z singly to a fresh run gives: the same rows, and the forward rule over them is what the
 -- columns then hold. And where the whole series is not refused, no single add is. Assumes nothing.
-use mathlib.Core.Path.{_≡_, refl, sym, ap, ap₂, _∙_, subst}
-use mathlib.Core.Bool.{Bool, true, false, _&&_}
+use mathlib.Core.Path.{_≡_, refl, sym, ap, ap₂, _∙_}
+use mathlib.Core.Bool.{true}
 use mathlib.Core.List.{List, [], _∷_, map}
-use Prim.Native.Nat.{ℕ, zero, suc, _+_, _≤_, _<_}
+use Prim.Native.Nat.{ℕ, _+_, _≤_, _<_}
 use native.Mathlib.Omega.{arith}
 use lib.IntN.{ℤ}
 use lib.ListN.{length, take, length-map}
 use borrow.Author.Tests.{lt-ltb}
-use Rattle.hindsight.specs.Rule.{Row, forwardIndexes, forwardMarks}
+use Rattle.hindsight.specs.Rule.{Row}
 use Rattle.hindsight.specs.Adding.{addAll}
 use Rattle.hindsight.specs.Adding.{Run as Held}
 use Rattle.hindsight.specs.Columns.{rowsOf}
 use Rattle.hindsight.specs.Months.{nextValues, rowOfZ, rowsOfZ}
 use Rattle.hindsight.proofs.Adding.{series-is-adding}
-use Rattle.runs.specs.Runs.{zFits, isRun}
+use Rattle.runs.specs.Runs.{zFits}
 use Rattle.runs.specs.Start.{startRefusal, freshRun}
 use Rattle.runs.specs.declared.Run.{Run}
 use Rattle.runs.proofs.Outcomes.{first, second}
@@ -23,7 +23,7 @@ use Rattle.series.specs.Series.{allZFit, seriesRefusal, filled, filledWith, who
 use Rattle.drought.specs.Columns.{Columns, long, columnsFit}
 use Rattle.drought.specs.Ready.{Good}
 use Rattle.drought.specs.Refusals.{runRefusal, roomRefusal, zRefusal}
-use Rattle.drought.specs.Asked.{Result, heldBy, taken}
+use Rattle.drought.specs.Asked.{Result, heldBy}
 use Rattle.demands.specs.Months.{Ask, anomaly, asked, State, after, afterAll, Accepted, Station, stationOf, stationNext, stationRow}
 use Rattle.drought.proofs.Keeps.{long-kept}
 use Rattle.demands.proofs.Took.{Took, took, good-kept, months-next}

@@ -1,32 +1,27 @@
 -- A call that accepts a month: nothing was refused, and it did what `taken` says, with the storages, the water and the Z that the station's
 -- rules give. So the run and the columns that it leaves are good again, and hold the months before with one row more. Assumes nothing.
 use mathlib.Core.Path.{_≡_, refl, sym, ap, _∙_, subst}
-use mathlib.Core.Bool.{Bool, true}
-use mathlib.Core.List.{List, [], _∷_, _++_}
-use Prim.Native.Nat.{ℕ, zero, suc, _≤_, _<_}
+use mathlib.Core.List.{_++_}
+use Prim.Native.Nat.{suc, _≤_, _<_}
 use native.Mathlib.Omega.{arith}
-use lib.IntN.{ℤ, natAbs}
+use lib.IntN.{natAbs}
 use lib.ListN.{length, drop, set}
 use Rattle.exact.specs.Next.{mostZ}
 use Rattle.door.specs.Outcome.{Outcome}
 use Rattle.door.specs.Readings.{mostReading, reading, month}
 use Rattle.door.proofs.Bounds.{reading-most, inches-most}
 use Rattle.water.specs.Layers.{SoilFits}
-use Rattle.water.proofs.Theorems.{z-acceptable, month-layers-kept}
 use Rattle.spells.specs.Spells.{stepOf}
 use Rattle.hindsight.specs.Rule.{Row}
 use Rattle.hindsight.specs.Columns.{runFrom, rowOf}
 use Rattle.hindsight.specs.Adding.{addMonth, settledCount}
 use Rattle.spells.specs.Decisions.{decisionNumber}
-use Rattle.hindsight.specs.Months.{rowFor}
 use Rattle.hindsight.proofs.Adding.{adds-run}
-use Rattle.runs.specs.Ranges.{constantsAt}
-use Rattle.runs.specs.Runs.{isRun}
 use Rattle.runs.specs.declared.Run.{Run}
 use Rattle.drought.specs.Columns.{Columns, long, columnsFit}
 use Rattle.drought.specs.Ready.{Good}
 use Rattle.drought.specs.Refusals.{zRefusal}
-use Rattle.drought.specs.Asked.{Result, result, refusal, heldBy, taken, takenZ, takenWater, waterOf, unless, addOutcomes, addWater, addInches, addZ}
+use Rattle.drought.specs.Asked.{Result, heldBy, taken, takenZ, takenWater, waterOf, addOutcomes, addWater, addInches, addZ}
 use Rattle.drought.proofs.Refused.{z-passes}
 use Rattle.drought.proofs.Readiness.{run-is, lengths-are}
 use Rattle.drought.proofs.Taken.{row-is}

@@ -4,7 +4,7 @@
 use mathlib.Core.Path.{_≡_}
 use mathlib.Core.Bool.{true}
 use mathlib.Core.List.{List, [], _∷_, _++_}
-use Prim.Native.Nat.{ℕ, _+_, _≤_, _<_}
+use Prim.Native.Nat.{ℕ, _+_, _≤_}
 use lib.IntN.{ℤ, pos}
 use lib.ListN.{length, getD, take}
 use Rattle.runs.specs.Start.{startRefusal}
@@ -13,7 +13,6 @@ use Rattle.drought.specs.Columns.{Columns, columnsFit}
 use Rattle.drought.specs.Figures.{noFigures}
 use Rattle.drought.specs.declared.Figures.{Figures}
 use Rattle.season.specs.Season.{Left, left, listed, nothing, seasonRefusal, addSeason}
-use Rattle.season.specs.declared.Season.{Season}
 use Rattle.demands.specs.Months.{Ask, water, asked, State, after, afterAll, Accepted}
 use Rattle.demands.specs.Demands.{Honest, begun}
 

@@ -9,7 +9,6 @@ use Rattle.exact.specs.Worked.{_gives_}
 use Rattle.exact.specs.Worked.{Row as Line}
 use Rattle.water.specs.Worked.{waterTable}
 use Rattle.spells.specs.Worked.{spellTable}
-use Rattle.spells.specs.declared.Running.{Running}
 use Rattle.hindsight.specs.Rule.{Row, forward}
 use Rattle.hindsight.specs.Columns.{rowsOf}
 use Rattle.hindsight.specs.Adding.{addAll}

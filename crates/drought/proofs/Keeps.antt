@@ -1,13 +1,13 @@
 -- What an add hands back is a run again, and the columns that it leaves fit again: so no sequence of calls on columns that nobody else writes
 -- is ever refused 1 or 7. Assumes nothing.
-use mathlib.Core.Path.{_≡_, refl, sym, ap, _∙_}
+use mathlib.Core.Path.{_≡_, refl, ap}
 use mathlib.Core.Bool.{true}
 use mathlib.Core.List.{List, [], _∷_, _++_}
 use Prim.Native.Nat.{ℕ, suc, _+_, _-_, _*_, _≤_, _<_}
 use native.Mathlib.Omega.{arith}
 use lib.IntN.{ℤ, natAbs}
 use lib.Seq.{length-take-le}
-use lib.ListN.{length, take, drop, replicate, length-append, length-drop, length-take, length-replicate, length-set}
+use lib.ListN.{length, drop, length-append, length-drop, length-take, length-replicate, length-set}
 use Rattle.exact.specs.Next.{mostZ}
 use Rattle.water.specs.Layers.{SoilFits}
 use Rattle.water.specs.declared.Soil.{Soil}
@@ -18,7 +18,7 @@ use Rattle.spells.specs.declared.Decision.{Decision}
 use Rattle.spells.specs.declared.Decision.the-variants.{Nothing, Decides}
 use Rattle.spells.proofs.Theorems.{values-kept}
 use Rattle.hindsight.specs.Rule.{X, Row}
-use Rattle.hindsight.specs.Adding.{settledAll, kept, addAs, addMonth}
+use Rattle.hindsight.specs.Adding.{settledAll, addAs, addMonth}
 use Rattle.hindsight.specs.Adding.{Run as Held}
 use Rattle.hindsight.specs.Months.{rowFor}
 use Rattle.hindsight.specs.Columns.{xAt}

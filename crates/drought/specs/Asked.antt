@@ -4,7 +4,7 @@ use Prim.Native.Nat.{ℕ, zero, suc}
 use mathlib.Core.List.{_++_}
 use lib.IntN.{ℤ, pos}
 use lib.ListN.{drop, set, getD}
-use Rattle.door.specs.Outcome.{Outcome, MonthOutcomes}
+use Rattle.door.specs.Outcome.{Outcome}
 use Rattle.door.specs.Readings.{reading, month}
 use Rattle.door.specs.declared.Reading.{Reading}
 use Rattle.door.specs.declared.MonthInches.{MonthInches}

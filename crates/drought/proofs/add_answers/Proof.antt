@@ -1,7 +1,7 @@
 -- `drought::add_answers` meets its contract: its number is the definition's, and then it refuses or adds. Assumes nothing.
-use mathlib.Core.Path.{_≡_, sym, ap, ap₂, _∙_}
+use mathlib.Core.Path.{_≡_, sym, _∙_}
 use mathlib.Core.Bool.{true}
-use Prim.Native.Nat.{ℕ, _≤_, _<_}
+use Prim.Native.Nat.{ℕ, _<_}
 use borrow.Author.Needs.{needs}
 use denote.Ref.{now}
 use Rattle.door.specs.Outcome.{outcome}

@@ -1,8 +1,8 @@
 -- `drought::add_inches` meets its contract: the month's two answers, and then `add_answers`. Assumes nothing.
-use mathlib.Core.Path.{_≡_, sym, ap, _∙_}
+use mathlib.Core.Path.{_≡_, ap}
 use borrow.Author.Needs.{needs}
-use Rattle.door.specs.Outcome.{Outcome, MonthOutcomes, outcome}
-use Rattle.door.specs.Readings.{inches, month}
+use Rattle.door.specs.Outcome.{MonthOutcomes, outcome}
+use Rattle.door.specs.Readings.{month}
 use Rattle.door.proofs.Bounds.{inches-most}
 use Rattle.drought.specs.Asked.{addInches}
 use Rattle.drought.proofs.add_inches.Statement.{statement}

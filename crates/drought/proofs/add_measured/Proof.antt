@@ -1,8 +1,7 @@
 -- `drought::add_measured` meets its contract: the run's constants of the calendar month, its month of water, and that month added.
 -- Assumes nothing.
-use mathlib.Core.Path.{_≡_, sym, ap, _∙_}
-use Prim.Native.Nat.{ℕ, _≤_}
-use native.Mathlib.Omega.{arith}
+use mathlib.Core.Path.{_≡_}
+use Prim.Native.Nat.{_≤_}
 use borrow.Author.Needs.{needs}
 use lib.IntN.{natAbs}
 use mir.Syntax.{w32}
@@ -15,7 +14,6 @@ use Rattle.water.specs.Constants.{ConstantsFit}
 use Rattle.water.proofs.Theorems.{z-acceptable}
 use Rattle.runs.specs.Ranges.{constantsAt}
 use Rattle.runs.proofs.RunLaws.{constants-at-fit}
-use Rattle.drought.specs.Columns.{Columns, columns}
 use Rattle.drought.specs.Asked.{takenWater, waterOf}
 use Rattle.drought.specs.Standing.{runOf}
 use Rattle.drought.proofs.add_measured.Statement.{statement}

@@ -1,12 +1,8 @@
 -- `drought::add_spells` meets its contract: the step and what hindsight writes. Assumes nothing.
-use mathlib.Core.Path.{_≡_, refl, sym, ap, _∙_}
-use Prim.Native.Nat.{ℕ, suc, _+_, _≤_}
 use native.Mathlib.Omega.{arith}
-use native.Mathlib.Numerals.{add-one}
 use borrow.Author.Needs.{needs}
-use lib.IntN.{ℤ, natAbs}
-use mir.Syntax.{w32, w64}
-use mir.Val.{SFits, Fits}
+use mir.Syntax.{w32}
+use mir.Val.{SFits}
 use mir.Facts.{toZ-ofZ}
 use denote.Ref.{now}
 use Rattle.exact.proofs.Held.{held}

@@ -1,5 +1,4 @@
 -- `drought::add_water` meets its contract: the two readings' answers, and then `add_answers`. Assumes nothing.
-use mathlib.Core.Path.{_≡_, sym, ap, _∙_}
 use borrow.Author.Needs.{needs}
 use Rattle.door.proofs.Bounds.{reading-most}
 use Rattle.drought.specs.Asked.{addWater}

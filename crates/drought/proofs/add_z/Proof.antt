@@ -1,6 +1,6 @@
 -- `drought::add_z` meets its contract: its number is the definition's, and then it refuses or adds. Assumes nothing.
-use mathlib.Core.Path.{_≡_, sym, ap, _∙_}
-use Prim.Native.Nat.{ℕ, _≤_, _<_}
+use mathlib.Core.Path.{_≡_, sym, _∙_}
+use Prim.Native.Nat.{_≤_, _<_}
 use borrow.Author.Needs.{needs}
 use lib.IntN.{natAbs}
 use mathlib.Core.Bool.{true}

@@ -1,20 +1,17 @@
 -- `drought::row` meets its contract: its number is the definition's, and then what the columns hold. Assumes nothing.
 use mathlib.Core.Path.{_≡_, refl, sym, ap, _∙_}
-use mathlib.Core.Bool.{true}
-use Prim.Native.Nat.{ℕ, suc, zero, _≤_, _<_}
+use Prim.Native.Nat.{ℕ, suc, zero, _<_}
 use native.Mathlib.Omega.{arith}
 use borrow.Author.Needs.{needs}
-use lib.IntN.{ℤ, pos}
+use lib.IntN.{pos}
 use lib.ListN.{length, getD}
 use mir.Syntax.{w32}
 use mir.Val.{SFits}
 use mir.Facts.{toZ-ofZ}
 use denote.Ref.{now}
-use Rattle.runs.specs.Runs.{isRun}
 use Rattle.drought.specs.Columns.{Columns, columns, long, columnsFit}
 use Rattle.drought.specs.Refusals.{rowRefusal}
 use Rattle.drought.specs.Asked.{rowOfRun, shownWith}
-use Rattle.drought.specs.declared.Shown.{Shown}
 use Rattle.drought.proofs.Refused.{row-passes}
 use Rattle.drought.proofs.Readiness.{lengths-are, run-is}
 use Rattle.drought.proofs.row.Statement.{statement}

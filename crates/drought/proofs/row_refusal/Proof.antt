@@ -1,6 +1,6 @@
 -- `drought::row_refusal`: the run first, then 11. Assumes nothing.
 use borrow.Author.Needs.{needs}
-use mathlib.Core.Path.{_≡_, sym, _∙_}
+use mathlib.Core.Path.{sym}
 use borrow.Author.Tests.{lt-ltb, le-ltb}
 use Rattle.drought.specs.Refusals.{rowRefusal}
 use Rattle.drought.proofs.Refused.{or-first, or-second}

@@ -1,6 +1,6 @@
 -- `drought::water_refusal`: the run, precipitation, PE, room. Assumes nothing.
 use borrow.Author.Needs.{needs}
-use mathlib.Core.Path.{_≡_, sym, _∙_}
+use mathlib.Core.Path.{sym, _∙_}
 use Rattle.drought.specs.Refusals.{waterRefusal}
 use Rattle.drought.proofs.Refused.{or-first, or-second}
 use Rattle.drought.proofs.water_refusal.Statement.{statement}

@@ -1,6 +1,6 @@
 -- `drought::z_refusal`: the run, 12, room. Assumes nothing.
 use borrow.Author.Needs.{needs}
-use mathlib.Core.Path.{_≡_, sym, _∙_}
+use mathlib.Core.Path.{sym, _∙_}
 use mir.Facts.{toZ-ofZ}
 use Rattle.runs.proofs.Outcomes.{fails, passes}
 use Rattle.drought.specs.Refusals.{zRefusal}

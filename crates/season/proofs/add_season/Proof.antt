@@ -1,6 +1,6 @@
 -- `season::add_season` meets its contract: what is still to come takes what has been added to where all months take the run at entry. Assumes
 -- nothing.
-use mathlib.Core.Path.{_≡_, refl, sym, ap, _∙_, subst}
+use mathlib.Core.Path.{_≡_, refl, sym, ap, _∙_}
 use mathlib.Core.Bool.{_&&_}
 use mathlib.Core.List.{List}
 use Prim.Native.Nat.{ℕ, suc, _+_, _-_, _≤_, _<_}
@@ -14,7 +14,6 @@ use mir.Syntax.{w32}
 use mir.Val.{SFits}
 use mir.Facts.{toZ-ofZ}
 use denote.Ref.{now}
-use Rattle.runs.specs.Runs.{mostMonths}
 use Rattle.drought.specs.Columns.{Columns, columns, long, columnsFit}
 use Rattle.drought.specs.Ready.{Good}
 use Rattle.runs.proofs.Outcomes.{first, second}
