@@ -7,7 +7,7 @@ use Prim.Native.Nat.{ℕ, zero, suc, _+_, _-_, _*_, _/_, _%_, _^_, _≤_, _<_}
 use native.Mathlib.Nat.{le-trans, le-of-eq, lt-of-le-of-lt, lt-of-lt-of-le, lt-of-not-le, lt-irrefl, mul-comm, mul-assoc, mul-left-comm, mul-right-comm, mul-one, mul-pos, mul-le-mul-right, mul-lt-mul-of-pos-right, le-of-mul-le-mul-right, eq-of-mul-eq-mul-right, le-add-right, add-comm, mod-lt}
 use native.Mathlib.Omega.{arith}
 use lib.IntN.{ℤ, pos, negsuc}
-use lib.Dec.{T, leb, eqb, leb→le, lit<}
+use lib.Dec.{T, leb, eqb, leb→le, lit≤, lit<}
 use lib.Pow.{pow-add, pow-pos, pow-mono}
 use lib.Ieee.{Float, nan, inf, fin, binary32, up, down, odd, fits, ofFields, ofBits, toBits}
 use lib.Ieee.Fits.{and-r, down-pos}
@@ -16,6 +16,7 @@ use lib.Ieee.Exact.{HasValue, odd-sign}
 use Rattle.exact.specs.Nearest.{nearestℕ}
 use Rattle.door.specs.Exact.{within, nearestTo}
 use Rattle.exact.proofs.Nearest.{near-same}
+use Rattle.door.proofs.Places.{nearer-zero, low-digits, all-digits}
 
 -- ---- a float that is a / c in size
 
@@ -148,3 +149,17 @@ module _ (x : Float) (F : T (fits binary32 x)) (R : T (within 2540 x)) where
       where
         sum : (k : ℕ) → k ≡ suc (k - 1) → k ≤ 138 → 149 ≡ 150 - k + (k - 1)
         sum k p q = omega arith
+
+    -- below exponent 100, subnormal numbers included, there are more than 50 places
+    pub tiny : per ≤ 5000 → E < 100 → 0 ≡ nearestTo per of x
+    tiny P l = go E refl
+      where
+        places : (k : ℕ) → k < 100 → 38 ≤ 150 - k
+        places k h = omega arith
+
+        above : (k j : ℕ) → k ≡ suc j → k ≡ 0 → ⊥
+        above k j p z = omega arith
+
+        go : (k : ℕ) → E ≡ k → 0 ≡ nearestTo per of x
+        go zero e = sym (nearer-zero (t * per) of 149 (low-digits b per P) O (lit≤ tt)) ∙ small e
+        go (suc k) e = sym (nearer-zero ((t + 8388608) * per) of (150 - E) (all-digits b per P) O (places E l)) ∙ normal (above E k e)

@@ -4,9 +4,8 @@
 // multiplied or rounded.
 
 ghost use mathlib.Core.Path.{_≡_};
-ghost use Prim.Native.Nat.{ℕ, _*_, _/_, _^_, _<_, _≤_};
+ghost use Prim.Native.Nat.{_<_, _≤_};
 ghost use lib.Dec.{T};
-ghost use Rattle.exact.specs.Nearest.{nearestℕ};
 ghost use Rattle.door.specs.Exact.{within, nearestTo};
 ghost use Rattle.door.specs.Readings.{whole, inches, millimetres, reading, month};
 ghost use Rattle.door.specs.Outcome.{outcome, outcomes};
@@ -51,43 +50,21 @@ const MOST_INCHES: f32 = 100.0;
 
 const MOST_MILLIMETRES: f32 = 2540.0;
 
-// num without its lowest `places` binary places. One place goes per pass.
-fn stripped(num: u64, places: u32) -> u64
-    ensures { λ r. ⌜ r ≡ num / 2 ^ places ⌝ }
-{
-    let mut n = num;
-    let mut i: u32 = 0;
-    while i < places {
-        n = n / 2;
-        i += 1;
-    }
-    n
-}
-
-// The whole number nearest to num / (of * 2 ^ places). All places but one are stripped first: the one
-// that is left, with `of`, still tells a half and what is above it from what is below.
-fn part(num: u64, of: u64, places: u32) -> u32
-    requires { ⌜ (num < 2 ^ 37) × (0 < of) × (of ≤ 5000) × (12 ≤ places) ⌝ }
-    ensures { λ r. ⌜ r ≡ nearestℕ num (of * 2 ^ places) ⌝ }
-{
-    exact::nearest_unsigned(stripped(num, places - 1), 2 * of) as u32
-}
-
-// The whole number nearest to x * per / of, from the exponent and the fraction of x: x is the fraction
-// times 2 ^ -149 where the exponent's field is 0, and otherwise the fraction with its hidden digit
-// times 2 ^ (field - 150).
+// The whole number nearest to x * per / of. x is its fraction times 2 ^ (exponent - 150), so that is
+// fraction * per over of * 2 ^ (150 - exponent). Below exponent 100, x is less than 2 ^ -27, and 5,000
+// times that is less than a half: the answer is 0.
 fn nearest_to(x: f32, per: u64, of: u64) -> u32
     requires { ⌜ T (within 2540 x) × (per ≤ 5000) × (0 < of) × (of ≤ 5000) ⌝ }
     ensures { λ r. ⌜ r ≡ nearestTo per of x ⌝ }
 {
     let bits: u32 = f32::to_bits(x);
     let exponent: u32 = bits % 0x8000_0000 / 0x80_0000;
-    let fraction: u32 = bits % 0x80_0000;
-    if exponent == 0 {
-        part((fraction as u64) * per, of, 149)
-    } else {
-        part(((fraction + 0x80_0000) as u64) * per, of, 150 - exponent)
+    if exponent < 100 {
+        return 0;
     }
+    // The pattern leaves out the fraction's first binary digit, which is 1.
+    let fraction: u32 = bits % 0x80_0000 + 0x80_0000;
+    exact::nearest_unsigned((fraction as u64) * per, of << (150 - exponent)) as u32
 }
 
 // A number of inches. A NaN passes no comparison, so both tests must pass.
