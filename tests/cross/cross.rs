@@ -1,13 +1,16 @@
 //! Calls the library and the reference on the same inputs and compares everything: every field of the answer, the
 //! run handed back, and every place of every list lent, with some places before and after it that nobody lent. A
-//! season is compared with the library's single adds of its months as well. At the first difference it prints the
-//! call, its inputs and the outcomes, and ends with status 1. An argument multiplies the random cases.
+//! season is compared with the library's single adds of its months as well, and readings are held to the exact
+//! computation. At the first difference it prints the call, its inputs and the outcomes, and ends with status 1.
+//! An argument multiplies the random cases.
 
 #[path = "../../host/card.rs"]
 mod card;
+mod conversion;
 mod reference;
 
 use card::{Added, Answer, Columns, Figures, MonthInches, Reading, Run, Season, Shown, Soil, Started, Values};
+use conversion::{Unit, MOST_WATER, UNITS};
 use reference::{Decides, MOST_MONTHS, MOST_Z};
 use std::fmt::Debug;
 
@@ -23,6 +26,7 @@ fn main() {
     let mut check = Check::new(0x5eed_0001);
     worked_months(&mut check);
     readings(&mut check, times);
+    readings_exactly(&mut check);
     starts(&mut check, times);
     series(&mut check, times);
     open_to_the_last(&mut check, times);
@@ -405,6 +409,17 @@ impl Check {
         self.count(Call::Read, reference.number);
     }
 
+    /// A reading of this pattern, held to the exact computation.
+    fn read_exactly(&mut self, unit: &Unit, bits: u32) {
+        let x = f32::from_bits(bits);
+        let library = card::read(unit.reading(x));
+        if !unit.allows(x, library) {
+            let inputs = (unit.reading(x), format!("{bits:#010x}"), "against the exact computation");
+            differ(Call::Read, &inputs, &library, &unit.answer(x));
+        }
+        self.count(Call::Read, library.number);
+    }
+
     fn start(&mut self, constants: &[i32], [capacity, surface, underlying, month]: [i32; 4]) -> Started {
         let lent = constants.to_vec();
         let library = card::start(&lent, capacity, surface, underlying, month);
@@ -696,6 +711,31 @@ fn reading_spread(c: &mut Check, times: u64) {
 
 const READING_STRIDE: u64 = 757;
 const RANDOM_READINGS: u64 = 3_000_000;
+
+/// Both units against the exact computation, of which tests/cross/every does all patterns: the range by a stride
+/// from its top down, some patterns at its ends and beyond, and for each answer the least pattern that has it and
+/// the one before.
+fn readings_exactly(c: &mut Check) {
+    for unit in &UNITS {
+        c.kind("readings, exactly, by stride");
+        let top = unit.top.to_bits();
+        for bits in (0..=top).rev().step_by(EXACT_STRIDE) {
+            c.read_exactly(unit, bits);
+        }
+        for bits in [0, 1, top, top + 1, 0x7f7f_ffff, 0x7f80_0000, 0x7f80_0001, 0x7fc0_0000, 0x7fff_ffff] {
+            c.read_exactly(unit, bits);
+            c.read_exactly(unit, bits | 0x8000_0000);
+        }
+        c.kind("readings, exactly, each answer");
+        for n in 1..=MOST_WATER {
+            let least = unit.least(n);
+            c.read_exactly(unit, least - 1);
+            c.read_exactly(unit, least);
+        }
+    }
+}
+
+const EXACT_STRIDE: usize = 499;
 
 // ---- Starts ------------------------------------------------------------------------------------------------
 

@@ -1,12 +1,14 @@
-"""Faults put into the reference, one at a time; the cross-check must end with a difference. Run by tests/cross/faults."""
+"""Faults put into the reference or the exact computation, one at a time; the cross-check must end with a difference.
+Run by tests/cross/faults."""
 import os
 import shutil
 import subprocess
 import sys
 
 ROOM = 'target/host/faults'
+FILES = ['tests/cross/reference.rs', 'tests/cross/conversion.rs']
 
-# a name, and what is changed to what
+# a name, and what is changed to what, in the file that has it
 FAULTS = [
     ('next(x) by 2690', '2691 * i64::from(x) + 1000', '2690 * i64::from(x) + 1000'),
     ('halves below zero toward zero', 'if n < 0 { n - half }', 'if n < 0 { n - half + 1 }'),
@@ -41,19 +43,27 @@ FAULTS = [
     ('unequal lists of a season refused after the run', '    if p.len() != pe.len() {\n        return Err(Refusal::Lengths);\n    }\n    check(run, k)?;\n', '    check(run, k)?;\n    if p.len() != pe.len() {\n        return Err(Refusal::Lengths);\n    }\n'),
     ('PE of a season read before precipitation', '        let p = listed(p)?;\n        let pe = listed(pe)?;\n', '        let pe = listed(pe)?;\n        let p = listed(p)?;\n'),
     ('a season full before its readings', '        let p = listed(p)?;\n', '        if run.months as usize == k.x1.len() {\n            return Err(Refusal::Full);\n        }\n        let p = listed(p)?;\n'),
+    ('exact halves down', 'halfway <= 2.0', 'halfway < 2.0'),
+    ('an exact 126 for 127', 'of: 127 }', 'of: 126 }'),
+    ("the range's top left out of the exact one", '(0.0..=self.top)', '(0.0..self.top)'),
 ]
 
 
+def read(name):
+    with open(name) as f:
+        return f.read()
+
+
 def caught(old, new):
-    """Whether the cross-check ends with a difference where the reference has this fault."""
-    with open('tests/cross/reference.rs') as f:
-        text = f.read()
-    assert text.count(old) == 1, old
+    """Whether the cross-check ends with a difference where its own side has this fault."""
+    texts = {name: read(name) for name in FILES}
+    assert sum(text.count(old) for text in texts.values()) == 1, old
     shutil.rmtree(ROOM, ignore_errors=True)
     shutil.copytree('tests/cross', ROOM + '/tests/cross')
     shutil.copytree('host', ROOM + '/host')
-    with open(ROOM + '/tests/cross/reference.rs', 'w') as f:
-        f.write(text.replace(old, new))
+    for name, text in texts.items():
+        with open(ROOM + '/' + name, 'w') as f:
+            f.write(text.replace(old, new))
     program = ROOM + '/cross'
     build = os.environ['RUSTC'].split() + ['-A', 'warnings', '-C', 'opt-level=3', '-L', 'native=target/staticlib', '-l', 'static=card']
     subprocess.run(build + [ROOM + '/tests/cross/cross.rs', '-o', program], check=True)
