@@ -1,12 +1,10 @@
 -- From a float in range to the exponent and the fraction of its bit pattern b: with E = b % 2 ^ 31 / 2 ^ 23 and t = b % 2 ^ 23, its size is
 -- t / 2 ^ 149 where E is 0, and (t + 2 ^ 23) / 2 ^ (150 - E) otherwise. So `nearestTo` is the nearest whole number to a fraction of those. Assumes nothing.
 use mathlib.Core.Path.{_≡_, refl, sym, ap, _∙_, subst}
-use mathlib.Core.Logic.{_⊎_, inl, inr}
-use mathlib.Core.Bool.{Bool, true, false, not, _&&_, _||_, cond}
+use mathlib.Core.Bool.{Bool, true, false, not, _||_, cond}
 use Prim.Native.Nat.{ℕ, zero, suc, _+_, _-_, _*_, _/_, _%_, _^_, _≤_, _<_}
-use native.Mathlib.Nat.{le-trans, le-of-eq, lt-of-le-of-lt, lt-of-lt-of-le, lt-of-not-le, lt-irrefl, mul-comm, mul-assoc, mul-left-comm, mul-right-comm, mul-one, mul-pos, mul-le-mul-right, mul-lt-mul-of-pos-right, le-of-mul-le-mul-right, eq-of-mul-eq-mul-right, le-add-right, add-comm, mod-lt}
+use native.Mathlib.Nat.{le-trans, le-of-eq, lt-of-le-of-lt, lt-of-lt-of-le, lt-of-not-le, lt-irrefl, mul-comm, mul-assoc, mul-left-comm, mul-right-comm, mul-one, mul-pos, mul-le-mul-right, le-of-mul-le-mul-right, eq-of-mul-eq-mul-right, le-add-right, add-comm}
 use native.Mathlib.Omega.{arith}
-use lib.IntN.{ℤ, pos, negsuc}
 use lib.Dec.{T, leb, eqb, leb→le, lit≤, lit<}
 use lib.Pow.{pow-add, pow-pos, pow-mono}
 use lib.Ieee.{Float, nan, inf, fin, binary32, up, down, odd, fits, ofFields, ofBits, toBits}
@@ -104,9 +102,6 @@ module _ (x : Float) (F : T (fits binary32 x)) (R : T (within 2540 x)) where
 
   abbrev t : ℕ
   t = b % 8388608
-
-  sign : Bool
-  sign = leb 2147483648 b
 
   read-back : ofFields binary32 (leb 2147483648 b) E t ≡ x
   read-back = sym (ofBits-is b) ∙ ofBits-toBits binary32 x F
