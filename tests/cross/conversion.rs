@@ -11,7 +11,7 @@ use crate::card::{self, Answer, Reading};
 /// The most that a reading answers, in thousandths of an inch.
 pub const MOST_WATER: u32 = 100_000;
 
-/// "NaN, infinities, negatives and anything above the range are not acceptable."
+/// "NaN, infinities, negatives and anything above the range are refused."
 const REFUSED: Answer = Answer { number: 9, water: 0 };
 
 /// A unit of readings: x of it are x per / of thousandths of an inch.
