@@ -31,6 +31,9 @@ const LAST_COLUMN: usize = 94;
 
 const AFTER_VALUES: u32 = 95;
 
+// What a byte order mark begins with.
+const BYTE_ORDER_MARK: u8 = 0xEF;
+
 // The refusals.
 const ANOTHER: u8 = 15;
 
@@ -107,12 +110,32 @@ fn explain_end(kept: u32) {
     say(b", and the layout has 94\n");
 }
 
-// 14, of the first field at fault, which begins at a column.
-fn explain_field(column: u32) {
+// 14, of what stands in the first ten columns, the line's first byte given.
+fn explain_heading(first: u8) {
+    if first == BYTE_ORDER_MARK {
+        say(b": a byte order mark; save the file without it\n");
+        return;
+    }
+    say(b": no digits\n");
+}
+
+// 14, of what stands after the last value, its first byte that is no space given.
+fn explain_rest(b: u8) {
+    if b == b'\r' {
+        say(
+            b": a carriage return; the file has CR LF line ends, and the layout a line feed alone\n",
+        );
+        return;
+    }
+    say(b": something after the last value that is no space\n");
+}
+
+// 14, of the first field at fault, which begins at a column; the line's first byte and the one after its values given.
+fn explain_field(column: u32, first: u8, after: u8) {
     say(b", column ");
     say_number(column);
     if column < FIRST_VALUE {
-        say(b": no digits\n");
+        explain_heading(first);
         return;
     }
     if column < AFTER_VALUES {
@@ -121,7 +144,15 @@ fn explain_field(column: u32) {
         say(b" is neither -9.99 nor 0.00 to 100.00 inches, as the layout has them\n");
         return;
     }
-    say(b": something after the last value that is no space\n");
+    explain_rest(after);
+}
+
+// A byte of a line, or a space where the line has ended.
+fn byte_at(line: &[u8], at: usize) -> u8 {
+    if at < line.len() {
+        return line[at];
+    }
+    b' '
 }
 
 // 14: where a line is at fault.
@@ -132,7 +163,11 @@ fn explain_line(lines: u32, line: &[u8]) {
         explain_end(line.len() as u32);
         return;
     }
-    explain_field(layout::fault(line));
+    explain_field(
+        layout::fault(line),
+        byte_at(line, 0),
+        byte_at(line, LAST_COLUMN),
+    );
 }
 
 // 15: no line was of the state and the division.
@@ -178,11 +213,18 @@ fn explain(s: Session, line: &[u8])
     explain_line(s.lines, &line[..kept]);
 }
 
+// Writes a text to standard output, or says that it cannot be written.
+fn write_out(text: &[u8]) {
+    if !io::write_all(STDOUT_FILENO, text) {
+        say(b"division: the output cannot be written\n");
+    }
+}
+
 // Writes which line was refused, and why.
 fn print_refusal(lines: u32, number: u8) {
     let mut text = [0u8; MOST_ROW];
     let end = rows::lay_refusal(lines, number, 0, &mut text);
-    io::write_all(STDOUT_FILENO, &text[..end]);
+    write_out(&text[..end]);
 }
 
 // Reads the input and writes what comes of it.
@@ -203,7 +245,7 @@ fn run_with(session: Session, buffer: &mut [u8], line: &mut [u8], out: &mut [u8]
         return;
     }
     let end = s.end;
-    io::write_all(STDOUT_FILENO, &out[..end]);
+    write_out(&out[..end]);
 }
 
 // An argument as a state or a division.

@@ -8,6 +8,7 @@ ghost use mathlib.Core.Bool.{true};
 ghost use Rattle.text.specs.Bytes.{isDigit, andDigit};
 ghost use Rattle.lines.specs.Line.{judged};
 ghost use Rattle.lines.specs.Reading.{begun, held, opens, fed, finished, readOf};
+ghost use Rattle.lines.specs.Fault.{signLength, spoiledAt};
 
 // A line so far. Its bytes are given one by one, without the line feed.
 pub struct Line {
@@ -142,4 +143,31 @@ pub fn parse(line: &[u8]) -> Read
         i += 1;
     }
     finish(l)
+}
+
+// How many bytes the sign of a line has: 1 where it begins with a minus.
+fn sign_length(line: &[u8]) -> usize
+    ensures { λ r. ⌜ r ≡ signLength (now (line .entry)) ⌝ }
+{
+    if line.len() == 0 {
+        return 0;
+    }
+    if line[0] == MINUS_SIGN {
+        return 1;
+    }
+    0
+}
+
+// The place of the first byte that no whole number has there, to tell a person; the line's length where there is none.
+pub fn spoiled_at(line: &[u8]) -> usize
+    ensures { λ r. ⌜ r ≡ spoiledAt (now (line .entry)) ⌝ }
+{
+    let mut i = sign_length(line);
+    while i < line.len() {
+        if !text::is_digit(line[i]) {
+            return i;
+        }
+        i += 1;
+    }
+    i
 }

@@ -1,9 +1,10 @@
 // The program: one Z a line from standard input into a fresh run, and at the end a row for each month, or the one
-// line that says which line was refused. `intake` reads, `rows` lays out; here bytes are only moved.
+// line that says which line was refused. `intake` reads, `rows` lays out; here bytes are only moved. Standard error has
+// a refusal in words, by `words`.
 use intake::Session;
-use libc::STDERR_FILENO;
 use libc::STDIN_FILENO;
 use libc::STDOUT_FILENO;
+use quoted::Start;
 use rows::Row;
 use runs::Run;
 ghost use Prim.Native.Nat.{_+_, _≤_, _<_};
@@ -16,23 +17,47 @@ ghost use Rattle.palmer.specs.Printed.{percentAt, rowAt, lineAfter};
 // "Its columns are 2,400 long."
 const MOST_MONTHS: usize = 2_400;
 
-// Room for text, and what a line needs of it.
-const ROOM: usize = 65_536;
-
+// What a row needs at most, and all rows.
 const MOST_ROW: usize = 72;
 
+const ROOM: usize = 172_800;
+
+// No line is at fault yet.
+const NO_LINE: u32 = 4_294_967_295;
+
 // What has been read: how many reads may follow (0: the input has ended or a line is refused), whether a read
-// failed, and the session.
+// failed, the session, and the start of the line that the reading has come to.
 struct Heard {
     left: u64,
     failed: bool,
     session: Session,
+    start: Start,
+}
+
+// The line that a piece of the input is searched for: the one that was refused.
+fn line_at_fault(refused: u8, months: u32) -> u32 {
+    if refused == 0 {
+        return NO_LINE;
+    }
+    line_after(months)
+}
+
+// How many reads may follow one.
+fn reads_left(left: u64, refused: u8) -> u64
+    requires { ⌜ 0 < left ⌝ }
+    ensures { λ r. ⌜ r < left ⌝ }
+{
+    if refused != 0 {
+        return 0;
+    }
+    left - 1
 }
 
 // Reads once, with so many reads left.
 fn read_some(
     left: u64,
     session: Session,
+    start: Start,
     buffer: &mut [u8],
     x1: &mut [i32],
     x2: &mut [i32],
@@ -51,13 +76,18 @@ fn read_some(
             left: 0,
             failed: got < 0,
             session,
+            start,
         };
     }
     let next = intake::take(session, &buffer[..n], x1, x2, x3, index, mark, percent);
+    let refused = next.refused;
+    let run = next.run;
+    let come = quoted::heed(start, line_at_fault(refused, run.months), &buffer[..n]);
     Heard {
-        left: if next.refused == 0 { left - 1 } else { 0 },
+        left: reads_left(left, refused),
         failed: false,
         session: next,
+        start: come,
     }
 }
 
@@ -73,16 +103,20 @@ fn read_all(
     percent: &mut [u32],
 ) -> Heard {
     let fresh = intake::begin();
+    let first = quoted::begin();
     let mut heard = Heard {
         left: u64::MAX,
         failed: false,
         session: fresh,
+        start: first,
     };
     while heard.left > 0 {
         let session = heard.session;
+        let start = heard.start;
         heard = read_some(
             heard.left,
             session,
+            start,
             buffer,
             x1,
             x2,
@@ -137,20 +171,25 @@ fn put_row(
     rows::lay_out(row, at, out)
 }
 
-// Where the next row goes: what has been put is written first, where it leaves too little room.
-fn make_room(at: usize, out: &[u8]) -> usize
-    requires { ⌜ at ≤ length (now out) ⌝ }
-    ensures { λ r. ⌜ r + mostRow ≤ 65536 ⌝ }
+// The number of the line that comes after so many months, counted from 1: each line before it gave a month.
+fn line_after(months: u32) -> u32
+    ensures { λ r. ⌜ r ≡ lineAfter months ⌝ }
 {
-    if at <= ROOM - MOST_ROW {
-        return at;
+    if months < MOST_MONTHS as u32 {
+        return months + 1;
     }
-    io::write_all(STDOUT_FILENO, &out[..at]);
-    0
+    MOST_MONTHS as u32 + 1
 }
 
-// Writes the row of each month, by way of `out`.
-fn print_through(
+// Room for all rows. Its `ensures` gives only the length, which lending it needs.
+fn make_room() -> [u8; ROOM]
+    ensures { λ r. ⌜ 172800 ≡ length r ⌝ }
+{
+    [0; ROOM]
+}
+
+// Puts the row of each month, and answers where they end.
+fn put_rows(
     out: &mut [u8],
     run: Run,
     x1: &[i32],
@@ -159,18 +198,25 @@ fn print_through(
     index: &[i32],
     mark: &[u8],
     percent: &[u32],
-)
-    requires { ⌜ length (now out) ≡ 65536 ⌝ }
+) -> usize
+    requires { ⌜ length (now out) ≡ 172800 ⌝ }
+    ensures { λ r. ⌜ r ≤ 172800 ⌝ }
 {
-    let months = run.months;
+    let end = line_after(run.months) - 1;
     let mut at: usize = 0;
     let mut i: u32 = 0;
-    while i < months {
-        at = make_room(at, out);
+    while i < end {
         at = put_row(run, i, x1, x2, x3, index, mark, percent, at, out);
         i += 1;
     }
-    io::write_all(STDOUT_FILENO, &out[..at]);
+    at
+}
+
+// Writes a text to standard output, or says that it cannot be written.
+fn write_out(text: &[u8]) {
+    if !io::write_all(STDOUT_FILENO, text) {
+        words::unwritten();
+    }
 }
 
 // Writes the row of each month.
@@ -183,25 +229,16 @@ fn print_rows(
     mark: &[u8],
     percent: &[u32],
 ) {
-    let mut out = io::large_buffer();
-    print_through(&mut out, run, x1, x2, x3, index, mark, percent);
-}
-
-// The number of the line that comes after so many months, counted from 1: each line before it gave a month.
-fn line_after(months: u32) -> u32
-    ensures { λ r. ⌜ r ≡ lineAfter months ⌝ }
-{
-    if months < MOST_MONTHS as u32 {
-        return months + 1;
-    }
-    MOST_MONTHS as u32 + 1
+    let mut out = make_room();
+    let end = put_rows(&mut out, run, x1, x2, x3, index, mark, percent);
+    write_out(&out[..end]);
 }
 
 // Writes which line was refused, and why.
-fn print_refusal(months: u32, number: u8) {
+fn print_refusal(line: u32, number: u8) {
     let mut out = [0u8; MOST_ROW];
-    let end = rows::lay_refusal(line_after(months), number, 0, &mut out);
-    io::write_all(STDOUT_FILENO, &out[..end]);
+    let end = rows::lay_refusal(line, number, 0, &mut out);
+    write_out(&out[..end]);
 }
 
 fn main() {
@@ -222,7 +259,7 @@ fn main() {
         &mut percent,
     );
     if heard.failed {
-        io::write_all(STDERR_FILENO, b"palmer: the input cannot be read\n");
+        words::unread();
         return;
     }
     let read = heard.session;
@@ -236,8 +273,11 @@ fn main() {
         &mut percent,
     );
     let run = s.run;
-    if s.refused != 0 {
-        print_refusal(run.months, s.refused);
+    let number = s.refused;
+    if number != 0 {
+        let line = line_after(run.months);
+        print_refusal(line, number);
+        words::explain(line, number, heard.start);
         return;
     }
     print_rows(run, &x1, &x2, &x3, &index, &mark, &percent);

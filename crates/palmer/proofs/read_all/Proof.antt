@@ -16,6 +16,9 @@ abbrev μ-loop : tie.MeasureT-loop
 begin-requires : tie.Need-begin-requires Inv-loop μ-loop
 begin-requires c κs = search needs
 
+begin-requires-2 : tie.Need-begin-requires-2 Inv-loop μ-loop
+begin-requires-2 c κs = search needs
+
 loop-holds : tie.Need-loop-holds Inv-loop μ-loop
 loop-holds c = (refl, refl, refl, refl, refl, refl, refl)
 
@@ -28,14 +31,14 @@ loop-less c = (c .before .before .before .before .before .before .before .before
 loop-again : tie.Need-loop-again Inv-loop μ-loop
 loop-again c =
     let r = c .before .before .before .before .before .before .before .before .before .before in
-    let v = (r .before .before .before .before .before .before .before .before .before .before .before) .loop .inv in (
-      r .read-some .kept .1 .1 .0 ∙ v .0,
-      r .read-some .kept .1 .1 .1 .0 ∙ v .1,
-      r .read-some .kept .1 .1 .1 .1 .0 ∙ v .2,
-      r .read-some .kept .1 .1 .1 .1 .1 .0 ∙ v .3,
-      r .read-some .kept .1 .1 .1 .1 .1 .1 .0 ∙ v .4,
-      r .read-some .kept .1 .1 .1 .1 .1 .1 .1 .0 ∙ v .5,
-      r .read-some .kept .1 .1 .1 .1 .1 .1 .1 .1 .0 ∙ v .6,
+    let v = (r .before .before .before .before .before .before .before .before .before .before .before .before) .loop .inv in (
+      r .read-some .kept .1 .1 .1 .0 ∙ v .0,
+      r .read-some .kept .1 .1 .1 .1 .0 ∙ v .1,
+      r .read-some .kept .1 .1 .1 .1 .1 .0 ∙ v .2,
+      r .read-some .kept .1 .1 .1 .1 .1 .1 .0 ∙ v .3,
+      r .read-some .kept .1 .1 .1 .1 .1 .1 .1 .0 ∙ v .4,
+      r .read-some .kept .1 .1 .1 .1 .1 .1 .1 .1 .0 ∙ v .5,
+      r .read-some .kept .1 .1 .1 .1 .1 .1 .1 .1 .1 .0 ∙ v .6,
     )
 
 same-length : tie.Need-same-length Inv-loop μ-loop
@@ -69,6 +72,7 @@ read-all-spec =
     Inv-loop
     μ-loop
     begin-requires
+    begin-requires-2
     loop-holds
     read-some-requires
     loop-less

@@ -1,6 +1,4 @@
 -- `palmer::read_some` is safe and ends, with fewer reads left. Assumes nothing.
-use Prim.Native.Nat.{ℕ, _-_, _<_}
-use native.Mathlib.Omega.{arith}
 use borrow.Author.Needs.{needs}
 use Rattle.palmer.proofs.read_some.Statement.{statement}
 use Rattle.palmer.proofs.read_some.Tie as tie
@@ -26,18 +24,23 @@ slice-aggregate-take c = search needs
 take-requires : tie.Need-take-requires
 take-requires c κs = search needs
 
-one-less : (n : ℕ) → 0 < n → n - 1 < n
-one-less n h = omega arith
+line-at-fault-requires : tie.Need-line-at-fault-requires
+line-at-fault-requires c κs = search needs
 
--- where the function began
-abbrev began : tie.Then2 → tie.Start
-began c = c .before .before .before .before .before .before .before .before .before .before .before .before .before .before .before .before .before .before .before .before .before .before .before .before .before .before .before
+slice-reshare-prefix-heed : tie.Need-slice-reshare-prefix-heed
+slice-reshare-prefix-heed c = search needs
 
-sub-t42 : tie.Need-sub-t42
-sub-t42 c = began c .pre
+slice-aggregate-heed : tie.Need-slice-aggregate-heed
+slice-aggregate-heed c = search needs
+
+heed-requires : tie.Need-heed-requires
+heed-requires c κs = search needs
+
+reads-left-requires : tie.Need-reads-left-requires
+reads-left-requires c κs = (c .before .before .before .before .before .before .before .before .before .before .before .before .before .before .before .before .before .before .before .before .before .before .before .before .before .before .before .before .before .before) .pre
 
 same-length-2 : tie.Need-same-length-2
-same-length-2 c = search needs
+same-length-2 c = (c .before .before .before .before .before .before .before .before .before .before .before .before .before .before .before .before .before .before .before .before .before .before .before .before .before .before) .read .kept .1 .0
 
 same-length-3 : tie.Need-same-length-3
 same-length-3 c = search needs
@@ -58,31 +61,7 @@ same-length-8 : tie.Need-same-length-8
 same-length-8 c = search needs
 
 returns-2 : tie.Need-returns-2
-returns-2 c = one-less (began c .args .left) (began c .pre)
-
-same-length-9 : tie.Need-same-length-9
-same-length-9 c = search needs
-
-same-length-10 : tie.Need-same-length-10
-same-length-10 c = search needs
-
-same-length-11 : tie.Need-same-length-11
-same-length-11 c = search needs
-
-same-length-12 : tie.Need-same-length-12
-same-length-12 c = search needs
-
-same-length-13 : tie.Need-same-length-13
-same-length-13 c = search needs
-
-same-length-14 : tie.Need-same-length-14
-same-length-14 c = search needs
-
-same-length-15 : tie.Need-same-length-15
-same-length-15 c = search needs
-
-returns-3 : tie.Need-returns-3
-returns-3 c = (c .before .before .before .before .before .before .before .before .before .before .before .before .before .before .before .before .before .before .before .before .before .before .before .before .before .before .before) .pre
+returns-2 c = search needs
 
 pub read-some-spec : {M : Type 1} → statement M
 read-some-spec =
@@ -95,7 +74,11 @@ read-some-spec =
     slice-reshare-prefix-take
     slice-aggregate-take
     take-requires
-    sub-t42
+    line-at-fault-requires
+    slice-reshare-prefix-heed
+    slice-aggregate-heed
+    heed-requires
+    reads-left-requires
     same-length-2
     same-length-3
     same-length-4
@@ -103,12 +86,4 @@ read-some-spec =
     same-length-6
     same-length-7
     same-length-8
-    returns-2
-    same-length-9
-    same-length-10
-    same-length-11
-    same-length-12
-    same-length-13
-    same-length-14
-    same-length-15
-    returns-3)
+    returns-2)

@@ -1,0 +1,111 @@
+// The start of a line of the input, kept so that a person can be told what was read where the line is refused.
+//
+// Every call here serves the printing program alone. It learns that a line was refused when a piece of the input has been
+// taken, and which line that was; the start of that line is found by going over the same piece.
+
+ghost use mathlib.Core.Path.{_≡_};
+ghost use mathlib.Core.List.{foldl};
+ghost use Rattle.quoted.specs.Start.{fresh, withByte, lineEnded, heeded};
+
+pub struct Start {
+    // The number of the line that is being read, counted from 1.
+    pub line: u32,
+    // Whether it is the line at fault, and has ended: then nothing more is looked at.
+    pub ended: bool,
+    // How many of its bytes are kept, the first ones, and whether it has more.
+    pub kept: usize,
+    pub more: bool,
+    pub bytes: [u8; 40],
+}
+
+const ROOM: usize = 40;
+
+const LINE_FEED: u8 = 10;
+
+// Before the first byte of the input.
+pub fn begin() -> Start
+    ensures { λ r. ⌜ r ≡ fresh ⌝ }
+{
+    let bytes = [0u8; ROOM];
+    Start {
+        line: 1,
+        ended: false,
+        kept: 0,
+        more: false,
+        bytes,
+    }
+}
+
+// One byte more of the line.
+fn keep(s: Start, b: u8) -> Start
+    ensures { λ r. ⌜ r ≡ withByte s b ⌝ }
+{
+    let kept = s.kept;
+    let mut bytes = s.bytes;
+    if kept < ROOM {
+        bytes[kept] = b;
+        return Start {
+            line: s.line,
+            ended: s.ended,
+            kept: kept + 1,
+            more: s.more,
+            bytes,
+        };
+    }
+    Start {
+        line: s.line,
+        ended: s.ended,
+        kept,
+        more: true,
+        bytes,
+    }
+}
+
+// The line ends: it is the one at fault, or the next begins.
+fn end_line(s: Start, fault: u32) -> Start
+    ensures { λ r. ⌜ r ≡ lineEnded fault s ⌝ }
+{
+    let bytes = s.bytes;
+    if s.line < fault {
+        return Start {
+            line: s.line + 1,
+            ended: false,
+            kept: 0,
+            more: false,
+            bytes,
+        };
+    }
+    Start {
+        line: s.line,
+        ended: true,
+        kept: s.kept,
+        more: s.more,
+        bytes,
+    }
+}
+
+// One byte more of the input.
+fn heed_byte(s: Start, fault: u32, b: u8) -> Start
+    ensures { λ r. ⌜ r ≡ heeded fault s b ⌝ }
+{
+    if s.ended {
+        return s;
+    }
+    if b == LINE_FEED {
+        return end_line(s, fault);
+    }
+    keep(s, b)
+}
+
+// A piece of the input more, up to the end of the line at fault, which is counted from 1.
+pub fn heed(s: Start, fault: u32, piece: &[u8]) -> Start
+    ensures { λ r. ⌜ r ≡ foldl (heeded fault) s (now (piece .entry)) ⌝ }
+{
+    let mut t = s;
+    let mut i = 0;
+    while i < piece.len() {
+        t = heed_byte(t, fault, piece[i]);
+        i += 1;
+    }
+    t
+}

@@ -1,0 +1,217 @@
+// What the printing program says on standard error: of a refused line its number, what was read, what was expected and
+// what the refusal's number means. Every call here serves that program alone. No contract can say what is written, so
+// these functions are proved safe and ending, and tests/program.py holds the words to a table.
+use libc::STDERR_FILENO;
+use quoted::Start;
+ghost use Prim.Native.Nat.{_<_};
+ghost use lib.ListN.{length};
+
+// How much of a line is kept to be quoted.
+const ROOM: usize = 40;
+
+// The refusals.
+const FULL: u8 = 10;
+
+const BAD_Z: u8 = 12;
+
+fn say(text: &[u8]) {
+    io::write_all(STDERR_FILENO, text);
+}
+
+fn say_number(n: u32) {
+    io::print_decimal(STDERR_FILENO, n as u64);
+}
+
+pub fn unread() {
+    say(b"palmer: the input cannot be read\n");
+}
+
+pub fn unwritten() {
+    say(b"palmer: the output cannot be written\n");
+}
+
+// A byte as it is quoted: a question mark stands for one that cannot be shown.
+fn shown(b: u8) -> u8 {
+    if b < b' ' {
+        return b'?';
+    }
+    if b > b'~' {
+        return b'?';
+    }
+    b
+}
+
+// A line's start as it is quoted.
+fn all_shown(bytes: [u8; ROOM]) -> [u8; ROOM] {
+    let mut text = bytes;
+    let mut i = 0;
+    while i < ROOM {
+        text[i] = shown(text[i]);
+        i += 1;
+    }
+    text
+}
+
+// What was read.
+fn say_read(start: Start) {
+    let bytes = start.bytes;
+    let text = all_shown(bytes);
+    let kept = start.kept;
+    say(b"; read \"");
+    if kept <= ROOM {
+        say(&text[..kept]);
+    }
+    if start.more {
+        say(b"..");
+    }
+    say(b"\"");
+}
+
+// A carriage return, the last byte of its line or not.
+fn say_return(last: bool) {
+    if last {
+        say(
+            b"a carriage return at the end: the lines end in CR LF, and a line feed alone is taken",
+        );
+        return;
+    }
+    say(b"a carriage return");
+}
+
+// Whether nothing follows a place but spaces.
+fn only_spaces(text: &[u8], from: usize) -> bool {
+    let mut i = from;
+    while i < text.len() {
+        if text[i] != b' ' {
+            return false;
+        }
+        i += 1;
+    }
+    true
+}
+
+// A space, at a place of the line.
+fn say_space(text: &[u8], at: usize) {
+    if at == 0 {
+        say(b"a space before the number");
+        return;
+    }
+    if only_spaces(text, at) {
+        say(b"a space after the number");
+        return;
+    }
+    say(b"a space: a line has one number");
+}
+
+// The first byte of the first line, which is no space and no carriage return.
+fn say_first(b: u8) {
+    if b == 0xEF {
+        say(b"a byte order mark: save the file without it");
+        return;
+    }
+    if b >= 0xFE {
+        say(b"a byte order mark of UTF-16: save the file as plain text");
+        return;
+    }
+    say(b"a header, or another word: the file has numbers alone");
+}
+
+// A byte that stands where no number has it, by what it is.
+fn say_byte(b: u8) {
+    match b {
+        b'\t' => say(b"a tab"),
+        b',' => say(b"a comma: a line has one number, in whole thousandths"),
+        b'-' => say(b"a minus that is not in front"),
+        b'.' => say(b"a point: a number is in whole thousandths, as 1040 for 1.04"),
+        b'A'..=b'Z' | b'a'..=b'z' => say(b"a letter"),
+        128..=255 => say(b"a byte above 127, which is no plain text"),
+        _ => say(b"no digit"),
+    }
+}
+
+// Whether a byte is told apart wherever it stands.
+fn is_mark(b: u8) -> bool {
+    match b {
+        b'\t' | b'+' | b',' | b'-' | b'.' => true,
+        _ => false,
+    }
+}
+
+// The fault at a place of the line.
+fn say_fault(line: u32, text: &[u8], at: usize)
+    requires { ⌜ at < length (now text) ⌝ }
+{
+    let b = text[at];
+    if b == b'\r' {
+        say_return(at + 1 == text.len());
+        return;
+    }
+    if b == b' ' {
+        say_space(text, at);
+        return;
+    }
+    if b == b'+' {
+        say(b"a plus sign: a number above 0 has none");
+        return;
+    }
+    if line == 1 && at == 0 && !is_mark(b) {
+        say_first(b);
+        return;
+    }
+    say_byte(b);
+}
+
+// 13: where the line is at fault.
+fn explain_line(line: u32, text: &[u8], more: bool) {
+    let at = lines::spoiled_at(text);
+    if at < text.len() {
+        say(b", column ");
+        io::print_decimal(STDERR_FILENO, at as u64 + 1);
+        say(b": ");
+        say_fault(line, text, at);
+        return;
+    }
+    if more {
+        say(b": past column 40 something that is no digit");
+        return;
+    }
+    if at == 0 {
+        say(b": it is blank");
+        return;
+    }
+    say(b", column 2: no digit after the minus");
+}
+
+fn explain_kept(line: u32, bytes: [u8; ROOM], kept: usize, more: bool) {
+    if kept <= ROOM {
+        explain_line(line, &bytes[..kept], more);
+    }
+}
+
+fn explain_text(line: u32, start: Start) {
+    let bytes = start.bytes;
+    explain_kept(line, bytes, start.kept, start.more);
+    say_read(start);
+    say(
+        b"; expected a whole number of thousandths, as -3000 or 1040; 13 means: a line is not a whole number\n",
+    );
+}
+
+// Says in words why a line was refused.
+pub fn explain(line: u32, number: u8, start: Start) {
+    say(b"palmer: line ");
+    say_number(line);
+    if number == FULL {
+        say(b": a month too many");
+        say_read(start);
+        say(b"; expected at most 2400 lines; 10 means: months already equal the column length\n");
+        return;
+    }
+    if number == BAD_Z {
+        say(b": outside the range of Z");
+        say_read(start);
+        say(b"; expected -4000000 to 4000000; 12 means: Z outside its range\n");
+        return;
+    }
+    explain_text(line, start);
+}
