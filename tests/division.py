@@ -258,12 +258,17 @@ WORDS = [
     ([year(1896)[:9] + b'x' + year(1896)[10:]], b'line 2, column 7: no digits'),
     ([year(1896).replace(b'   7.03', b'   7,03')], b'line 2, column 11: month 1 is neither -9.99 nor 0.00 to 100.00 inches, as the layout has them'),
     ([year(1896), year(1897).replace(b'   3.66', b' 100.01')], b'line 3, column 88: month 12 is neither -9.99 nor 0.00 to 100.00 inches, as the layout has them'),
-    ([year(1896) + b'\r'], b'line 2, column 95: something after the last value that is no space'),
+    ([year(1896) + b'\r'], b'line 2, column 95: a carriage return; the file has CR LF line ends, and the layout a line feed alone'),
+    ([year(1896).rstrip() + b'\r'], b'line 2, column 95: a carriage return; the file has CR LF line ends, and the layout a line feed alone'),
+    ([year(1896) + b'x'], b'line 2, column 95: something after the last value that is no space'),
+    ([year(1896).replace(b'   7.03', b'   7.03,')], b'line 2, column 18: month 2 is neither -9.99 nor 0.00 to 100.00 inches, as the layout has them'),
+    ([b'5.56,4.80'], b'line 2: it ends after column 9, and the layout has 94'),
     ([year(1897)], b'line 2: the year is 1897, and 1896 was to follow'),
     ([year(1895, state=2), year(1895)], b'line 3: the year is 1895, and 1896 was to follow'),
 ]
 # and where no line is of state 48, division 10
-NOWHERE = [([], b'the input is empty'), ([year(1895)], b'no line up to line 1 is precipitation of state 48, division 10')]
+NOWHERE = [([], b'the input is empty'), ([b'\xef\xbb\xbf' + year(1895)], b'line 1, column 1: a byte order mark; save the file without it'),
+           ([b'state,division,year,january'], b'line 1: it ends after column 27, and the layout has 94'), ([year(1895)], b'no line up to line 1 is precipitation of state 48, division 10')]
 
 
 def words():

@@ -2,7 +2,9 @@
 """Runs the program on good, bad and large inputs and compares what it prints with what the outline says.
 
 The lines are judged and the rows worked out here, by source_tables.py's reading of the outline. Each input is given
-whole and, through a pipe, in pieces that cut lines anywhere. It prints how many inputs were run.
+whole and, through a pipe, in pieces that cut lines anywhere. What is said of a refused line on standard error is held to
+a table, WORDS, and for every other input to its form: the line's number, what was read, what the number means. It prints
+how many inputs were run.
 """
 import random
 import re
@@ -104,6 +106,89 @@ INPUTS = [
 ]
 
 
+# what the refusals' numbers mean, and what was expected
+MEANS = {
+    10: b'expected at most 2400 lines; 10 means: months already equal the column length\n',
+    12: b'expected -4000000 to 4000000; 12 means: Z outside its range\n',
+    13: b'expected a whole number of thousandths, as -3000 or 1040; 13 means: a line is not a whole number\n',
+}
+
+# what is said of an input, up to what was expected
+WORDS = [
+    (b'5.56,4.80\n', b'line 1, column 2: a point: a number is in whole thousandths, as 1040 for 1.04; read "5.56,4.80"'),
+    (b'abc\n', b'line 1, column 1: a header, or another word: the file has numbers alone; read "abc"'),
+    (b'0\nabc\n', b'line 2, column 1: a letter; read "abc"'),
+    (b'0\nT\n', b'line 2, column 1: a letter; read "T"'),
+    (b'1,53\n', b'line 1, column 2: a comma: a line has one number, in whole thousandths; read "1,53"'),
+    (b'62mm\n', b'line 1, column 3: a letter; read "62mm"'),
+    (b'1\r\n2\r\n', b'line 1, column 2: a carriage return at the end: the lines end in CR LF, and a line feed alone is taken; read "1?"'),
+    (b'\r\n', b'line 1, column 1: a carriage return at the end: the lines end in CR LF, and a line feed alone is taken; read "?"'),
+    (b'1\r2\r', b'line 1, column 2: a carriage return; read "1?2?"'),
+    (b'\xef\xbb\xbf1\n', b'line 1, column 1: a byte order mark: save the file without it; read "???1"'),
+    (b'\xff\xfe1\0\n\0', b'line 1, column 1: a byte order mark of UTF-16: save the file as plain text; read "??1?"'),
+    (b'0\n\xef\xbb\xbf1\n', b'line 2, column 1: a byte above 127, which is no plain text; read "???1"'),
+    (b'Z\n1\n', b'line 1, column 1: a header, or another word: the file has numbers alone; read "Z"'),
+    (b'"month","z"\n', b'line 1, column 1: a header, or another word: the file has numbers alone; read ""month","z""'),
+    (b'# Z\n', b'line 1, column 1: a header, or another word: the file has numbers alone; read "# Z"'),
+    (b'1\n# Z\n', b'line 2, column 1: no digit; read "# Z"'),
+    (b'1040 \n', b'line 1, column 5: a space after the number; read "1040 "'),
+    (b'1040   \n', b'line 1, column 5: a space after the number; read "1040   "'),
+    (b' 1040\n', b'line 1, column 1: a space before the number; read " 1040"'),
+    (b'1 040\n', b'line 1, column 2: a space: a line has one number; read "1 040"'),
+    (b' \n', b'line 1, column 1: a space before the number; read " "'),
+    (b'1\t2\n', b'line 1, column 2: a tab; read "1?2"'),
+    (b'\t1\n', b'line 1, column 1: a tab; read "?1"'),
+    (b'+1\n', b'line 1, column 1: a plus sign: a number above 0 has none; read "+1"'),
+    (b'0\n1+1\n', b'line 2, column 2: a plus sign: a number above 0 has none; read "1+1"'),
+    (b'.5\n', b'line 1, column 1: a point: a number is in whole thousandths, as 1040 for 1.04; read ".5"'),
+    (b',5\n', b'line 1, column 1: a comma: a line has one number, in whole thousandths; read ",5"'),
+    (b'--1\n', b'line 1, column 2: a minus that is not in front; read "--1"'),
+    (b'1-2\n', b'line 1, column 2: a minus that is not in front; read "1-2"'),
+    ('\u22121\n'.encode(), b'line 1, column 1: a byte above 127, which is no plain text; read "???1"'),
+    ('\uff11\n'.encode(), b'line 1, column 1: a byte above 127, which is no plain text; read "???"'),
+    (b'\xfe\xff\0001', b'line 1, column 1: a byte order mark of UTF-16: save the file as plain text; read "???1"'),
+    (b'1\n' + '\u22121\n'.encode(), b'line 2, column 1: a byte above 127, which is no plain text; read "???1"'),
+    (b'1\0\n', b'line 1, column 2: no digit; read "1?"'),
+    (b'1\n\n', b'line 2: it is blank; read ""'),
+    (b'\n', b'line 1: it is blank; read ""'),
+    (b'1\n-\n', b'line 2, column 2: no digit after the minus; read "-"'),
+    (b'-', b'line 1, column 2: no digit after the minus; read "-"'),
+    (b'4000001\n', b'line 1: outside the range of Z; read "4000001"'),
+    (b'0\n-4000001', b'line 2: outside the range of Z; read "-4000001"'),
+    (b'7' * 40 + b'\n', b'line 1: outside the range of Z; read "' + b'7' * 40 + b'"'),
+    (b'7' * 41 + b'\n', b'line 1: outside the range of Z; read "' + b'7' * 40 + b'.."'),
+    (b'0' * 39 + b'x\n', b'line 1, column 40: a letter; read "' + b'0' * 39 + b'x"'),
+    (b'0' * 40 + b'x\n', b'line 1: past column 40 something that is no digit; read "' + b'0' * 40 + b'.."'),
+    (b'0' * 39 + b'\r\n', b'line 1, column 40: a carriage return at the end: the lines end in CR LF, and a line feed alone is taken; read "' + b'0' * 39 + b'?"'),
+    (ordinary(2400, 9) + b'12\n', b'line 2401: a month too many; read "12"'),
+    (ordinary(2400, 9) + b'\n', b'line 2401: it is blank; read ""'),
+]
+
+
+def shown(data):
+    """A line's start as it is quoted."""
+    return bytes(b if 32 <= b <= 126 else ord('?') for b in data[:40]) + (b'..' if len(data) > 40 else b'')
+
+
+def is_said(err, data, refusal):
+    """Whether what is said of a refused line has its number, its start, and what the refusal's number means."""
+    _, number, name = refusal.split()
+    line = data.split(b'\n')[int(number) - 1]
+    form = rb'palmer: line %s(, column [0-9]+)?: [^\n]*; read "%s"; %s' % (number.encode(), re.escape(shown(line)), re.escape(MEANS[int(name)]))
+    return re.fullmatch(form, err) is not None
+
+
+def words():
+    """What is said of the inputs of the table, given whole, in pieces and a byte at a time."""
+    for data, said in WORDS:
+        number = int(expected(data).split()[2])
+        right = b'palmer: ' + said + b'; ' + MEANS[number]
+        for pieces in (1, 7, len(data) if len(data) < 100 else 3):
+            err = running.printed(COMMAND, data, pieces)[1]
+            if err != right:
+                sys.exit('program: %r, in %d pieces: it says %r, and not %r' % (data[-50:], pieces, err, right))
+
+
 def drawn(seed):
     """A short input of bytes that often make lines, and sometimes spoil them."""
     draw = random.Random(seed)
@@ -128,10 +213,13 @@ def main():
             refused[number] = refused.get(number, 0) + 1
         for pieces in (1, 7):
             out, err, status = running.printed(COMMAND, data, pieces)
-            if (out, err, status) != (right.encode(), b'', 0):
+            if (out, status) != (right.encode(), 0):
                 sys.exit('program: %s, in %d pieces: status %d, %r; it should print %r' % (name, pieces, status, (out + err)[:200], right[:200]))
+            if not (is_said(err, data, right) if right.startswith('refused') else err == b''):
+                sys.exit('program: %s, in %d pieces: it says %r' % (name, pieces, err[:300]))
+    words()
     counts = ', '.join('%d with %d' % (refused[k], k) for k in sorted(refused))
-    print('program: %d inputs, each whole and in pieces, no difference; refused: %s' % (len(inputs), counts))
+    print('program: %d inputs, each whole and in pieces, no difference; refused: %s; words of %d' % (len(inputs), counts, len(WORDS)))
 
 
 if __name__ == '__main__':

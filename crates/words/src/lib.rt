@@ -103,17 +103,19 @@ fn say_space(text: &[u8], at: usize) {
     say(b"a space: a line has one number");
 }
 
-// The first byte of the first line, which is no space and no carriage return.
-fn say_first(b: u8) {
-    if b == 0xEF {
-        say(b"a byte order mark: save the file without it");
-        return;
+// Whether a text begins with a byte order mark of UTF-8, or of UTF-16.
+fn has_mark(text: &[u8]) -> bool {
+    if text.len() < 3 {
+        return false;
     }
-    if b >= 0xFE {
-        say(b"a byte order mark of UTF-16: save the file as plain text");
-        return;
+    text[0] == 0xEF && text[1] == 0xBB && text[2] == 0xBF
+}
+
+fn has_wide_mark(text: &[u8]) -> bool {
+    if text.len() < 2 {
+        return false;
     }
-    say(b"a header, or another word: the file has numbers alone");
+    text[0] == 0xFF && text[1] == 0xFE || text[0] == 0xFE && text[1] == 0xFF
 }
 
 // A byte that stands where no number has it, by what it is.
@@ -127,6 +129,23 @@ fn say_byte(b: u8) {
         128..=255 => say(b"a byte above 127, which is no plain text"),
         _ => say(b"no digit"),
     }
+}
+
+// The start of the first line, whose first byte is none that is told apart wherever it stands.
+fn say_first(text: &[u8], b: u8) {
+    if has_mark(text) {
+        say(b"a byte order mark: save the file without it");
+        return;
+    }
+    if has_wide_mark(text) {
+        say(b"a byte order mark of UTF-16: save the file as plain text");
+        return;
+    }
+    if b >= 128 {
+        say_byte(b);
+        return;
+    }
+    say(b"a header, or another word: the file has numbers alone");
 }
 
 // Whether a byte is told apart wherever it stands.
@@ -155,7 +174,7 @@ fn say_fault(line: u32, text: &[u8], at: usize)
         return;
     }
     if line == 1 && at == 0 && !is_mark(b) {
-        say_first(b);
+        say_first(text, b);
         return;
     }
     say_byte(b);
