@@ -1,68 +1,587 @@
-/* A station's card from end to end, in C: reads a station file, adds each month's water, and prints what the
- * card would show. With a number as its argument it adds so many months at a time, as a card that was offline
- * would. See host/run.
+/* A station's card from end to end, in C: reads a station file, adds each month's water to a run, and prints
+ * what the card would show. station.rs is the same program in Rust.
  *
- * The file: capacity, surface storage, underlying storage and start month; twelve lines of alpha, beta, gamma,
- * delta, K; then a line for each month, precipitation and PE in inches, or a dash for a missing reading. */
+ *   station [MONTHS] <FILE
+ *
+ * Without MONTHS the months are added one by one; with it, 1 to 2400, so many in a call, as by a card that was
+ * offline.
+ *
+ * The file is plain text (ASCII), at most 1048576 bytes, its lines closed by a line feed; the last line, end,
+ * may also be closed by the end of the input. A line that begins with # is a comment: it may stand anywhere
+ * before end, and what it holds is not looked at. Every other line is words parted by spaces, in this order:
+ *
+ *   capacity 6000                        thousandths of an inch
+ *   surface 0                            what the surface layer stores at the start, thousandths
+ *   underlying 1330                      what the underlying layer stores at the start
+ *   constants alpha beta gamma delta K   these words
+ *   January 9466 722 23 4694 25800       twelve lines, January to December, ten-thousandths
+ *   months inches                        or: months millimetres
+ *   1932-06 5.56 4.80                    year and month, precipitation, PE; each month follows the one before
+ *   end                                  nothing after it
+ *
+ * A whole number is digits, perhaps after a minus, within 32 bits; a reading is the same with perhaps a point
+ * and more digits, or a dash alone, which is a missing reading.
+ *
+ * Nothing is printed on standard output before the whole file was found good, the run was started and every
+ * month was added: a card must not show figures of half a file. What is wrong is said in one line on standard
+ * error, with the line and column, and the status is
+ *
+ *   0  done
+ *   1  the file is not as above, or the library refuses something in it
+ *   2  wrong arguments, or standard input cannot be read
+ *   3  standard output cannot be written
+ *
+ * What a number may be is the library's to say, and is not tested here: where the library refuses, the program
+ * only finds the word that it was about. */
 #include "card.h"
 
+#include <inttypes.h>
+#include <signal.h>
+#include <stdarg.h>
 #include <stdio.h>
 #include <stdlib.h>
 #include <string.h>
 
-static int32_t x1[CARD_MOST_MONTHS], x2[CARD_MOST_MONTHS], x3[CARD_MOST_MONTHS], index_[CARD_MOST_MONTHS];
-static uint8_t mark[CARD_MOST_MONTHS];
+enum { REFUSED = 1, NOT_READ = 2, NOT_WRITTEN = 3 };
+enum { MOST_BYTES = 1048576, MOST_SHOWN = 40 };
 
-static int32_t whole(void) {
-    int n;
-    if (scanf("%d", &n) != 1) {
-        fputs("station: a whole number is missing\n", stderr);
-        exit(1);
-    }
-    return n;
+static const char *const CALENDAR[12] = {"January", "February", "March",     "April",   "May",      "June",
+                                         "July",    "August",   "September", "October", "November", "December"};
+static const char *const CONSTANT[5] = {"alpha", "beta", "gamma", "delta", "K"};
+/* The ranges in words, for whom the library has refused; see card_start. */
+static const char *const CONSTANT_RANGE[5] = {"0 to 10000", "0 to 10000", "0 to 50000", "0 to 10000",
+                                              "0 to 100000"};
+
+/* ---- What is said ----------------------------------------------------------------------------------------- */
+
+/* Says a line on standard error and ends the program. */
+static void stop(int status, const char *format, ...) {
+    va_list values;
+    va_start(values, format);
+    fputs("station: ", stderr);
+    vfprintf(stderr, format, values);
+    fputc('\n', stderr);
+    va_end(values);
+    exit(status);
 }
 
-static card_started start(void) {
-    int32_t constants[CARD_CONSTANTS];
-    int32_t capacity = whole(), surface = whole(), underlying = whole(), month = whole();
-    for (int i = 0; i < CARD_CONSTANTS; i++) constants[i] = whole();
-    return card_start(constants, CARD_CONSTANTS, capacity, surface, underlying, month);
+/* A place in the file, counted from 1; column 0 where it is a line as a whole, or the end of the file. */
+typedef struct place {
+    size_t line;
+    size_t column;
+} place;
+
+/* Says what is wrong at a place of the file, and ends the program. */
+static void refuse(place at, const char *format, ...) {
+    va_list values;
+    va_start(values, format);
+    fprintf(stderr, "station: line %zu", at.line);
+    if (at.column > 0) fprintf(stderr, ", column %zu", at.column);
+    fputs(": ", stderr);
+    vfprintf(stderr, format, values);
+    fputc('\n', stderr);
+    va_end(values);
+    exit(REFUSED);
 }
 
-/* A reading as a station writes it; 1 where there is one. */
-static int reading(card_reading *r) {
-    char word[64];
-    if (scanf("%63s", word) != 1) return 0;
-    *r = strcmp(word, "-") == 0 ? card_missing() : card_inches(strtof(word, NULL));
+/* A word as it can be said in one line: of a long one the beginning, and ? for a byte that is no plain text. It
+ * holds until the next call. */
+static const char *shown(const char *text, size_t length) {
+    static char held[MOST_SHOWN + 3];
+    size_t n = length < MOST_SHOWN ? length : MOST_SHOWN;
+    for (size_t i = 0; i < n; i++) held[i] = text[i] < 32 || text[i] > 126 ? '?' : text[i];
+    strcpy(held + n, length > n ? ".." : "");
+    return held;
+}
+
+/* ---- Lines and words -------------------------------------------------------------------------------------- */
+
+/* A word of the file, and where it begins. */
+typedef struct word {
+    const char *text;
+    size_t length;
+    place at;
+} word;
+
+/* The file, and how far it was read. */
+typedef struct scanner {
+    const char *text;
+    size_t length;
+    size_t next;   /* where the next line begins */
+    size_t closed; /* how many line feeds stand before it */
+    size_t line;   /* the line at hand: its number, where it begins and ends, and how far it was read */
+    size_t begin;
+    size_t end;
+    size_t at;
+    size_t words;         /* how many words of it were taken */
+    size_t lines;         /* how many lines were opened before it, comments not counted */
+    const char *expected; /* what it should hold, */
+    const char *other;    /* or else */
+} scanner;
+
+/* The places of a line, of a byte of it as the file counts them, and of a byte of a word. */
+static place whole_line(const scanner *s) {
+    place p = {s->line, 0};
+    return p;
+}
+
+static place in_line(const scanner *s, size_t at) {
+    place p = {s->line, at - s->begin + 1};
+    return p;
+}
+
+static place in_word(word w, size_t i) {
+    place p = {w.at.line, w.at.column + i};
+    return p;
+}
+
+/* A word for a message: see shown, of which a message can have one. */
+static const char *said(word w) { return shown(w.text, w.length); }
+
+/* Whether it is this word, letter by letter, capitals too. */
+static int is(word w, const char *name) {
+    return w.length == strlen(name) && memcmp(w.text, name, w.length) == 0;
+}
+
+/* Goes to the next line, whatever it holds; 0 where the file has ended. */
+static int next_line(scanner *s) {
+    s->line = s->closed + 1;
+    if (s->next == s->length) return 0;
+    const char *feed = memchr(s->text + s->next, '\n', s->length - s->next);
+    s->begin = s->at = s->next;
+    s->end = feed == NULL ? s->length : (size_t)(feed - s->text);
+    s->next = feed == NULL ? s->length : s->end + 1;
+    s->closed += feed != NULL;
+    s->words = 0;
     return 1;
 }
 
-static card_added add(card_run run, card_reading p, card_reading pe) {
-    return card_add_water(run, p, pe, x1, CARD_MOST_MONTHS, x2, CARD_MOST_MONTHS, x3, CARD_MOST_MONTHS,
-                          index_, CARD_MOST_MONTHS, mark, CARD_MOST_MONTHS);
+/* The end of the file where a line should stand. The first line that is asked for is the first that is no
+ * comment. */
+static void refuse_end(const scanner *s) {
+    if (s->length == 0) refuse(whole_line(s), "the file is empty; expected: %s", s->expected);
+    if (s->lines == 0) refuse(whole_line(s), "the file has only comments; expected: %s", s->expected);
+    refuse(whole_line(s), "the file ends without its last line, end; it may be cut short");
 }
 
-static void show(card_run run) {
-    puts("month X1 X2 X3 index mark");
-    for (uint32_t i = 0; i < run.months; i++) {
-        card_shown r = card_row(run, i, x1, CARD_MOST_MONTHS, x2, CARD_MOST_MONTHS, x3, CARD_MOST_MONTHS,
-                                index_, CARD_MOST_MONTHS, mark, CARD_MOST_MONTHS);
-        printf("%u %d %d %d %d %c\n", i + 1, r.x1, r.x2, r.x3, r.index, r.mark == CARD_SETTLED ? 'S' : 'O');
+/* A byte that is no plain text. Those that an editor leaves unseen are named. */
+static void refuse_byte(const scanner *s, size_t at) {
+    const char *byte = s->text + at;
+    size_t left = s->end - at;
+    place here = in_line(s, at);
+    if (*byte == '\t') refuse(here, "a tab; words are parted by spaces");
+    if (*byte == '\r' && left == 1)
+        refuse(here, "a carriage return; the file has CR LF line ends, and a line feed alone is expected");
+    if (*byte == '\r') refuse(here, "a carriage return; lines are closed by a line feed alone");
+    if (left >= 3 && memcmp(byte, "\xef\xbb\xbf", 3) == 0)
+        refuse(here, "a byte order mark; save the file without it");
+    if (at == 0 && left >= 2 && (memcmp(byte, "\xff\xfe", 2) == 0 || memcmp(byte, "\xfe\xff", 2) == 0))
+        refuse(here, "a byte order mark of UTF-16; save the file as plain text (ASCII)");
+    refuse(here, "byte %d, which is no plain text (ASCII)", (unsigned char)*byte);
+}
+
+/* Opens the next line that is no comment. Its bytes are looked at before its words, so that a tab or a carriage
+ * return is told as what it is and not as part of a word. */
+static void open_line(scanner *s, const char *expected, const char *other) {
+    s->expected = expected;
+    s->other = other;
+    do {
+        if (!next_line(s)) refuse_end(s);
+    } while (s->text[s->begin] == '#');
+    if (s->begin == s->end) refuse(whole_line(s), "it is empty; expected: %s%s", expected, other);
+    for (size_t i = s->begin; i < s->end; i++)
+        if (s->text[i] < 32 || s->text[i] > 126) refuse_byte(s, i);
+    s->lines++;
+}
+
+/* The line's next word; of length 0 where there is none. */
+static word next_word(scanner *s) {
+    while (s->at < s->end && s->text[s->at] == ' ') s->at++;
+    word w = {s->text + s->at, 0, in_line(s, s->at)};
+    while (s->at < s->end && s->text[s->at] != ' ') s->at++;
+    w.length = (size_t)(s->text + s->at - w.text);
+    if (w.length > 0 && w.text[0] == '#')
+        refuse(w.at, "a # that does not begin its line; a comment has a line of its own");
+    return w;
+}
+
+/* The line's next word, which must be there. */
+static word take(scanner *s) {
+    word w = next_word(s);
+    if (w.length == 0)
+        refuse(w.at, "the line ends after %zu word%s; expected: %s%s", s->words, s->words == 1 ? "" : "s",
+               s->expected, s->words == 0 ? s->other : "");
+    s->words++;
+    return w;
+}
+
+/* No word may follow. */
+static void close_line(scanner *s) {
+    static const char *const NTH[7] = {"first", "second", "third", "fourth", "fifth", "sixth", "seventh"};
+    word w = next_word(s);
+    if (w.length > 0) refuse(w.at, "a %s word, \"%s\"; expected: %s", NTH[s->words], said(w), s->expected);
+}
+
+/* A line of a table with commas is a single word here: say so before anything else is said of it. */
+static void no_comma(word w, const char *more) {
+    for (size_t i = 0; i < w.length; i++)
+        if (w.text[i] == ',' || w.text[i] == ';')
+            refuse(in_word(w, i), "a %s in \"%s\"; words are parted by spaces%s",
+                   w.text[i] == ',' ? "comma" : "semicolon", said(w), more);
+}
+
+/* The word that must stand here. */
+static void keyword(scanner *s, const char *name) {
+    word w = take(s);
+    no_comma(w, "");
+    if (!is(w, name)) refuse(w.at, "\"%s\" is not known here; expected: %s", said(w), s->expected);
+}
+
+/* ---- Numbers ---------------------------------------------------------------------------------------------- */
+
+/* A kind of number, as it is told to whom wrote something else. */
+typedef struct kind {
+    int decimals;
+    const char *comma;
+    const char *form;
+    const char *after;
+} kind;
+
+static const kind THOUSANDTHS = {0, ", and a whole number has digits only",
+                                 "expected: a whole number of thousandths of an inch",
+                                 "expected: a whole number of thousandths of an inch"};
+static const kind TEN_THOUSANDTHS = {0, ", and a whole number has digits only",
+                                     "expected: a whole number of ten-thousandths",
+                                     "expected: a whole number of ten-thousandths"};
+static const kind READING = {1, ", and decimals begin with a point",
+                             "expected: digits, perhaps with a point, or - for a missing reading",
+                             "digits and a point only, and the unit stands once, in the line months"};
+
+/* Not isdigit, which asks the locale and takes no negative char. */
+static int is_digit(word w, size_t i) { return i < w.length && w.text[i] >= '0' && w.text[i] <= '9'; }
+
+/* The place after the digits that begin at a place, of which there may be none. */
+static size_t after_digits(word w, size_t i) {
+    while (is_digit(w, i)) i++;
+    return i;
+}
+
+/* What follows a number's digits and does not belong to it. */
+static void refuse_rest(word w, size_t i, const kind *k) {
+    place at = in_word(w, i);
+    if (w.text[i] == '.' && !k->decimals) refuse(at, "a point in \"%s\"; %s", said(w), k->form);
+    if (w.text[i] == '.') refuse(at, "a second point in \"%s\"; %s", said(w), k->form);
+    if ((w.text[i] == 'e' || w.text[i] == 'E') && i + 1 < w.length &&
+        strchr("+-0123456789", w.text[i + 1]) != NULL)
+        refuse(at, "an exponent in \"%s\"; write the number out", said(w));
+    refuse(at, "something after the number in \"%s\"; %s", said(w), k->after);
+}
+
+/* Where a number's first digit stands. */
+static size_t first_digit(word w, const kind *k) {
+    size_t i = w.text[0] == '-';
+    no_comma(w, k->comma);
+    if (w.text[0] == '+') refuse(w.at, "a plus in \"%s\"; a number is written without one", said(w));
+    if (is_digit(w, i)) return i;
+    if (i < w.length && w.text[i] == '.') {
+        if (!k->decimals) refuse_rest(w, i, k);
+        refuse(in_word(w, i), "no digit before the point in \"%s\"; one half is written 0.5", said(w));
+    }
+    if (k->decimals && (is(w, "T") || is(w, "t")))
+        refuse(w.at, "\"%s\" is no number; a trace of rain is written 0, a missing reading -", said(w));
+    refuse(w.at, "\"%s\" is no number; %s", said(w), k->form);
+    return i;
+}
+
+/* A whole number, and the word that it was. */
+typedef struct whole {
+    int32_t value;
+    word word;
+} whole;
+
+/* Scanned and summed up here: strtol would pass over what follows, and its range is the host's. */
+static whole take_whole(scanner *s, const kind *k) {
+    word w = take(s);
+    size_t i = first_digit(w, k), end = after_digits(w, i);
+    if (end < w.length) refuse_rest(w, end, k);
+    int64_t n = 0;
+    /* from the first sum that is beyond both ends on, the digits are left out */
+    for (; i < end; i++)
+        if (n <= -(int64_t)INT32_MIN) n = 10 * n + (w.text[i] - '0');
+    if (w.text[0] == '-') n = -n;
+    if (n < INT32_MIN || n > INT32_MAX)
+        refuse(w.at, "\"%s\" is too large in size; whole numbers are -2147483648 to 2147483647", said(w));
+    whole number = {(int32_t)n, w};
+    return number;
+}
+
+/* A reading, and the word that it was. */
+typedef struct measure {
+    card_reading reading;
+    word word;
+} measure;
+
+/* The word is scanned here, since strtof takes much that is no reading (0x10, nan, 5mm). What is left reads to
+ * its end, at a space, a line feed or the zero byte after the file; and with a point, as setlocale is never
+ * called. */
+static measure take_reading(scanner *s, card_reading (*unit)(float)) {
+    measure m = {card_missing(), take(s)};
+    word w = m.word;
+    if (is(w, "-")) return m;
+    size_t i = after_digits(w, first_digit(w, &READING));
+    if (i < w.length && w.text[i] == '.') {
+        if (!is_digit(w, i + 1))
+            refuse(in_word(w, i), "no digit after the point in \"%s\"; write digits after it, or no point",
+                   said(w));
+        i = after_digits(w, i + 1);
+    }
+    if (i < w.length) refuse_rest(w, i, &READING);
+    m.reading = unit(strtof(w.text, NULL));
+    return m;
+}
+
+/* ---- The station file ------------------------------------------------------------------------------------- */
+
+/* Dates are counted in months from January of the year 0. */
+enum { AFTER_THE_LAST = 12 * 10000 };
+
+typedef struct month {
+    word date;
+    measure precipitation;
+    measure pe;
+} month;
+
+/* What the file holds. One month more is kept than a run can hold: it is the library that refuses it, and it
+ * would refuse the same one if there were more. */
+typedef struct station {
+    whole capacity;
+    whole surface;
+    whole underlying;
+    whole constants[CARD_CONSTANTS];
+    card_reading (*unit)(float);
+    size_t count;
+    month months[CARD_MOST_MONTHS + 1];
+    long first; /* the first month's date, */
+    long next;  /* and the one that is to follow the last */
+} station;
+
+/* One of the three lines about the soil. */
+static whole read_storage(scanner *s, const char *name, const char *expected) {
+    open_line(s, expected, "");
+    keyword(s, name);
+    whole number = take_whole(s, &THOUSANDTHS);
+    close_line(s);
+    return number;
+}
+
+/* The name of a calendar month, the one that is to come. */
+static void calendar_name(scanner *s, int m) {
+    word w = take(s);
+    no_comma(w, "");
+    if (is(w, CALENDAR[m])) return;
+    for (int i = 0; i < 12; i++)
+        if (is(w, CALENDAR[i]))
+            refuse(w.at, "%s here, and %s was to follow; the constants stand from January to December",
+                   CALENDAR[i], CALENDAR[m]);
+    refuse(w.at, "\"%s\" is not known here; expected: %s", said(w), s->expected);
+}
+
+/* The heading is asked word for word: a table in another order of columns must not pass for this one. */
+static void read_constants(scanner *s, station *st) {
+    char expected[64];
+    open_line(s, "constants alpha beta gamma delta K", "");
+    keyword(s, "constants");
+    for (int k = 0; k < 5; k++) keyword(s, CONSTANT[k]);
+    close_line(s);
+    for (int m = 0; m < 12; m++) {
+        snprintf(expected, sizeof expected, "%s ALPHA BETA GAMMA DELTA K", CALENDAR[m]);
+        open_line(s, expected, "");
+        calendar_name(s, m);
+        for (int k = 0; k < 5; k++) st->constants[5 * m + k] = take_whole(s, &TEN_THOUSANDTHS);
+        close_line(s);
     }
 }
 
-/* Adds the months one by one and prints each. */
-static card_run add_singly(card_run run) {
-    card_reading p, pe;
-    puts("month P PE CAFEC Z percent index settled");
-    while (reading(&p) && reading(&pe)) {
-        card_added a = add(run, p, pe);
-        if (a.number != CARD_DONE) {
-            printf("%u refused %d\n", run.months + 1, a.number);
-            break;
-        }
-        printf("%u %u %u %d %d %u %d %u\n", a.run.months, a.figures.water.p, a.figures.water.pe,
-               a.figures.water.cafec, a.figures.z, a.figures.percent, a.figures.index, a.settled);
+/* The unit stands once and has no default: 62 mm taken for 62 inches would pass the library's ranges. */
+static void read_unit(scanner *s, station *st) {
+    open_line(s, "months inches, or months millimetres", "");
+    keyword(s, "months");
+    word w = take(s);
+    no_comma(w, "");
+    if (!is(w, "inches") && !is(w, "millimetres"))
+        refuse(w.at, "\"%s\" is no unit; expected: %s", said(w), s->expected);
+    st->unit = is(w, "inches") ? card_inches : card_millimetres;
+    close_line(s);
+}
+
+/* A date, or -1 where the word is none. */
+static long date_of(word w) {
+    long n[2] = {0, 0};
+    if (w.length != 7 || w.text[4] != '-') return -1;
+    for (size_t i = 0; i < 7; i++) {
+        if (i == 4) continue;
+        if (!is_digit(w, i)) return -1;
+        n[i > 4] = 10 * n[i > 4] + (w.text[i] - '0');
+    }
+    return n[1] < 1 || n[1] > 12 ? -1 : 12 * n[0] + n[1] - 1;
+}
+
+/* A date, where it must be the one that follows. A gap is no missing reading: the next month's rain would be
+ * judged by the constants of another month. */
+static long take_date(const scanner *s, const station *st, word w) {
+    long when = date_of(w), next = st->next;
+    no_comma(w, "");
+    if (when < 0)
+        refuse(w.at, "\"%s\" is no month (four digits, a minus, 01 to 12); expected: %s%s", said(w), s->expected,
+               s->other);
+    if (st->count == 0 || when == next) return when;
+    if (next == AFTER_THE_LAST) refuse(w.at, "%s here, and no month can follow 9999-12; expected: end", said(w));
+    if (when > next)
+        refuse(w.at,
+               "%s here, and %04ld-%02ld was to follow; a month without readings is written %04ld-%02ld - -",
+               said(w), next / 12, next % 12 + 1, next / 12, next % 12 + 1);
+    refuse(w.at, "%s here%s, and %04ld-%02ld was to follow; %s", said(w), when == next - 1 ? " again" : "",
+           next / 12, next % 12 + 1,
+           when == next - 1 ? "each month stands once" : "the months stand in order of time");
+    return when;
+}
+
+/* Opens the line of a month or of the end, with what it should be. */
+static void open_month(scanner *s, const station *st, char *expected, size_t size) {
+    if (st->count == 0)
+        snprintf(expected, size, "YYYY-MM PRECIPITATION PE");
+    else if (st->next == AFTER_THE_LAST)
+        snprintf(expected, size, "end");
+    else
+        snprintf(expected, size, "%04ld-%02ld PRECIPITATION PE", st->next / 12, st->next % 12 + 1);
+    open_line(s, expected, st->count == 0 || st->next == AFTER_THE_LAST ? "" : ", or end");
+}
+
+/* The next month; 0 where the line is the end. */
+static int read_month(scanner *s, station *st) {
+    char expected[64];
+    open_month(s, st, expected, sizeof expected);
+    month m = {.date = take(s)};
+    if (is(m.date, "end")) {
+        if (st->count == 0) refuse(m.date.at, "end here, and no month before it; expected: %s", expected);
+        s->expected = "end";
+        close_line(s);
+        return 0;
+    }
+    long when = take_date(s, st, m.date);
+    m.precipitation = take_reading(s, st->unit);
+    m.pe = take_reading(s, st->unit);
+    close_line(s);
+    if (st->count == 0) st->first = when;
+    st->next = when + 1;
+    if (st->count <= CARD_MOST_MONTHS) st->months[st->count++] = m;
+    return 1;
+}
+
+/* The whole file, line by line, before the library sees any of it. */
+static void read_station(scanner *s, station *st) {
+    st->capacity = read_storage(s, "capacity", "capacity THOUSANDTHS");
+    st->surface = read_storage(s, "surface", "surface THOUSANDTHS");
+    st->underlying = read_storage(s, "underlying", "underlying THOUSANDTHS");
+    read_constants(s, st);
+    read_unit(s, st);
+    while (read_month(s, st)) continue;
+    if (!next_line(s)) return;
+    if (s->begin == s->end)
+        refuse(whole_line(s), "it is empty; end is the last line, and nothing may follow it");
+    refuse(in_line(s, s->begin), "something after the last line, end; nothing may follow it");
+}
+
+/* ---- What the library refuses ----------------------------------------------------------------------------- */
+
+/* A number of the file that the library refuses at the start. */
+static void refuse_whole(whole n, const char *name, uint8_t number, const char *range) {
+    refuse(n.word.at, "%s %s is refused (%d: %s), %s is %s", name, said(n.word), number, card_meaning(number),
+           name, range);
+}
+
+/* Asks again with zeros for all constants but one: the one that is refused by itself is the place. */
+static void refuse_constant(const station *st, int32_t calendar, uint8_t number) {
+    for (int i = 0; i < CARD_CONSTANTS; i++) {
+        int32_t alone[CARD_CONSTANTS] = {0};
+        alone[i] = st->constants[i].value;
+        card_started again = card_start(alone, CARD_CONSTANTS, st->capacity.value, st->surface.value,
+                                        st->underlying.value, calendar);
+        if (again.number == number)
+            refuse_whole(st->constants[i], CONSTANT[i % 5], number, CONSTANT_RANGE[i % 5]);
+    }
+}
+
+/* Starts the run, in the calendar month of the first month. */
+static card_run start(const station *st) {
+    int32_t constants[CARD_CONSTANTS], calendar = (int32_t)(st->first % 12 + 1);
+    int32_t capacity = st->capacity.value, surface = st->surface.value, underlying = st->underlying.value;
+    for (int i = 0; i < CARD_CONSTANTS; i++) constants[i] = st->constants[i].value;
+    card_started a = card_start(constants, CARD_CONSTANTS, capacity, surface, underlying, calendar);
+    if (a.number == CARD_DONE) return a.run;
+    if (a.number == CARD_CONSTANT) refuse_constant(st, calendar, a.number);
+    if (a.number == CARD_CAPACITY) refuse_whole(st->capacity, "capacity", a.number, "1000 to 30000");
+    /* of the two storages, the one that is refused beside 0 for the other */
+    if (a.number == CARD_STORAGE) {
+        if (card_start(constants, CARD_CONSTANTS, capacity, surface, 0, calendar).number == a.number)
+            refuse_whole(st->surface, "surface", a.number, "0 to 1000");
+        if (card_start(constants, CARD_CONSTANTS, capacity, 0, underlying, calendar).number == a.number)
+            refuse_whole(st->underlying, "underlying", a.number, "0 to capacity - 1000");
+    }
+    stop(REFUSED, "the start is refused (%d: %s)", a.number, card_meaning(a.number));
+    return a.run;
+}
+
+/* Refuses a reading if it is the one that the number is about. */
+static void refuse_reading(const station *st, const measure *m, const char *name, uint8_t number) {
+    if (card_read(m->reading).number != number) return;
+    if (number == CARD_MISSING_READING)
+        refuse(m->word.at, "%s is missing (%d: %s); README.md, \"Missing months\", says what to do", name,
+               number, card_meaning(number));
+    refuse(m->word.at, "%s %s is refused (%d: %s), %s, and a missing reading is written -", name, said(m->word),
+           number, card_meaning(number),
+           st->unit == card_inches ? "inches are 0 to 100" : "millimetres are 0 to 2540");
+}
+
+/* Refuses a month for the number that an add answered. */
+static void refuse_month(const station *st, size_t at, uint8_t number) {
+    const month *m = &st->months[at];
+    if (number == CARD_MISSING_READING || number == CARD_BAD_READING) {
+        refuse_reading(st, &m->precipitation, "precipitation", number);
+        refuse_reading(st, &m->pe, "PE", number);
+    }
+    if (number == CARD_FULL)
+        refuse(m->date.at, "%s is refused (%d: %s), a run holds %d", said(m->date), number, card_meaning(number),
+               CARD_MOST_MONTHS);
+    place line = {m->date.at.line, 0};
+    refuse(line, "%s is refused (%d: %s)", said(m->date), number, card_meaning(number));
+}
+
+/* ---- The card --------------------------------------------------------------------------------------------- */
+
+/* What a call that added months came to. */
+typedef struct step {
+    uint32_t added;
+    uint32_t settled;
+    card_figures figures; /* of the last month that it added */
+} step;
+
+/* What will be printed: the calls one after the other, and then the rows of all months. */
+typedef struct record {
+    size_t steps;
+    step step[CARD_MOST_MONTHS];
+    size_t rows;
+    card_shown row[CARD_MOST_MONTHS];
+} record;
+
+/* Adds the months one by one. */
+static card_run add_singly(const station *st, card_columns columns, card_run run, record *r) {
+    for (size_t i = 0; i < st->count; i++) {
+        const month *m = &st->months[i];
+        card_added a = card_add_water_in(columns, run, m->precipitation.reading, m->pe.reading);
+        if (a.number != CARD_DONE) refuse_month(st, i, a.number);
+        step taken = {1, a.settled, a.figures};
+        r->step[r->steps++] = taken;
         run = a.run;
     }
     return run;
@@ -70,60 +589,153 @@ static card_run add_singly(card_run run) {
 
 /* A reading as a season's lists have it: whole thousandths, or CARD_NO_READING. One that is not acceptable
  * becomes a number that is not, so that the season refuses it as a single add does. */
-static int32_t listed(card_reading r) {
-    card_answer a = card_read(r);
+static int32_t listed(card_reading reading) {
+    card_answer a = card_read(reading);
     if (a.number == CARD_MISSING_READING) return CARD_NO_READING;
-    if (a.number == CARD_BAD_READING) return INT32_MIN;
-    return (int32_t)a.water;
+    return a.number == CARD_DONE ? (int32_t)a.water : INT32_MIN;
 }
 
-/* Reads up to `most` months into the lists of a season; how many there were. */
-static size_t months(int32_t *p, int32_t *pe, size_t most) {
-    card_reading first, second;
-    size_t n = 0;
-    while (n < most && reading(&first) && reading(&second)) {
-        p[n] = listed(first);
-        pe[n++] = listed(second);
-    }
-    return n;
-}
-
-/* Adds the months `most` at a time and prints each season: the months it added, those it settled and the index
- * of the last one added, also where a month was then refused. */
-static card_run add_seasons(card_run run, size_t most) {
+/* Adds the months `most` at a time. */
+static card_run add_seasons(const station *st, card_columns columns, card_run run, record *r, size_t most) {
     static int32_t p[CARD_MOST_MONTHS], pe[CARD_MOST_MONTHS];
-    size_t n;
-    puts("season added settled index");
-    for (int season = 1; (n = months(p, pe, most)) > 0; season++) {
-        card_season s = card_add_season(run, p, n, pe, n, x1, CARD_MOST_MONTHS, x2, CARD_MOST_MONTHS,
-                                        x3, CARD_MOST_MONTHS, index_, CARD_MOST_MONTHS, mark, CARD_MOST_MONTHS);
-        run = s.run;
-        printf("%d %u %u %d", season, s.added, s.settled, s.figures.index);
-        if (s.number != CARD_DONE) {
-            printf(" refused %d\n", s.number);
-            break;
+    for (size_t first = 0; first < st->count; first += most) {
+        size_t n = st->count - first < most ? st->count - first : most;
+        for (size_t i = 0; i < n; i++) {
+            p[i] = listed(st->months[first + i].precipitation.reading);
+            pe[i] = listed(st->months[first + i].pe.reading);
         }
-        puts("");
+        card_season a = card_add_season_in(columns, run, p, n, pe, n);
+        if (a.number != CARD_DONE) refuse_month(st, first + a.added, a.number);
+        step taken = {a.added, a.settled, a.figures};
+        r->step[r->steps++] = taken;
+        run = a.run;
     }
     return run;
 }
 
-/* How many months a season has by the program's argument. */
-static size_t most_months(const char *word) {
-    long n = strtol(word, NULL, 10);
-    if (n < 1 || n > CARD_MOST_MONTHS) {
-        fputs("station: a season has 1 to 2400 months\n", stderr);
-        exit(1);
+/* The rows of all months, as they stand after the last add: earlier ones may have been settled since. */
+static void look_back(card_columns columns, card_run run, record *r) {
+    for (; r->rows < run.months; r->rows++) {
+        card_shown row = card_row_in(columns, run, r->rows);
+        if (row.number != CARD_DONE)
+            stop(REFUSED, "row %zu is refused (%d: %s)", r->rows, row.number, card_meaning(row.number));
+        r->row[r->rows] = row;
     }
-    return (size_t)n;
+}
+
+/* ---- Input and output ------------------------------------------------------------------------------------- */
+
+/* It may be closed, full, or a pipe that nobody reads. */
+static void not_written(void) { stop(NOT_WRITTEN, "standard output cannot be written"); }
+
+/* Prints, or says that it cannot. */
+static void print(const char *format, ...) {
+    va_list values;
+    va_start(values, format);
+    int n = vprintf(format, values);
+    va_end(values);
+    if (n < 0) not_written();
+}
+
+/* What is printed is held back in a buffer: that it cannot be written may show only here. */
+static void flush(void) {
+    if (fflush(stdout) != 0) not_written();
+}
+
+/* A row for each month, as its own add answered. */
+static void print_singly(const record *r, long first) {
+    print("month P PE CAFEC Z percent index settled\n");
+    for (size_t i = 0; i < r->steps; i++) {
+        const card_figures *f = &r->step[i].figures;
+        long when = first + (long)i;
+        print("%04ld-%02ld %" PRIu32 " %" PRIu32 " %" PRId32 " ", when / 12, when % 12 + 1, f->water.p,
+              f->water.pe, f->water.cafec);
+        print("%" PRId32 " %" PRIu32 " %" PRId32 " %" PRIu32 "\n", f->z, f->percent, f->index, r->step[i].settled);
+    }
+}
+
+/* A row for each call: the months that it added and settled, and the index of the last one. */
+static void print_seasons(const record *r) {
+    print("season added settled index\n");
+    for (size_t i = 0; i < r->steps; i++)
+        print("%zu %" PRIu32 " %" PRIu32 " %" PRId32 "\n", i + 1, r->step[i].added, r->step[i].settled,
+              r->step[i].figures.index);
+}
+
+/* A row for each month, as the columns have it in the end. */
+static void print_rows(const record *r, long first) {
+    print("month X1 X2 X3 index mark\n");
+    for (size_t i = 0; i < r->rows; i++) {
+        const card_shown *row = &r->row[i];
+        long when = first + (long)i;
+        print("%04ld-%02ld %" PRId32 " %" PRId32 " %" PRId32 " %" PRId32 " %c\n", when / 12, when % 12 + 1,
+              row->x1, row->x2, row->x3, row->index, row->mark == CARD_SETTLED ? 'S' : 'O');
+    }
+}
+
+/* The head of this file has it at more length. */
+static void print_help(void) {
+    print("station [MONTHS] <FILE\n"
+          "\n"
+          "Reads a station file from standard input, adds its months to a run and prints what the card shows.\n"
+          "MONTHS, 1 to %d: adds so many months in a call, as a card that was offline; else one by one.\n"
+          "\n"
+          "Status: 0 done; 1 the file or a month in it is refused; 2 wrong arguments, or input that cannot be\n"
+          "read; 3 output that cannot be written. What is wrong is said on standard error, in one line.\n"
+          "\n"
+          "The format of the file stands in the head of samples/western-kansas-station.txt and in README.md.\n",
+          CARD_MOST_MONTHS);
+}
+
+/* How many months are added in a call, by the program's argument. */
+static size_t months_in_a_call(const char *argument) {
+    word w = {argument, strlen(argument), {0, 0}};
+    size_t n = 0;
+    for (size_t i = 0; is_digit(w, i); i++)
+        if (n <= CARD_MOST_MONTHS) n = 10 * n + (size_t)(w.text[i] - '0');
+    if (after_digits(w, 0) < w.length || n < 1 || n > CARD_MOST_MONTHS)
+        stop(NOT_READ, "\"%s\" is no number of months; expected: 1 to %d, digits only", said(w),
+             CARD_MOST_MONTHS);
+    return n;
+}
+
+/* The whole of standard input, with a zero byte after it. */
+static scanner read_input(void) {
+    static char text[MOST_BYTES + 1];
+    size_t length = fread(text, 1, sizeof text, stdin);
+    if (ferror(stdin)) stop(NOT_READ, "standard input cannot be read");
+    if (length > MOST_BYTES) stop(REFUSED, "the file is larger than %d bytes", MOST_BYTES);
+    text[length] = 0;
+    scanner s = {.text = text, .length = length};
+    return s;
 }
 
 int main(int argc, char **argv) {
-    card_started started = start();
-    if (started.number != CARD_DONE) {
-        printf("start refused %d\n", started.number);
-        return 1;
+    static station st;
+    static record r;
+    static int32_t x1[CARD_MOST_MONTHS], x2[CARD_MOST_MONTHS], x3[CARD_MOST_MONTHS], index[CARD_MOST_MONTHS];
+    static uint8_t mark[CARD_MOST_MONTHS];
+    card_columns columns = card_columns_of(x1, x2, x3, index, mark, CARD_MOST_MONTHS);
+    /* a pipe that nobody reads is then a write that fails, and is said */
+    signal(SIGPIPE, SIG_IGN);
+    if (argc > 2)
+        stop(NOT_READ, "%d arguments; expected: none, or how many months are added in a call", argc - 1);
+    if (argc == 2 && strcmp(argv[1], "--help") == 0) {
+        print_help();
+        flush();
+        return 0;
     }
-    show(argc > 1 ? add_seasons(started.run, most_months(argv[1])) : add_singly(started.run));
+    size_t most = argc == 2 ? months_in_a_call(argv[1]) : 0;
+    scanner s = read_input();
+    read_station(&s, &st);
+    card_run run = start(&st);
+    run = most == 0 ? add_singly(&st, columns, run, &r) : add_seasons(&st, columns, run, &r, most);
+    look_back(columns, run, &r);
+    if (most == 0)
+        print_singly(&r, st.first);
+    else
+        print_seasons(&r);
+    print_rows(&r, st.first);
+    flush();
     return 0;
 }

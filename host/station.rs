@@ -1,98 +1,894 @@
-//! A station's card from end to end, in Rust: the same as station.c, which says what the station file holds and
-//! what the argument is.
+//! A station's card from end to end, in Rust: the same program as station.c, which says what the station file
+//! holds, what the argument is and what the statuses mean. Function by function it does what that one does, and
+//! it prints and says the same, byte for byte.
+//!
+//! It is started as a C program is. Rust's own start would put /dev/null in the place of a standard output that
+//! is closed, and what is written there is lost without a word.
+#![no_main]
+
 mod card;
 
-use card::{Columns, Reading, Run};
-use std::io::Read;
+use card::{Columns, Figures, Reading, Run, Shown};
+use std::fs::File;
+use std::io::{Read, Write};
+use std::mem::ManuallyDrop;
+use std::os::unix::ffi::OsStrExt;
+use std::os::unix::io::FromRawFd;
 
+const REFUSED: i32 = 1;
+const NOT_READ: i32 = 2;
+const NOT_WRITTEN: i32 = 3;
+const MOST_BYTES: usize = 1048576;
+const MOST_SHOWN: usize = 40;
+
+// the library's numbers that are asked for by name, and its sizes, as in include/card.h
+const DONE: u8 = 0;
+const CONSTANT_OUT: u8 = 3;
+const CAPACITY_OUT: u8 = 4;
+const STORAGE_OUT: u8 = 5;
+const MISSING_READING: u8 = 8;
+const BAD_READING: u8 = 9;
+const FULL: u8 = 10;
+const SETTLED: u8 = 2;
+const CONSTANTS: usize = 60;
 const MOST_MONTHS: usize = 2400;
 
-/// A reading as a station writes it: inches, or a dash for a missing one.
-fn reading(word: &str) -> Reading {
-    match word {
-        "-" => Reading::missing(),
-        _ => Reading::inches(word.parse().expect("inches")),
+#[rustfmt::skip]
+const CALENDAR: [&str; 12] = ["January", "February", "March", "April", "May", "June",
+                              "July", "August", "September", "October", "November", "December"];
+const CONSTANT: [&str; 5] = ["alpha", "beta", "gamma", "delta", "K"];
+/// The ranges in words, for whom the library has refused; see card_start.
+const CONSTANT_RANGE: [&str; 5] = ["0 to 10000", "0 to 10000", "0 to 50000", "0 to 10000", "0 to 100000"];
+
+// ---- What is said ---------------------------------------------------------------------------------------------
+
+/// Why the program ends early: its status, and the line for standard error.
+struct Stop {
+    status: i32,
+    line: String,
+}
+
+/// Ends the program: every caller hands this on, up to `main`.
+fn stop<T>(status: i32, what: String) -> Result<T, Stop> {
+    Err(Stop { status, line: format!("station: {what}\n") })
+}
+
+/// A place in the file, counted from 1; column 0 where it is a line as a whole, or the end of the file.
+#[derive(Clone, Copy)]
+struct Place {
+    line: usize,
+    column: usize,
+}
+
+/// What is wrong at a place of the file.
+fn refuse<T>(at: Place, what: String) -> Result<T, Stop> {
+    match at.column {
+        0 => stop(REFUSED, format!("line {}: {what}", at.line)),
+        column => stop(REFUSED, format!("line {}, column {column}: {what}", at.line)),
     }
 }
 
-fn show(run: Run, columns: &Columns) {
-    println!("month X1 X2 X3 index mark");
-    for i in 0..run.months as usize {
-        let r = card::row(run, i, columns);
-        let mark = if r.mark == 2 { 'S' } else { 'O' };
-        println!("{} {} {} {} {} {}", i + 1, r.x1, r.x2, r.x3, r.index, mark);
+/// A word as it can be said in one line: of a long one the beginning, and ? for a byte that is no plain text.
+fn shown(text: &[u8]) -> String {
+    let plain = |&byte: &u8| if (32..=126).contains(&byte) { byte as char } else { '?' };
+    let held: String = text.iter().take(MOST_SHOWN).map(plain).collect();
+    held + if text.len() > MOST_SHOWN { ".." } else { "" }
+}
+
+/// What a number that the library answers means: the words of card_meaning in include/card.h.
+fn meaning(number: u8) -> &'static str {
+    match number {
+        0 => "done",
+        1 => "lists not all of one length, or length 0 or above 2,400",
+        2 => "constants not sixty numbers",
+        3 => "a constant outside its range",
+        4 => "capacity outside its range",
+        5 => "a start storage negative or above its layer",
+        6 => "start month not 1 to 12",
+        7 => "not a run",
+        8 => "reading missing",
+        9 => "reading not acceptable",
+        10 => "months already equal the column length",
+        11 => "row number not below the months added",
+        12 => "Z outside its range",
+        _ => "no number of this library",
     }
 }
 
-/// Adds the months one by one and prints each.
-fn add_singly(mut run: Run, months: &[&str], columns: &mut Columns) -> Run {
-    println!("month P PE CAFEC Z percent index settled");
-    for pair in months.chunks_exact(2) {
-        let a = card::add_water(run, reading(pair[0]), reading(pair[1]), columns);
-        if a.number != 0 {
-            println!("{} refused {}", run.months + 1, a.number);
-            break;
+// ---- Lines and words ------------------------------------------------------------------------------------------
+
+/// A word of the file, and where it begins.
+#[derive(Clone, Copy)]
+struct Word<'a> {
+    text: &'a [u8],
+    at: Place,
+}
+
+impl Word<'_> {
+    /// The word for a message.
+    fn said(&self) -> String {
+        shown(self.text)
+    }
+
+    /// Whether it is this word, letter by letter, capitals too.
+    fn is(&self, name: &str) -> bool {
+        self.text == name.as_bytes()
+    }
+
+    /// The place of a byte of it.
+    fn place(&self, i: usize) -> Place {
+        Place { line: self.at.line, column: self.at.column + i }
+    }
+
+    /// None after its last byte.
+    fn byte(&self, i: usize) -> Option<u8> {
+        self.text.get(i).copied()
+    }
+
+    fn is_digit(&self, i: usize) -> bool {
+        matches!(self.byte(i), Some(b'0'..=b'9'))
+    }
+
+    /// The place after the digits that begin at a place, of which there may be none.
+    fn after_digits(&self, mut i: usize) -> usize {
+        while self.is_digit(i) {
+            i += 1;
         }
-        let (f, w) = (a.figures, a.figures.water);
-        println!("{} {} {} {} {} {} {} {}", a.run.months, w.p, w.pe, w.cafec, f.z, f.percent, f.index, a.settled);
+        i
+    }
+}
+
+/// The file, and how far it was read.
+struct Scanner<'a> {
+    text: &'a [u8],
+    next: usize,         // where the next line begins
+    closed: usize,       // how many line feeds stand before it
+    number: usize,       // the line at hand: its number,
+    line: &'a [u8],      // its bytes,
+    at: usize,           // and how far they were read
+    words: usize,        // how many words of it were taken
+    lines: usize,        // how many lines were opened before it, comments not counted
+    expected: String,    // what it should hold,
+    other: &'static str, // or else
+}
+
+impl<'a> Scanner<'a> {
+    /// Before the first line.
+    fn new(text: &'a [u8]) -> Scanner<'a> {
+        let expected = String::new();
+        Scanner { text, next: 0, closed: 0, number: 1, line: &[], at: 0, words: 0, lines: 0, expected, other: "" }
+    }
+
+    /// The place of the line as a whole, and below of a byte of it.
+    fn whole_line(&self) -> Place {
+        Place { line: self.number, column: 0 }
+    }
+
+    fn in_line(&self, at: usize) -> Place {
+        Place { line: self.number, column: at + 1 }
+    }
+
+    /// Goes to the next line, whatever it holds; false where the file has ended.
+    fn next_line(&mut self) -> bool {
+        self.number = self.closed + 1;
+        let left = &self.text[self.next..];
+        let feed = left.iter().position(|&byte| byte == b'\n');
+        self.line = &left[..feed.unwrap_or(left.len())];
+        self.next += feed.map_or(left.len(), |length| length + 1);
+        self.closed += usize::from(feed.is_some());
+        self.at = 0;
+        self.words = 0;
+        !left.is_empty()
+    }
+
+    /// The end of the file where a line should stand. The first line that is asked for is the first that is no
+    /// comment.
+    fn refuse_end(&self) -> Result<(), Stop> {
+        let what = match (self.text.len(), self.lines) {
+            (0, _) => format!("the file is empty; expected: {}", self.expected),
+            (_, 0) => format!("the file has only comments; expected: {}", self.expected),
+            _ => "the file ends without its last line, end; it may be cut short".to_string(),
+        };
+        refuse(self.whole_line(), what)
+    }
+
+    /// A byte that is no plain text. Those that an editor leaves unseen are named.
+    fn refuse_byte(&self, at: usize) -> Result<(), Stop> {
+        let left = &self.line[at..];
+        let first = self.number == 1 && at == 0;
+        let what = match left {
+            [b'\t', ..] => "a tab; words are parted by spaces".to_string(),
+            [b'\r'] => {
+                "a carriage return; the file has CR LF line ends, and a line feed alone is expected".to_string()
+            }
+            [b'\r', ..] => "a carriage return; lines are closed by a line feed alone".to_string(),
+            [0xef, 0xbb, 0xbf, ..] => "a byte order mark; save the file without it".to_string(),
+            [0xff, 0xfe, ..] | [0xfe, 0xff, ..] if first => {
+                "a byte order mark of UTF-16; save the file as plain text (ASCII)".to_string()
+            }
+            _ => format!("byte {}, which is no plain text (ASCII)", left[0]),
+        };
+        refuse(self.in_line(at), what)
+    }
+
+    /// Opens the next line that is no comment. Its bytes are looked at before its words, so that a tab or a
+    /// carriage return is told as what it is and not as part of a word.
+    fn open_line(&mut self, expected: String, other: &'static str) -> Result<(), Stop> {
+        self.expected = expected;
+        self.other = other;
+        loop {
+            if !self.next_line() {
+                self.refuse_end()?;
+            }
+            if self.line.first() != Some(&b'#') {
+                break;
+            }
+        }
+        if self.line.is_empty() {
+            return refuse(self.whole_line(), format!("it is empty; expected: {}{other}", self.expected));
+        }
+        if let Some(at) = self.line.iter().position(|byte| !(32..=126).contains(byte)) {
+            self.refuse_byte(at)?;
+        }
+        self.lines += 1;
+        Ok(())
+    }
+
+    /// The line's next word; empty where there is none.
+    fn next_word(&mut self) -> Result<Word<'a>, Stop> {
+        while self.line.get(self.at) == Some(&b' ') {
+            self.at += 1;
+        }
+        let begin = self.at;
+        while self.at < self.line.len() && self.line[self.at] != b' ' {
+            self.at += 1;
+        }
+        let w = Word { text: &self.line[begin..self.at], at: self.in_line(begin) };
+        if w.byte(0) == Some(b'#') {
+            let what = "a # that does not begin its line; a comment has a line of its own";
+            return refuse(w.at, what.to_string());
+        }
+        Ok(w)
+    }
+
+    /// The line's next word, which must be there.
+    fn take(&mut self) -> Result<Word<'a>, Stop> {
+        let w = self.next_word()?;
+        if w.text.is_empty() {
+            let s = if self.words == 1 { "" } else { "s" };
+            let other = if self.words == 0 { self.other } else { "" };
+            let what = format!("the line ends after {} word{s}; expected: {}{other}", self.words, self.expected);
+            return refuse(w.at, what);
+        }
+        self.words += 1;
+        Ok(w)
+    }
+
+    /// No word may follow.
+    fn close_line(&mut self) -> Result<(), Stop> {
+        const NTH: [&str; 7] = ["first", "second", "third", "fourth", "fifth", "sixth", "seventh"];
+        let w = self.next_word()?;
+        if !w.text.is_empty() {
+            let nth = NTH[self.words];
+            return refuse(w.at, format!("a {nth} word, \"{}\"; expected: {}", w.said(), self.expected));
+        }
+        Ok(())
+    }
+
+    /// The word that must stand here.
+    fn keyword(&mut self, name: &str) -> Result<(), Stop> {
+        let w = self.take()?;
+        no_comma(w, "")?;
+        if !w.is(name) {
+            return refuse(w.at, format!("\"{}\" is not known here; expected: {}", w.said(), self.expected));
+        }
+        Ok(())
+    }
+}
+
+/// A line of a table with commas is a single word here: say so before anything else is said of it.
+fn no_comma(w: Word, more: &str) -> Result<(), Stop> {
+    if let Some(i) = w.text.iter().position(|&byte| byte == b',' || byte == b';') {
+        let name = if w.text[i] == b',' { "comma" } else { "semicolon" };
+        return refuse(w.place(i), format!("a {name} in \"{}\"; words are parted by spaces{more}", w.said()));
+    }
+    Ok(())
+}
+
+// ---- Numbers --------------------------------------------------------------------------------------------------
+
+/// A kind of number, as it is told to whom wrote something else.
+struct Kind {
+    decimals: bool,
+    comma: &'static str,
+    form: &'static str,
+    after: &'static str,
+}
+
+const THOUSANDTHS: Kind = Kind {
+    decimals: false,
+    comma: ", and a whole number has digits only",
+    form: "expected: a whole number of thousandths of an inch",
+    after: "expected: a whole number of thousandths of an inch",
+};
+const TEN_THOUSANDTHS: Kind = Kind {
+    decimals: false,
+    comma: ", and a whole number has digits only",
+    form: "expected: a whole number of ten-thousandths",
+    after: "expected: a whole number of ten-thousandths",
+};
+const READING: Kind = Kind {
+    decimals: true,
+    comma: ", and decimals begin with a point",
+    form: "expected: digits, perhaps with a point, or - for a missing reading",
+    after: "digits and a point only, and the unit stands once, in the line months",
+};
+
+/// What follows a number's digits and does not belong to it.
+fn refuse_rest<T>(w: Word, i: usize, k: &Kind) -> Result<T, Stop> {
+    let said = w.said();
+    let what = match (w.byte(i), w.byte(i + 1)) {
+        (Some(b'.'), _) if !k.decimals => format!("a point in \"{said}\"; {}", k.form),
+        (Some(b'.'), _) => format!("a second point in \"{said}\"; {}", k.form),
+        (Some(b'e' | b'E'), Some(b'+' | b'-' | b'0'..=b'9')) => {
+            format!("an exponent in \"{said}\"; write the number out")
+        }
+        _ => format!("something after the number in \"{said}\"; {}", k.after),
+    };
+    refuse(w.place(i), what)
+}
+
+/// Where a number's first digit stands.
+fn first_digit(w: Word, k: &Kind) -> Result<usize, Stop> {
+    let i = usize::from(w.byte(0) == Some(b'-'));
+    let said = w.said();
+    no_comma(w, k.comma)?;
+    if w.byte(0) == Some(b'+') {
+        return refuse(w.at, format!("a plus in \"{said}\"; a number is written without one"));
+    }
+    if w.is_digit(i) {
+        return Ok(i);
+    }
+    if w.byte(i) == Some(b'.') && !k.decimals {
+        return refuse_rest(w, i, k);
+    }
+    if w.byte(i) == Some(b'.') {
+        return refuse(w.place(i), format!("no digit before the point in \"{said}\"; one half is written 0.5"));
+    }
+    if k.decimals && (w.is("T") || w.is("t")) {
+        let what = format!("\"{said}\" is no number; a trace of rain is written 0, a missing reading -");
+        return refuse(w.at, what);
+    }
+    refuse(w.at, format!("\"{said}\" is no number; {}", k.form))
+}
+
+/// A whole number, and the word that it was.
+#[derive(Clone, Copy)]
+struct Whole<'a> {
+    value: i32,
+    word: Word<'a>,
+}
+
+/// Scanned and summed up here: `parse` takes a plus.
+fn take_whole<'a>(s: &mut Scanner<'a>, k: &Kind) -> Result<Whole<'a>, Stop> {
+    let w = s.take()?;
+    let i = first_digit(w, k)?;
+    let end = w.after_digits(i);
+    if end < w.text.len() {
+        return refuse_rest(w, end, k);
+    }
+    // from the first sum that is beyond both ends on, the digits are left out
+    let add = |n: i64, &digit: &u8| if n <= -i64::from(i32::MIN) { 10 * n + i64::from(digit - b'0') } else { n };
+    let n = w.text[i..end].iter().fold(0, add);
+    match i32::try_from(if i == 1 { -n } else { n }) {
+        Ok(value) => Ok(Whole { value, word: w }),
+        Err(_) => {
+            let what = "is too large in size; whole numbers are -2147483648 to 2147483647";
+            refuse(w.at, format!("\"{}\" {what}", w.said()))
+        }
+    }
+}
+
+/// A reading, and the word that it was.
+#[derive(Clone, Copy)]
+struct Measure<'a> {
+    reading: Reading,
+    word: Word<'a>,
+}
+
+/// The word is scanned here, since `parse` takes much that is no reading (1e2, nan, +5). What is left it takes; a
+/// NaN in its place would be refused by the library.
+fn take_reading<'a>(s: &mut Scanner<'a>, unit: Unit) -> Result<Measure<'a>, Stop> {
+    let w = s.take()?;
+    if w.is("-") {
+        return Ok(Measure { reading: Reading::missing(), word: w });
+    }
+    let mut i = w.after_digits(first_digit(w, &READING)?);
+    if w.byte(i) == Some(b'.') {
+        if !w.is_digit(i + 1) {
+            let what = "write digits after it, or no point";
+            return refuse(w.place(i), format!("no digit after the point in \"{}\"; {what}", w.said()));
+        }
+        i = w.after_digits(i + 1);
+    }
+    if i < w.text.len() {
+        return refuse_rest(w, i, &READING);
+    }
+    let measure = std::str::from_utf8(w.text).ok().and_then(|text| text.parse().ok()).unwrap_or(f32::NAN);
+    Ok(Measure { reading: unit.reading(measure), word: w })
+}
+
+// ---- The station file -----------------------------------------------------------------------------------------
+
+#[derive(Clone, Copy)]
+enum Unit {
+    Inches,
+    Millimetres,
+}
+
+impl Unit {
+    fn reading(self, measure: f32) -> Reading {
+        match self {
+            Unit::Inches => Reading::inches(measure),
+            Unit::Millimetres => Reading::millimetres(measure),
+        }
+    }
+}
+
+/// Dates are counted in months from January of the year 0.
+const AFTER_THE_LAST: usize = 12 * 10000;
+
+/// A date as the file and the rows have it.
+fn date(when: usize) -> String {
+    format!("{:04}-{:02}", when / 12, when % 12 + 1)
+}
+
+#[derive(Clone, Copy)]
+struct Month<'a> {
+    date: Word<'a>,
+    precipitation: Measure<'a>,
+    pe: Measure<'a>,
+}
+
+/// What the file holds. One month more is kept than a run can hold: it is the library that refuses it, and it
+/// would refuse the same one if there were more.
+struct Station<'a> {
+    capacity: Whole<'a>,
+    surface: Whole<'a>,
+    underlying: Whole<'a>,
+    constants: Vec<Whole<'a>>,
+    unit: Unit,
+    months: Vec<Month<'a>>,
+    first: usize, // the first month's date,
+    next: usize,  // and the one that is to follow the last
+}
+
+/// One of the three lines about the soil.
+fn read_storage<'a>(s: &mut Scanner<'a>, name: &str) -> Result<Whole<'a>, Stop> {
+    s.open_line(format!("{name} THOUSANDTHS"), "")?;
+    s.keyword(name)?;
+    let number = take_whole(s, &THOUSANDTHS)?;
+    s.close_line()?;
+    Ok(number)
+}
+
+/// The name of a calendar month, the one that is to come.
+fn calendar_name(s: &mut Scanner, name: &str) -> Result<(), Stop> {
+    let w = s.take()?;
+    no_comma(w, "")?;
+    if w.is(name) {
+        return Ok(());
+    }
+    if CALENDAR.iter().any(|other| w.is(other)) {
+        let what = "was to follow; the constants stand from January to December";
+        return refuse(w.at, format!("{} here, and {name} {what}", w.said()));
+    }
+    refuse(w.at, format!("\"{}\" is not known here; expected: {}", w.said(), s.expected))
+}
+
+/// The heading is asked word for word: a table in another order of columns must not pass for this one.
+fn read_constants<'a>(s: &mut Scanner<'a>) -> Result<Vec<Whole<'a>>, Stop> {
+    s.open_line("constants alpha beta gamma delta K".to_string(), "")?;
+    s.keyword("constants")?;
+    for name in CONSTANT {
+        s.keyword(name)?;
+    }
+    s.close_line()?;
+    let mut constants = Vec::with_capacity(CONSTANTS);
+    for name in CALENDAR {
+        s.open_line(format!("{name} ALPHA BETA GAMMA DELTA K"), "")?;
+        calendar_name(s, name)?;
+        for _ in CONSTANT {
+            constants.push(take_whole(s, &TEN_THOUSANDTHS)?);
+        }
+        s.close_line()?;
+    }
+    Ok(constants)
+}
+
+/// The unit stands once and has no default: 62 mm taken for 62 inches would pass the library's ranges.
+fn read_unit(s: &mut Scanner) -> Result<Unit, Stop> {
+    s.open_line("months inches, or months millimetres".to_string(), "")?;
+    s.keyword("months")?;
+    let w = s.take()?;
+    no_comma(w, "")?;
+    if !w.is("inches") && !w.is("millimetres") {
+        return refuse(w.at, format!("\"{}\" is no unit; expected: {}", w.said(), s.expected));
+    }
+    let unit = if w.is("inches") { Unit::Inches } else { Unit::Millimetres };
+    s.close_line()?;
+    Ok(unit)
+}
+
+/// A date, or none where the word is none.
+fn date_of(w: Word) -> Option<usize> {
+    if w.text.len() != 7 || w.after_digits(0) != 4 || w.text[4] != b'-' || w.after_digits(5) != 7 {
+        return None;
+    }
+    let number = |digits: &[u8]| digits.iter().fold(0, |n, &digit| 10 * n + usize::from(digit - b'0'));
+    let (year, month) = (number(&w.text[..4]), number(&w.text[5..]));
+    if (1..=12).contains(&month) {
+        Some(12 * year + month - 1)
+    } else {
+        None
+    }
+}
+
+/// A date, where it must be the one that follows. A gap is no missing reading: the next month's rain would be
+/// judged by the constants of another month.
+fn take_date(s: &Scanner, st: &Station, w: Word) -> Result<usize, Stop> {
+    let said = w.said();
+    no_comma(w, "")?;
+    let when = match date_of(w) {
+        Some(when) => when,
+        None => {
+            let expected = format!("(four digits, a minus, 01 to 12); expected: {}{}", s.expected, s.other);
+            return refuse(w.at, format!("\"{said}\" is no month {expected}"));
+        }
+    };
+    if st.months.is_empty() || when == st.next {
+        return Ok(when);
+    }
+    if st.next == AFTER_THE_LAST {
+        return refuse(w.at, format!("{said} here, and no month can follow 9999-12; expected: end"));
+    }
+    let next = date(st.next);
+    let what = if when > st.next {
+        format!("{said} here, and {next} was to follow; a month without readings is written {next} - -")
+    } else if when + 1 == st.next {
+        format!("{said} here again, and {next} was to follow; each month stands once")
+    } else {
+        format!("{said} here, and {next} was to follow; the months stand in order of time")
+    };
+    refuse(w.at, what)
+}
+
+/// Opens the line of a month or of the end, with what it should be.
+fn open_month(s: &mut Scanner, st: &Station) -> Result<(), Stop> {
+    if st.months.is_empty() {
+        s.open_line("YYYY-MM PRECIPITATION PE".to_string(), "")
+    } else if st.next == AFTER_THE_LAST {
+        s.open_line("end".to_string(), "")
+    } else {
+        s.open_line(format!("{} PRECIPITATION PE", date(st.next)), ", or end")
+    }
+}
+
+/// The next month; false where the line is the end.
+fn read_month<'a>(s: &mut Scanner<'a>, st: &mut Station<'a>) -> Result<bool, Stop> {
+    open_month(s, st)?;
+    let w = s.take()?;
+    if w.is("end") {
+        if st.months.is_empty() {
+            return refuse(w.at, format!("end here, and no month before it; expected: {}", s.expected));
+        }
+        s.expected = "end".to_string();
+        s.close_line()?;
+        return Ok(false);
+    }
+    let when = take_date(s, st, w)?;
+    let precipitation = take_reading(s, st.unit)?;
+    let pe = take_reading(s, st.unit)?;
+    s.close_line()?;
+    if st.months.is_empty() {
+        st.first = when;
+    }
+    st.next = when + 1;
+    if st.months.len() <= MOST_MONTHS {
+        st.months.push(Month { date: w, precipitation, pe });
+    }
+    Ok(true)
+}
+
+/// The whole file, line by line, before the library sees any of it.
+fn read_station(text: &[u8]) -> Result<Station<'_>, Stop> {
+    let s = &mut Scanner::new(text);
+    let capacity = read_storage(s, "capacity")?;
+    let surface = read_storage(s, "surface")?;
+    let underlying = read_storage(s, "underlying")?;
+    let constants = read_constants(s)?;
+    let unit = read_unit(s)?;
+    let mut st = Station { capacity, surface, underlying, constants, unit, months: vec![], first: 0, next: 0 };
+    while read_month(s, &mut st)? {}
+    if !s.next_line() {
+        return Ok(st);
+    }
+    if s.line.is_empty() {
+        let what = "it is empty; end is the last line, and nothing may follow it";
+        return refuse(s.whole_line(), what.to_string());
+    }
+    refuse(s.in_line(0), "something after the last line, end; nothing may follow it".to_string())
+}
+
+// ---- What the library refuses ---------------------------------------------------------------------------------
+
+/// A number of the file that the library refuses at the start.
+fn refuse_whole<T>(n: Whole, name: &str, number: u8, range: &str) -> Result<T, Stop> {
+    let why = meaning(number);
+    refuse(n.word.at, format!("{name} {} is refused ({number}: {why}), {name} is {range}", n.word.said()))
+}
+
+/// Asks again with zeros for all constants but one: the one that is refused by itself is the place.
+fn refuse_constant(st: &Station, calendar: i32, number: u8) -> Result<(), Stop> {
+    for (i, constant) in st.constants.iter().enumerate() {
+        let mut alone = [0; CONSTANTS];
+        alone[i] = constant.value;
+        let (capacity, surface, underlying) = (st.capacity.value, st.surface.value, st.underlying.value);
+        if card::start(&alone, capacity, surface, underlying, calendar).number == number {
+            return refuse_whole(*constant, CONSTANT[i % 5], number, CONSTANT_RANGE[i % 5]);
+        }
+    }
+    Ok(())
+}
+
+/// Starts the run, in the calendar month of the first month.
+fn start(st: &Station) -> Result<Run, Stop> {
+    let constants: Vec<i32> = st.constants.iter().map(|constant| constant.value).collect();
+    let (capacity, surface, underlying) = (st.capacity.value, st.surface.value, st.underlying.value);
+    let calendar = (st.first % 12 + 1) as i32;
+    let a = card::start(&constants, capacity, surface, underlying, calendar);
+    match a.number {
+        DONE => return Ok(a.run),
+        CONSTANT_OUT => refuse_constant(st, calendar, a.number)?,
+        CAPACITY_OUT => return refuse_whole(st.capacity, "capacity", a.number, "1000 to 30000"),
+        // of the two storages, the one that is refused beside 0 for the other
+        STORAGE_OUT => {
+            if card::start(&constants, capacity, surface, 0, calendar).number == a.number {
+                return refuse_whole(st.surface, "surface", a.number, "0 to 1000");
+            }
+            if card::start(&constants, capacity, 0, underlying, calendar).number == a.number {
+                return refuse_whole(st.underlying, "underlying", a.number, "0 to capacity - 1000");
+            }
+        }
+        _ => {}
+    }
+    stop(REFUSED, format!("the start is refused ({}: {})", a.number, meaning(a.number)))
+}
+
+/// Refuses a reading if it is the one that the number is about.
+fn refuse_reading(st: &Station, m: &Measure, name: &str, number: u8) -> Result<(), Stop> {
+    if card::read(m.reading).number != number {
+        return Ok(());
+    }
+    let why = meaning(number);
+    if number == MISSING_READING {
+        let what = "README.md, \"Missing months\", says what to do";
+        return refuse(m.word.at, format!("{name} is missing ({number}: {why}); {what}"));
+    }
+    let range = match st.unit {
+        Unit::Inches => "inches are 0 to 100",
+        Unit::Millimetres => "millimetres are 0 to 2540",
+    };
+    let what = format!("is refused ({number}: {why}), {range}, and a missing reading is written -");
+    refuse(m.word.at, format!("{name} {} {what}", m.word.said()))
+}
+
+/// Refuses a month for the number that an add answered.
+fn refuse_month<T>(st: &Station, at: usize, number: u8) -> Result<T, Stop> {
+    let m = &st.months[at];
+    if number == MISSING_READING || number == BAD_READING {
+        refuse_reading(st, &m.precipitation, "precipitation", number)?;
+        refuse_reading(st, &m.pe, "PE", number)?;
+    }
+    let what = format!("{} is refused ({number}: {})", m.date.said(), meaning(number));
+    if number == FULL {
+        return refuse(m.date.at, format!("{what}, a run holds {MOST_MONTHS}"));
+    }
+    refuse(Place { line: m.date.at.line, column: 0 }, what)
+}
+
+// ---- The card -------------------------------------------------------------------------------------------------
+
+/// What a call that added months came to; the figures are those of the last month that it added.
+struct Step {
+    added: u32,
+    settled: u32,
+    figures: Figures,
+}
+
+/// Adds the months one by one.
+fn add_singly(st: &Station, columns: &mut Columns, mut run: Run) -> Result<(Run, Vec<Step>), Stop> {
+    let mut steps = Vec::new();
+    for (i, m) in st.months.iter().enumerate() {
+        let a = card::add_water(run, m.precipitation.reading, m.pe.reading, columns);
+        if a.number != DONE {
+            return refuse_month(st, i, a.number);
+        }
+        steps.push(Step { added: 1, settled: a.settled, figures: a.figures });
         run = a.run;
     }
-    run
+    Ok((run, steps))
 }
 
 /// A reading as a season's lists have it: whole thousandths, or NO_READING. One that is not acceptable becomes a
 /// number that is not, so that the season refuses it as a single add does.
-fn listed(word: &str) -> i32 {
-    let a = card::read(reading(word));
+fn listed(reading: Reading) -> i32 {
+    let a = card::read(reading);
     match a.number {
-        0 => a.water as i32,
-        8 => card::NO_READING,
+        DONE => a.water as i32,
+        MISSING_READING => card::NO_READING,
         _ => i32::MIN,
     }
 }
 
-/// Adds the months `most` at a time and prints each season: the months it added, those it settled and the index
-/// of the last one added, also where a month was then refused.
-fn add_seasons(mut run: Run, months: &[&str], most: usize, columns: &mut Columns) -> Run {
-    println!("season added settled index");
-    let (p, pe): (Vec<i32>, Vec<i32>) =
-        months.chunks_exact(2).map(|pair| (listed(pair[0]), listed(pair[1]))).unzip();
-    for (season, (p, pe)) in p.chunks(most).zip(pe.chunks(most)).enumerate() {
-        let s = card::add_season(run, p, pe, columns);
-        run = s.run;
-        print!("{} {} {} {}", season + 1, s.added, s.settled, s.figures.index);
-        if s.number != 0 {
-            println!(" refused {}", s.number);
-            break;
+/// Adds the months `most` at a time.
+fn add_seasons(st: &Station, columns: &mut Columns, mut run: Run, most: usize) -> Result<(Run, Vec<Step>), Stop> {
+    let mut steps = Vec::new();
+    for (season, months) in st.months.chunks(most).enumerate() {
+        let p: Vec<i32> = months.iter().map(|m| listed(m.precipitation.reading)).collect();
+        let pe: Vec<i32> = months.iter().map(|m| listed(m.pe.reading)).collect();
+        let a = card::add_season(run, &p, &pe, columns);
+        if a.number != DONE {
+            return refuse_month(st, season * most + a.added as usize, a.number);
         }
-        println!();
+        steps.push(Step { added: a.added, settled: a.settled, figures: a.figures });
+        run = a.run;
     }
-    run
+    Ok((run, steps))
 }
 
-/// How many months a season has by the program's argument.
-fn most_months(word: &str) -> usize {
-    word.parse().ok().filter(|n| (1..=MOST_MONTHS).contains(n)).expect("a season has 1 to 2400 months")
+/// The rows of all months, as they stand after the last add: earlier ones may have been settled since.
+fn look_back(columns: &Columns, run: Run) -> Result<Vec<Shown>, Stop> {
+    let mut rows = Vec::new();
+    for i in 0..run.months as usize {
+        let row = card::row(run, i, columns);
+        if row.number != DONE {
+            return stop(REFUSED, format!("row {i} is refused ({}: {})", row.number, meaning(row.number)));
+        }
+        rows.push(row);
+    }
+    Ok(rows)
 }
 
-fn main() {
-    let mut text = String::new();
-    std::io::stdin().read_to_string(&mut text).expect("a station file");
-    let words: Vec<&str> = text.split_whitespace().collect();
-    let (head, months) = words.split_at(64);
-    let head: Vec<i32> = head.iter().map(|w| w.parse().expect("a whole number")).collect();
+// ---- Input and output -----------------------------------------------------------------------------------------
 
-    let started = card::start(&head[4..], head[0], head[1], head[2], head[3]);
-    if started.number != 0 {
-        println!("start refused {}", started.number);
-        std::process::exit(1);
+/// Standard input, output or error as the file that it is. Rust's own take one that is closed for one that is
+/// empty, or that takes everything.
+fn standard(number: i32) -> ManuallyDrop<File> {
+    // Of the file nothing is asked but that its number is 0, 1 or 2, and it is never closed here.
+    ManuallyDrop::new(unsafe { File::from_raw_fd(number) })
+}
+
+/// A row for each month, as its own add answered.
+fn singly_text(steps: &[Step], first: usize) -> String {
+    let mut text = "month P PE CAFEC Z percent index settled\n".to_string();
+    for (i, step) in steps.iter().enumerate() {
+        let (f, w) = (&step.figures, &step.figures.water);
+        text += &format!("{} {} {} {} ", date(first + i), w.p, w.pe, w.cafec);
+        text += &format!("{} {} {} {}\n", f.z, f.percent, f.index, step.settled);
     }
+    text
+}
+
+/// A row for each call: the months that it added and settled, and the index of the last one.
+fn seasons_text(steps: &[Step]) -> String {
+    let mut text = "season added settled index\n".to_string();
+    for (i, step) in steps.iter().enumerate() {
+        text += &format!("{} {} {} {}\n", i + 1, step.added, step.settled, step.figures.index);
+    }
+    text
+}
+
+/// A row for each month, as the columns have it in the end.
+fn rows_text(rows: &[Shown], first: usize) -> String {
+    let mut text = "month X1 X2 X3 index mark\n".to_string();
+    for (i, r) in rows.iter().enumerate() {
+        let mark = if r.mark == SETTLED { 'S' } else { 'O' };
+        text += &format!("{} {} {} {} {} {mark}\n", date(first + i), r.x1, r.x2, r.x3, r.index);
+    }
+    text
+}
+
+/// The head of station.c has it at more length.
+fn help_text() -> String {
+    format!(
+        "station [MONTHS] <FILE\n\
+        \n\
+        Reads a station file from standard input, adds its months to a run and prints what the card shows.\n\
+        MONTHS, 1 to {MOST_MONTHS}: adds so many months in a call, as a card that was offline; else one by one.\n\
+        \n\
+        Status: 0 done; 1 the file or a month in it is refused; 2 wrong arguments, or input that cannot be\n\
+        read; 3 output that cannot be written. What is wrong is said on standard error, in one line.\n\
+        \n\
+        The format of the file stands in the head of samples/western-kansas-station.txt and in README.md.\n"
+    )
+}
+
+/// How many months are added in a call, by the program's argument.
+fn months_in_a_call(argument: &[u8]) -> Result<usize, Stop> {
+    let w = Word { text: argument, at: Place { line: 0, column: 0 } };
+    let end = w.after_digits(0);
+    let add = |n: usize, &digit: &u8| if n <= MOST_MONTHS { 10 * n + usize::from(digit - b'0') } else { n };
+    let n = w.text[..end].iter().fold(0, add);
+    if end < w.text.len() || !(1..=MOST_MONTHS).contains(&n) {
+        let what = format!("is no number of months; expected: 1 to {MOST_MONTHS}, digits only");
+        return stop(NOT_READ, format!("\"{}\" {what}", w.said()));
+    }
+    Ok(n)
+}
+
+/// The whole of standard input.
+fn read_input() -> Result<Vec<u8>, Stop> {
+    let mut text = Vec::new();
+    if (&*standard(0)).take(MOST_BYTES as u64 + 1).read_to_end(&mut text).is_err() {
+        return stop(NOT_READ, "standard input cannot be read".to_string());
+    }
+    if text.len() > MOST_BYTES {
+        return stop(REFUSED, format!("the file is larger than {MOST_BYTES} bytes"));
+    }
+    Ok(text)
+}
+
+/// What is to be printed.
+fn station() -> Result<String, Stop> {
+    let arguments: Vec<std::ffi::OsString> = std::env::args_os().skip(1).collect();
+    let most = match &arguments[..] {
+        [] => 0,
+        [help] if help == "--help" => return Ok(help_text()),
+        [months] => months_in_a_call(months.as_bytes())?,
+        more => {
+            let what = "arguments; expected: none, or how many months are added in a call";
+            return stop(NOT_READ, format!("{} {what}", more.len()));
+        }
+    };
+    let text = read_input()?;
+    let st = read_station(&text)?;
     let (mut x1, mut x2, mut x3) = ([0; MOST_MONTHS], [0; MOST_MONTHS], [0; MOST_MONTHS]);
     let (mut index, mut mark) = ([0; MOST_MONTHS], [0; MOST_MONTHS]);
-    let mut columns = Columns { x1: &mut x1, x2: &mut x2, x3: &mut x3, index: &mut index, mark: &mut mark };
-    let run = match std::env::args().nth(1) {
-        None => add_singly(started.run, months, &mut columns),
-        Some(word) => add_seasons(started.run, months, most_months(&word), &mut columns),
-    };
-    show(run, &columns);
+    let columns = &mut Columns { x1: &mut x1, x2: &mut x2, x3: &mut x3, index: &mut index, mark: &mut mark };
+    let run = start(&st)?;
+    let (run, steps) =
+        if most == 0 { add_singly(&st, columns, run)? } else { add_seasons(&st, columns, run, most)? };
+    let rows = look_back(columns, run)?;
+    let first = if most == 0 { singly_text(&steps, st.first) } else { seasons_text(&steps) };
+    Ok(first + &rows_text(&rows, st.first))
+}
+
+/// Prints a text, or says that it cannot: standard output may be closed, full, or a pipe that nobody reads. No
+/// buffer stands in between that would have to be flushed.
+fn print(text: &str) -> Result<(), Stop> {
+    match (&*standard(1)).write_all(text.as_bytes()) {
+        Ok(()) => Ok(()),
+        Err(_) => stop(NOT_WRITTEN, "standard output cannot be written".to_string()),
+    }
+}
+
+extern "C" {
+    fn signal(number: i32, handler: usize) -> usize;
+}
+const SIGPIPE: i32 = 13;
+const SIG_IGN: usize = 1;
+
+#[no_mangle]
+pub extern "C" fn main() -> i32 {
+    // a pipe that nobody reads is then a write that fails, and is said
+    unsafe { signal(SIGPIPE, SIG_IGN) };
+    match station().and_then(|text| print(&text)) {
+        Ok(()) => 0,
+        Err(stop) => {
+            // where standard error cannot be written either, the status still tells
+            let _ = (&*standard(2)).write_all(stop.line.as_bytes());
+            stop.status
+        }
+    }
 }

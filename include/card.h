@@ -11,6 +11,18 @@
  * five columns that hold the months are the caller's memory, lent for the call. Keep the run that comes
  * back; hand the same columns in each time.
  *
+ *     static int32_t x1[600], x2[600], x3[600], indexes[600];
+ *     static uint8_t marks[600];
+ *
+ *     card_columns columns = card_columns_of(x1, x2, x3, indexes, marks, 600);
+ *     card_started start = card_start(constants, CARD_CONSTANTS, 6000, 0, 1330, 6);   // from June on
+ *     if (start.number != CARD_DONE) return complain(card_meaning(start.number));
+ *     card_run run = start.run;
+ *
+ *     card_added june = card_add_water_in(columns, run, card_inches(5.56f), card_inches(4.8f));
+ *     if (june.number != CARD_DONE) return complain(card_meaning(june.number));
+ *     run = june.run;
+ *
  * Every month is marked open or settled. An open month shows a provisional index and may still change. A
  * settled month never changes, and its index is what hindsight over the whole series would have chosen.
  *
@@ -23,7 +35,8 @@
  * WHAT IS PROMISED, AND WHAT THE CALLER OWES
  *
  * Any value of any argument's type gets its answer or its refusal: a run of any bytes, any reading, any
- * lengths. What each call answers and writes is proved for every such input. No call allocates, blocks,
+ * lengths. What each call of the library answers and writes is proved for every such input; the inline
+ * functions of this header, which only hand on to it, are tested (tests/header). No call allocates, blocks,
  * keeps a pointer or touches memory that was not lent to it, and there is no state between calls, so
  * calls on different columns may run at the same time.
  *
@@ -33,9 +46,40 @@
  * - lists of one call do not overlap, unless both are to const;
  * - nothing else reads or writes a list that is lent for writing, or writes any lent list, until the call
  *   returns;
- * - a pointer is not NULL, not even beside the length 0 (nothing is read through it there).
+ * - a pointer is not NULL, unless the length beside it is 0: there the pointer is not looked at, and the
+ *   list is empty. NULL beside any other length is the caller's fault, and no call finds it out.
  *
- * It is linked as a static library for x86-64 Linux, libcard.a, and needs memcpy and memset of its host.
+ * BUILDING AND LINKING
+ *
+ * In the project's top folder, `rt staticlib card` proves the library and writes it to
+ * target/staticlib/libcard.a. A program that includes this header, in C99 or later or in C++11 or later,
+ * is compiled and linked there with
+ *
+ *     cc -Iinclude program.c target/staticlib/libcard.a
+ *
+ * The archive is for x86-64 Linux and links only into x86-64 programs; the firmware of another processor
+ * needs another build of the kit's compiler. Of its host the library needs memcpy and memset, and nothing
+ * else.
+ *
+ * STACK
+ *
+ * The deepest stack of each call of the library in bytes, as bench/run measures it:
+ *
+ *     card_read               8
+ *     card_start            296
+ *     card_add_water       2504
+ *     card_add_inches      2488
+ *     card_add_z           1480
+ *     card_add_season      1944
+ *     card_row              392
+ *     card_whole_series   41080
+ *
+ * It is counted from the return address, which is included, down to the lowest word of 8 bytes that was
+ * written by the call or by what it calls, memcpy and memset included. Not counted is what the caller
+ * keeps: the arguments that are passed on the stack (a run alone is 288 bytes), the room for the answer
+ * (card_started 296 bytes, card_added 368, card_season 376) and what the inline functions of this header
+ * put into the caller's frame; nor is an interrupt. The figures are the deepest seen over months and
+ * refusals of all sorts: measured, not proved.
  */
 #ifndef CARD_H
 #define CARD_H
@@ -65,6 +109,26 @@ enum {
     CARD_NO_ROW = 11,        /* row number not below the months added */
     CARD_BAD_Z = 12          /* Z outside its range */
 };
+
+/* What a number means, in words. */
+static inline const char *card_meaning(uint8_t number) {
+    switch (number) {
+    case CARD_DONE: return "done";
+    case CARD_LENGTHS: return "lists not all of one length, or length 0 or above 2,400";
+    case CARD_NOT_SIXTY: return "constants not sixty numbers";
+    case CARD_CONSTANT: return "a constant outside its range";
+    case CARD_CAPACITY: return "capacity outside its range";
+    case CARD_STORAGE: return "a start storage negative or above its layer";
+    case CARD_START_MONTH: return "start month not 1 to 12";
+    case CARD_NOT_A_RUN: return "not a run";
+    case CARD_MISSING_READING: return "reading missing";
+    case CARD_BAD_READING: return "reading not acceptable";
+    case CARD_FULL: return "months already equal the column length";
+    case CARD_NO_ROW: return "row number not below the months added";
+    case CARD_BAD_Z: return "Z outside its range";
+    default: return "no number of this library";
+    }
+}
 
 /* What a column holds at most, and how many constants a station has. */
 #define CARD_MOST_MONTHS 2400
@@ -141,12 +205,16 @@ typedef struct card_values {
 } card_values;
 
 /* A run: what a station's card keeps between months, beside the columns. card_start makes one, and each
- * add hands back the next. It is plain data and may be stored and copied as such.
+ * add hands back the next. It is plain data and may be stored and copied as such; between its fields are
+ * bytes that mean nothing, so two runs are compared field by field and not with memcmp.
  *
  * These are not a run, and the calls refuse them (7): months above the column length; open months above
  * months; a constant, the capacity or a storage out of range; a calendar month not 1 to 12; an X beyond
  * 13,000,000 in size; X1 negative or X2 positive; V beyond 4,000,150 x months in size; V above 0 without
- * X3 below 0, or V below 0 without X3 above 0. */
+ * X3 below 0, or V below 0 without X3 above 0.
+ *
+ * 7 is no checksum. A run that was damaged within these ranges is taken, and so are constants that were
+ * copied in the wrong order: whoever swaps a card compares all sixty with the station's own list. */
 typedef struct card_run {
     uint32_t months;   /* how many months it holds */
     uint32_t opens;    /* how many of them, the last ones, are open */
@@ -170,6 +238,34 @@ typedef struct card_started {
  * capacity - 1,000. month: the calendar month of the first month to be added, 1 to 12. */
 card_started card_start(const int32_t *constants, size_t constants_length,
                         int32_t capacity, int32_t surface, int32_t underlying, int32_t month);
+
+/* ---- Columns -------------------------------------------------------------------------------------- */
+
+/* The five columns that hold a run's months, each with its length. They are to be of one length, 1 to
+ * CARD_MOST_MONTHS, which is how many months the run can come to hold; a month takes 17 bytes in all. A
+ * struct of zeros is five lists of length 0, and refused with 1.
+ *
+ * The calls whose names end in _in take the columns so, and are the usual way. The same calls with each
+ * list by itself stand further down. */
+typedef struct card_columns {
+    int32_t *x1;
+    size_t x1_length;
+    int32_t *x2;
+    size_t x2_length;
+    int32_t *x3;
+    size_t x3_length;
+    int32_t *index;
+    size_t index_length;
+    uint8_t *mark;
+    size_t mark_length;
+} card_columns;
+
+/* Columns that are all of one length. */
+static inline card_columns card_columns_of(int32_t *x1, int32_t *x2, int32_t *x3, int32_t *index,
+                                           uint8_t *mark, size_t length) {
+    card_columns columns = {x1, length, x2, length, x3, length, index, length, mark, length};
+    return columns;
+}
 
 /* ---- Adding a month ------------------------------------------------------------------------------- */
 
@@ -211,16 +307,11 @@ typedef struct card_added {
 /* Adds a month of water from two readings. Refusals, in this order: 1, 7, precipitation 8 or 9, PE 8 or
  * 9, 10.
  *
- * The five columns are lists of one length, 1 to CARD_MOST_MONTHS: X1, X2, X3, index and mark. The call
- * writes the new month's place in the five columns (place run.months, counted from 0), and index and mark
- * of the open months that it settles, and nothing else. It takes the run's open months as the columns
- * hold them and does not check what they hold. */
-card_added card_add_water(card_run run, card_reading precipitation, card_reading pe,
-                          int32_t *x1, size_t x1_length,
-                          int32_t *x2, size_t x2_length,
-                          int32_t *x3, size_t x3_length,
-                          int32_t *index, size_t index_length,
-                          uint8_t *mark, size_t mark_length);
+ * The call writes the new month's place in the five columns (place run.months, counted from 0), and index
+ * and mark of the open months that it settles, and nothing else. It takes the run's open months as the
+ * columns hold them and does not check what they hold. */
+static inline card_added card_add_water_in(card_columns columns, card_run run,
+                                           card_reading precipitation, card_reading pe);
 
 /* One month's precipitation and PE, both in inches, 0 to 100. */
 typedef struct card_month_inches {
@@ -229,22 +320,12 @@ typedef struct card_month_inches {
 } card_month_inches;
 
 /* The same from precipitation and PE that arrive together as inches. Refusals, in this order: 1, 7,
- * precipitation 9, PE 9, 10. */
-card_added card_add_inches(card_run run, card_month_inches month,
-                           int32_t *x1, size_t x1_length,
-                           int32_t *x2, size_t x2_length,
-                           int32_t *x3, size_t x3_length,
-                           int32_t *index, size_t index_length,
-                           uint8_t *mark, size_t mark_length);
+ * precipitation 9, PE 9, 10. There is no missing reading here: NaN is 9. */
+static inline card_added card_add_inches_in(card_columns columns, card_run run, card_month_inches month);
 
 /* Adds a Z, -4,000,000 to 4,000,000: the storages stay, the calendar moves on. Refusals, in this order:
- * 1, 7, 12, 10. It writes what card_add_water writes. */
-card_added card_add_z(card_run run, int32_t z,
-                      int32_t *x1, size_t x1_length,
-                      int32_t *x2, size_t x2_length,
-                      int32_t *x3, size_t x3_length,
-                      int32_t *index, size_t index_length,
-                      uint8_t *mark, size_t mark_length);
+ * 1, 7, 12, 10. It writes what card_add_water_in writes. */
+static inline card_added card_add_z_in(card_columns columns, card_run run, int32_t z);
 
 /* ---- Adding a season ------------------------------------------------------------------------------ */
 
@@ -262,24 +343,45 @@ typedef struct card_season {
     card_run run;         /* the run with these months added */
 } card_season;
 
-/* Adds months of water in order, as card_add_water would one by one: the run, the columns, the counts and
- * the figures are those of the single adds. For a card that comes back with several months at once.
+/* Adds months of water in order, as card_add_water_in would one by one: the run, the columns, the counts
+ * and the figures are those of the single adds. For a card that comes back with several months at once.
  *
  * precipitation and pe: lists of one length, any length, 0 included; whole thousandths of an inch, 0 to
- * 100,000, or CARD_NO_READING.
+ * 100,000, or CARD_NO_READING. card_read makes thousandths of inches and millimetres.
  *
  * Refusals: before the first month 1 (the five columns as ever, and the two lists of unequal length), then
  * 7; then of each month, in this order, precipitation 8 or 9, PE 8 or 9, 10. At the first month refused the
  * call stops: the months before it stay added, and nothing of it or of those after it is written. With 1 or
  * 7, or with empty lists, nothing is added. */
-card_season card_add_season(card_run run,
-                            const int32_t *precipitation, size_t precipitation_length,
-                            const int32_t *pe, size_t pe_length,
-                            int32_t *x1, size_t x1_length,
-                            int32_t *x2, size_t x2_length,
-                            int32_t *x3, size_t x3_length,
-                            int32_t *index, size_t index_length,
-                            uint8_t *mark, size_t mark_length);
+static inline card_season card_add_season_in(card_columns columns, card_run run,
+                                             const int32_t *precipitation, size_t precipitation_length,
+                                             const int32_t *pe, size_t pe_length);
+
+/* ---- Missing months ------------------------------------------------------------------------------- */
+
+/* A month whose precipitation or PE is missing is refused with 8: nothing is written, and the run comes
+ * back with its calendar still at that month (a season stops there, and `added` is its place). No later
+ * month can be added in its right place before something is done about this one. Never add the next
+ * month's water in its stead: it would be judged by the wrong month's constants, and so would every month
+ * after it. What the card's holder may do, and what it means for the index:
+ *
+ * - Wait. The index stands still, and the card shows the last month that was added. When the reading
+ *   comes, add it and then the months after it; card_add_season_in takes them in one call.
+ * - Add an estimate, as from neighbouring stations. The month is reckoned like any other, its water balance
+ *   included, and nothing in the card tells that it was an estimate: the holder's own log must. Should the
+ *   true reading turn up later, the record is put right only by starting again with it, from the first
+ *   month or from a copy of run and columns from before that month.
+ * - Add a Z of 0 (card_add_z_in). The calendar moves on, the storages stay as they were before the month,
+ *   and the month counts as normal: X1, X2 and X3 fade to 2691/3000 of themselves, a spell in force abates,
+ *   and one whose X3 is at most 613 in size ends. A drought may seem to weaken or to end that did not.
+ * - Start a new run, in other columns: in the same ones it would write over the past months. It knows no
+ *   spell (X1, X2, X3 all 0) and needs start storages; months must pass before its index says anything.
+ * - Never give 0 for a missing reading. A month without rain is a dry month that nobody measured, and it
+ *   can found a drought.
+ *
+ * This project recommends: wait as long as the reading may still come, for the index is monthly and a late
+ * one is better than a wrong one. Then take an estimate from neighbouring stations, written down as such. A
+ * Z of 0 is only for where no estimate can be had and rain and PE were near the normal of that month. */
 
 /* ---- Looking back --------------------------------------------------------------------------------- */
 
@@ -294,12 +396,7 @@ typedef struct card_shown {
 } card_shown;
 
 /* Shows a month's row, counted from 0. Refusals, in this order: 1, 7, 11. It writes nothing. */
-card_shown card_row(card_run run, size_t row,
-                    const int32_t *x1, size_t x1_length,
-                    const int32_t *x2, size_t x2_length,
-                    const int32_t *x3, size_t x3_length,
-                    const int32_t *index, size_t index_length,
-                    const uint8_t *mark, size_t mark_length);
+static inline card_shown card_row_in(card_columns columns, card_run run, size_t row);
 
 /* The whole series of a list of Z: fills a list of indexes and one of marks, equal in length, 1 to
  * CARD_MOST_MONTHS, as adding them one by one to a fresh run would. Refusals, in this order: 1, 12. It
@@ -307,6 +404,212 @@ card_shown card_row(card_run run, size_t row,
 uint8_t card_whole_series(const int32_t *z, size_t z_length,
                           int32_t *index, size_t index_length,
                           uint8_t *mark, size_t mark_length);
+
+/* ---- The same calls, each list by itself ---------------------------------------------------------- */
+
+/* The calls above as the library has them, with each column and its length as two arguments. Each does and
+ * answers what the call with _in does. */
+card_added card_add_water(card_run run, card_reading precipitation, card_reading pe,
+                          int32_t *x1, size_t x1_length,
+                          int32_t *x2, size_t x2_length,
+                          int32_t *x3, size_t x3_length,
+                          int32_t *index, size_t index_length,
+                          uint8_t *mark, size_t mark_length);
+
+card_added card_add_inches(card_run run, card_month_inches month,
+                           int32_t *x1, size_t x1_length,
+                           int32_t *x2, size_t x2_length,
+                           int32_t *x3, size_t x3_length,
+                           int32_t *index, size_t index_length,
+                           uint8_t *mark, size_t mark_length);
+
+card_added card_add_z(card_run run, int32_t z,
+                      int32_t *x1, size_t x1_length,
+                      int32_t *x2, size_t x2_length,
+                      int32_t *x3, size_t x3_length,
+                      int32_t *index, size_t index_length,
+                      uint8_t *mark, size_t mark_length);
+
+card_season card_add_season(card_run run,
+                            const int32_t *precipitation, size_t precipitation_length,
+                            const int32_t *pe, size_t pe_length,
+                            int32_t *x1, size_t x1_length,
+                            int32_t *x2, size_t x2_length,
+                            int32_t *x3, size_t x3_length,
+                            int32_t *index, size_t index_length,
+                            uint8_t *mark, size_t mark_length);
+
+card_shown card_row(card_run run, size_t row,
+                    const int32_t *x1, size_t x1_length,
+                    const int32_t *x2, size_t x2_length,
+                    const int32_t *x3, size_t x3_length,
+                    const int32_t *index, size_t index_length,
+                    const uint8_t *mark, size_t mark_length);
+
+/* ---- NULL beside the length 0 --------------------------------------------------------------------- */
+
+/* A caller need read no further. The library itself must never be handed NULL, so the functions below
+ * stand before it and lend a number of their own in place of a list of length 0. At the end each call that
+ * takes lists becomes a macro for its function here, as C's own library has it with getc: card_start(..)
+ * is card_start_lent(..), while (card_start)(..) and &card_start are the library's function, which takes
+ * no NULL. The cost is a test for each list, and with some compilers one more copy of the run.
+ *
+ * A further column is a field of card_columns, a line of card_not_null and two arguments of CARD_EACH. */
+
+/* The columns with their empty lists at an address. */
+static inline card_columns card_not_null(card_columns columns, int32_t *none, uint8_t *no_mark) {
+    if (columns.x1_length == 0) columns.x1 = none;
+    if (columns.x2_length == 0) columns.x2 = none;
+    if (columns.x3_length == 0) columns.x3 = none;
+    if (columns.index_length == 0) columns.index = none;
+    if (columns.mark_length == 0) columns.mark = no_mark;
+    return columns;
+}
+
+/* The columns as the library's calls take them. */
+#define CARD_EACH(columns)                                                                              \
+    (columns).x1, (columns).x1_length, (columns).x2, (columns).x2_length, (columns).x3,                 \
+        (columns).x3_length, (columns).index, (columns).index_length, (columns).mark, (columns).mark_length
+
+static inline card_added card_add_water_in(card_columns columns, card_run run,
+                                           card_reading precipitation, card_reading pe) {
+    int32_t none = 0;
+    uint8_t no_mark = 0;
+    columns = card_not_null(columns, &none, &no_mark);
+    return (card_add_water)(run, precipitation, pe, CARD_EACH(columns));
+}
+
+static inline card_added card_add_inches_in(card_columns columns, card_run run, card_month_inches month) {
+    int32_t none = 0;
+    uint8_t no_mark = 0;
+    columns = card_not_null(columns, &none, &no_mark);
+    return (card_add_inches)(run, month, CARD_EACH(columns));
+}
+
+static inline card_added card_add_z_in(card_columns columns, card_run run, int32_t z) {
+    int32_t none = 0;
+    uint8_t no_mark = 0;
+    columns = card_not_null(columns, &none, &no_mark);
+    return (card_add_z)(run, z, CARD_EACH(columns));
+}
+
+static inline card_season card_add_season_in(card_columns columns, card_run run,
+                                             const int32_t *precipitation, size_t precipitation_length,
+                                             const int32_t *pe, size_t pe_length) {
+    int32_t none = 0;
+    uint8_t no_mark = 0;
+    columns = card_not_null(columns, &none, &no_mark);
+    return (card_add_season)(run, precipitation_length ? precipitation : &none, precipitation_length,
+                             pe_length ? pe : &none, pe_length, CARD_EACH(columns));
+}
+
+static inline card_shown card_row_in(card_columns columns, card_run run, size_t row) {
+    int32_t none = 0;
+    uint8_t no_mark = 0;
+    columns = card_not_null(columns, &none, &no_mark);
+    return (card_row)(run, row, CARD_EACH(columns));
+}
+
+static inline card_added card_add_water_lent(card_run run, card_reading precipitation, card_reading pe,
+                                             int32_t *x1, size_t x1_length,
+                                             int32_t *x2, size_t x2_length,
+                                             int32_t *x3, size_t x3_length,
+                                             int32_t *index, size_t index_length,
+                                             uint8_t *mark, size_t mark_length) {
+    card_columns columns = {x1, x1_length, x2, x2_length, x3, x3_length,
+                            index, index_length, mark, mark_length};
+    int32_t none = 0;
+    uint8_t no_mark = 0;
+    columns = card_not_null(columns, &none, &no_mark);
+    return (card_add_water)(run, precipitation, pe, CARD_EACH(columns));
+}
+
+static inline card_added card_add_inches_lent(card_run run, card_month_inches month,
+                                              int32_t *x1, size_t x1_length,
+                                              int32_t *x2, size_t x2_length,
+                                              int32_t *x3, size_t x3_length,
+                                              int32_t *index, size_t index_length,
+                                              uint8_t *mark, size_t mark_length) {
+    card_columns columns = {x1, x1_length, x2, x2_length, x3, x3_length,
+                            index, index_length, mark, mark_length};
+    int32_t none = 0;
+    uint8_t no_mark = 0;
+    columns = card_not_null(columns, &none, &no_mark);
+    return (card_add_inches)(run, month, CARD_EACH(columns));
+}
+
+static inline card_added card_add_z_lent(card_run run, int32_t z,
+                                         int32_t *x1, size_t x1_length,
+                                         int32_t *x2, size_t x2_length,
+                                         int32_t *x3, size_t x3_length,
+                                         int32_t *index, size_t index_length,
+                                         uint8_t *mark, size_t mark_length) {
+    card_columns columns = {x1, x1_length, x2, x2_length, x3, x3_length,
+                            index, index_length, mark, mark_length};
+    int32_t none = 0;
+    uint8_t no_mark = 0;
+    columns = card_not_null(columns, &none, &no_mark);
+    return (card_add_z)(run, z, CARD_EACH(columns));
+}
+
+static inline card_season card_add_season_lent(card_run run,
+                                               const int32_t *precipitation, size_t precipitation_length,
+                                               const int32_t *pe, size_t pe_length,
+                                               int32_t *x1, size_t x1_length,
+                                               int32_t *x2, size_t x2_length,
+                                               int32_t *x3, size_t x3_length,
+                                               int32_t *index, size_t index_length,
+                                               uint8_t *mark, size_t mark_length) {
+    card_columns columns = {x1, x1_length, x2, x2_length, x3, x3_length,
+                            index, index_length, mark, mark_length};
+    int32_t none = 0;
+    uint8_t no_mark = 0;
+    columns = card_not_null(columns, &none, &no_mark);
+    return (card_add_season)(run, precipitation_length ? precipitation : &none, precipitation_length,
+                             pe_length ? pe : &none, pe_length, CARD_EACH(columns));
+}
+
+static inline card_shown card_row_lent(card_run run, size_t row,
+                                       const int32_t *x1, size_t x1_length,
+                                       const int32_t *x2, size_t x2_length,
+                                       const int32_t *x3, size_t x3_length,
+                                       const int32_t *index, size_t index_length,
+                                       const uint8_t *mark, size_t mark_length) {
+    int32_t none = 0;
+    uint8_t no_mark = 0;
+    return (card_row)(run, row,
+                      x1_length ? x1 : &none, x1_length,
+                      x2_length ? x2 : &none, x2_length,
+                      x3_length ? x3 : &none, x3_length,
+                      index_length ? index : &none, index_length,
+                      mark_length ? mark : &no_mark, mark_length);
+}
+
+static inline card_started card_start_lent(const int32_t *constants, size_t constants_length,
+                                           int32_t capacity, int32_t surface,
+                                           int32_t underlying, int32_t month) {
+    int32_t none = 0;
+    return (card_start)(constants_length ? constants : &none, constants_length,
+                        capacity, surface, underlying, month);
+}
+
+static inline uint8_t card_whole_series_lent(const int32_t *z, size_t z_length,
+                                             int32_t *index, size_t index_length,
+                                             uint8_t *mark, size_t mark_length) {
+    int32_t none = 0;
+    uint8_t no_mark = 0;
+    return (card_whole_series)(z_length ? z : &none, z_length,
+                               index_length ? index : &none, index_length,
+                               mark_length ? mark : &no_mark, mark_length);
+}
+
+#define card_start(...) card_start_lent(__VA_ARGS__)
+#define card_whole_series(...) card_whole_series_lent(__VA_ARGS__)
+#define card_add_water(...) card_add_water_lent(__VA_ARGS__)
+#define card_add_inches(...) card_add_inches_lent(__VA_ARGS__)
+#define card_add_z(...) card_add_z_lent(__VA_ARGS__)
+#define card_add_season(...) card_add_season_lent(__VA_ARGS__)
+#define card_row(...) card_row_lent(__VA_ARGS__)
 
 #ifdef __cplusplus
 }

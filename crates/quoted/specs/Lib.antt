@@ -1,2 +1,3 @@
--- What the contracts of `quoted` cite: the start of a line, as it is kept (Start).
+-- What the contracts of `quoted` cite: the start of a line, as it is kept (Start); and what its theorem says of it (Quotes).
 pub mod Start
+pub mod Quotes

@@ -1,9 +1,9 @@
 -- `lines::spoiled_at`: what has been passed and the digits that still stand in front make the place. Assumes nothing.
 use borrow.Author.Needs.{needs}
 use mathlib.Core.Path.{_≡_, sym, _∙_}
-use Prim.Native.Nat.{ℕ, _+_, _-_, _≤_, _<_}
+use Prim.Native.Nat.{_+_, _-_, _≤_}
 use native.Mathlib.Omega.{arith}
-use lib.ListN.{length, drop, getD, drop-of-length-le}
+use lib.ListN.{length, drop, drop-of-length-le}
 use borrow.Author.Tests.{not-true, not-false}
 use Rattle.lines.specs.Fault.{digitsIn, spoiledAt}
 use Rattle.lines.proofs.Faults.{after-sign, sign-and-body, one-digit, no-digit}

@@ -2,7 +2,6 @@
 use Prim.Native.Nat.{_-_, _≤_}
 use borrow.Author.Needs.{needs}
 use native.Mathlib.Omega.{arith}
-use lib.ListN.{length}
 use Rattle.words.proofs.all_shown.Statement.{statement}
 use Rattle.words.proofs.all_shown.Tie as tie
 

@@ -1,0 +1,680 @@
+/* Tries what include/card.h adds to the library for C: NULL beside the length 0, the columns as one struct, the
+ * meanings of the numbers, and what it says of missing months. The library's own functions, asked with valid
+ * pointers, are what the header's are held to. It is linked so that every call of the library is watched for
+ * NULL: see tests/header/run. */
+#include "card.h"
+
+#include <stdio.h>
+#include <stdlib.h>
+#include <string.h>
+
+#define MONTHS 48
+
+static unsigned long checks;
+
+static void check(const char *where, int good, const char *what) {
+    checks++;
+    if (good) return;
+    fprintf(stderr, "header: %s: %s\n", where, what);
+    exit(1);
+}
+
+static void check_number(const char *where, uint8_t got, uint8_t expected) {
+    checks++;
+    if (got == expected) return;
+    fprintf(stderr, "header: %s: answered with %d (%s), expected %d (%s)\n", where, got, card_meaning(got),
+            expected, card_meaning(expected));
+    exit(1);
+}
+
+/* ---- The library, watched ------------------------------------------------------------------------- */
+
+/* The linker leads each call of card_start to __wrap_card_start, and __real_card_start to the library. */
+
+#define WRITTEN int32_t *, size_t, int32_t *, size_t, int32_t *, size_t, int32_t *, size_t, uint8_t *, size_t
+#define READ const int32_t *, size_t, const int32_t *, size_t, const int32_t *, size_t, const int32_t *, \
+             size_t, const uint8_t *, size_t
+
+static unsigned long watched;
+
+static void watch(const char *where, int good) {
+    watched++;
+    check(where, good, "the library was handed NULL");
+}
+
+#define LENT int32_t *x1, size_t n1, int32_t *x2, size_t n2, int32_t *x3, size_t n3, int32_t *i, size_t ni, \
+             uint8_t *m, size_t nm
+#define LENT_TO_READ const int32_t *x1, size_t n1, const int32_t *x2, size_t n2, const int32_t *x3, size_t n3, \
+                     const int32_t *i, size_t ni, const uint8_t *m, size_t nm
+#define HANDED x1, n1, x2, n2, x3, n3, i, ni, m, nm
+#define NONE_NULL (x1 && x2 && x3 && i && m)
+
+card_started __real_card_start(const int32_t *, size_t, int32_t, int32_t, int32_t, int32_t);
+card_started __wrap_card_start(const int32_t *list, size_t n, int32_t c, int32_t s, int32_t u, int32_t month) {
+    watch("card_start", list != NULL);
+    return __real_card_start(list, n, c, s, u, month);
+}
+
+card_added __real_card_add_water(card_run, card_reading, card_reading, WRITTEN);
+card_added __wrap_card_add_water(card_run run, card_reading p, card_reading pe, LENT) {
+    watch("card_add_water", NONE_NULL);
+    return __real_card_add_water(run, p, pe, HANDED);
+}
+
+card_added __real_card_add_inches(card_run, card_month_inches, WRITTEN);
+card_added __wrap_card_add_inches(card_run run, card_month_inches month, LENT) {
+    watch("card_add_inches", NONE_NULL);
+    return __real_card_add_inches(run, month, HANDED);
+}
+
+card_added __real_card_add_z(card_run, int32_t, WRITTEN);
+card_added __wrap_card_add_z(card_run run, int32_t z, LENT) {
+    watch("card_add_z", NONE_NULL);
+    return __real_card_add_z(run, z, HANDED);
+}
+
+card_season __real_card_add_season(card_run, const int32_t *, size_t, const int32_t *, size_t, WRITTEN);
+card_season __wrap_card_add_season(card_run run, const int32_t *p, size_t np, const int32_t *pe, size_t npe,
+                                   LENT) {
+    watch("card_add_season", NONE_NULL && p && pe);
+    return __real_card_add_season(run, p, np, pe, npe, HANDED);
+}
+
+card_shown __real_card_row(card_run, size_t, READ);
+card_shown __wrap_card_row(card_run run, size_t row, LENT_TO_READ) {
+    watch("card_row", NONE_NULL);
+    return __real_card_row(run, row, HANDED);
+}
+
+uint8_t __real_card_whole_series(const int32_t *, size_t, int32_t *, size_t, uint8_t *, size_t);
+uint8_t __wrap_card_whole_series(const int32_t *z, size_t nz, int32_t *i, size_t ni, uint8_t *m, size_t nm) {
+    watch("card_whole_series", z && i && m);
+    return __real_card_whole_series(z, nz, i, ni, m, nm);
+}
+
+/* ---- Lists ---------------------------------------------------------------------------------------- */
+
+typedef struct lists {
+    int32_t x1[MONTHS], x2[MONTHS], x3[MONTHS], index[MONTHS];
+    uint8_t mark[MONTHS];
+} lists;
+
+static card_columns lent(lists *of, size_t length) {
+    return card_columns_of(of->x1, of->x2, of->x3, of->index, of->mark, length);
+}
+
+/* Of numbers and bytes without gaps between them, so that they can be compared as bytes. */
+static int same_lists(const lists *a, const lists *b) {
+    return memcmp(a, b, sizeof *a) == 0;
+}
+
+/* Lists in which every place holds another number, so that a write anywhere is seen. */
+static lists fresh_lists(void) {
+    lists made;
+    for (int i = 0; i < MONTHS; i++) {
+        made.x1[i] = 1000 + i;
+        made.x2[i] = 2000 + i;
+        made.x3[i] = 3000 + i;
+        made.index[i] = 4000 + i;
+        made.mark[i] = (uint8_t)(100 + i);
+    }
+    return made;
+}
+
+/* ---- Calls and their answers ---------------------------------------------------------------------- */
+
+enum { WATER, INCHES, Z, SEASON, ROW, KINDS };
+
+static const char *const KIND_NAMES[KINDS] = {"add water", "add inches", "add Z", "add season", "row"};
+
+/* A call that takes columns: its kind, and what that kind is asked with. */
+typedef struct call {
+    int kind;
+    card_reading p, pe;
+    card_month_inches inches;
+    int32_t z;
+    const int32_t *list_p, *list_pe;
+    size_t list_p_length, list_pe_length;
+    size_t row;
+} call;
+
+/* What a call of any kind answered; what its kind does not answer is 0. */
+typedef struct answer {
+    uint8_t number;
+    uint32_t added, settled;
+    card_figures figures;
+    card_run run;
+    card_shown shown;
+} answer;
+
+static answer of_added(card_added a) {
+    answer made = {0};
+    made.number = a.number;
+    made.settled = a.settled;
+    made.figures = a.figures;
+    made.run = a.run;
+    return made;
+}
+
+static answer of_season(card_season s) {
+    answer made = {0};
+    made.number = s.number;
+    made.added = s.added;
+    made.settled = s.settled;
+    made.figures = s.figures;
+    made.run = s.run;
+    return made;
+}
+
+/* A row hands back no run: the one it was asked with stands there. */
+static answer of_shown(card_shown s, card_run run) {
+    answer made = {0};
+    made.number = s.number;
+    made.shown = s;
+    made.run = run;
+    return made;
+}
+
+#define EACH(k) (k).x1, (k).x1_length, (k).x2, (k).x2_length, (k).x3, (k).x3_length, \
+                (k).index, (k).index_length, (k).mark, (k).mark_length
+#define SEASON_OF(c) (c).list_p, (c).list_p_length, (c).list_pe, (c).list_pe_length
+
+/* By the library's own functions, which take no NULL. */
+static answer by_library(call c, card_run run, card_columns k) {
+    switch (c.kind) {
+    case WATER: return of_added((card_add_water)(run, c.p, c.pe, EACH(k)));
+    case INCHES: return of_added((card_add_inches)(run, c.inches, EACH(k)));
+    case Z: return of_added((card_add_z)(run, c.z, EACH(k)));
+    case SEASON: return of_season((card_add_season)(run, SEASON_OF(c), EACH(k)));
+    default: return of_shown((card_row)(run, c.row, EACH(k)), run);
+    }
+}
+
+/* By the calls with each list by itself, as a program writes them. */
+static answer by_lists(call c, card_run run, card_columns k) {
+    switch (c.kind) {
+    case WATER: return of_added(card_add_water(run, c.p, c.pe, EACH(k)));
+    case INCHES: return of_added(card_add_inches(run, c.inches, EACH(k)));
+    case Z: return of_added(card_add_z(run, c.z, EACH(k)));
+    case SEASON: return of_season(card_add_season(run, SEASON_OF(c), EACH(k)));
+    default: return of_shown(card_row(run, c.row, EACH(k)), run);
+    }
+}
+
+/* By the calls with the columns as one. */
+static answer by_columns(call c, card_run run, card_columns k) {
+    switch (c.kind) {
+    case WATER: return of_added(card_add_water_in(k, run, c.p, c.pe));
+    case INCHES: return of_added(card_add_inches_in(k, run, c.inches));
+    case Z: return of_added(card_add_z_in(k, run, c.z));
+    case SEASON: return of_season(card_add_season_in(k, run, SEASON_OF(c)));
+    default: return of_shown(card_row_in(k, run, c.row), run);
+    }
+}
+
+static int same_run(const card_run *a, const card_run *b) {
+    return a->months == b->months && a->opens == b->opens && a->calendar == b->calendar &&
+           a->soil.capacity == b->soil.capacity && a->soil.surface == b->soil.surface &&
+           a->soil.underlying == b->soil.underlying && a->values.x1 == b->values.x1 &&
+           a->values.x2 == b->values.x2 && a->values.x3 == b->values.x3 && a->values.v == b->values.v &&
+           memcmp(a->constants, b->constants, sizeof a->constants) == 0;
+}
+
+static int same_figures(const card_figures *a, const card_figures *b) {
+    return memcmp(&a->water, &b->water, sizeof a->water) == 0 && a->z == b->z && a->percent == b->percent &&
+           a->x1 == b->x1 && a->x2 == b->x2 && a->x3 == b->x3 && a->index == b->index && a->mark == b->mark;
+}
+
+static int same_shown(const card_shown *a, const card_shown *b) {
+    return a->number == b->number && a->x1 == b->x1 && a->x2 == b->x2 && a->x3 == b->x3 &&
+           a->index == b->index && a->mark == b->mark;
+}
+
+static void check_same(const char *where, const answer *a, const answer *b) {
+    check_number(where, a->number, b->number);
+    check(where, a->added == b->added, "another count of months added");
+    check(where, a->settled == b->settled, "another count of months settled");
+    check(where, same_figures(&a->figures, &b->figures), "other figures");
+    check(where, same_run(&a->run, &b->run), "another run");
+    check(where, same_shown(&a->shown, &b->shown), "another row");
+}
+
+/* An answer that refuses: the number, the run as it was given and all else 0. */
+static void check_refused(const char *where, const answer *a, uint8_t number, card_run given) {
+    answer expected = {0};
+    expected.number = number;
+    expected.run = given;
+    if (a->shown.number != 0) expected.shown.number = number;
+    check_same(where, a, &expected);
+}
+
+/* ---- A station ------------------------------------------------------------------------------------ */
+
+/* Western Kansas, from June 1932 on. */
+static const int32_t CONSTANTS[CARD_CONSTANTS] = {
+    9466, 722, 23, 4694, 25800,  9754, 1166, 20, 2290, 22000, 9679, 1136, 317, 3730, 18400,
+    9218, 1499, 359, 2688, 15400, 8581, 1155, 266, 3613, 13800, 7099, 268, 251, 4332, 12800,
+    5660, 71, 0, 5151, 13800,    5074, 40, 0, 5274, 16600,    4899, 9, 0, 5272, 18700,
+    5533, 436, 0, 3519, 18200,   6596, 652, 195, 3245, 20400, 9223, 900, 0, 4055, 22600};
+
+static card_run station(void) {
+    card_started started = card_start(CONSTANTS, CARD_CONSTANTS, 6000, 0, 1330, 6);
+    check_number("start", started.number, CARD_DONE);
+    return started.run;
+}
+
+/* A number from low to high, the same at every run of this program. */
+static int32_t drawn(int32_t low, int32_t high) {
+    static uint64_t state = 7;
+    state = state * 6364136223846793005u + 1442695040888963407u;
+    return low + (int32_t)((state >> 33) % (uint64_t)(high - low + 1));
+}
+
+static const int32_t SEASON_P[3] = {1780, 1530, 1280};
+static const int32_t SEASON_PE[3] = {7040, 5970, 3410};
+
+/* A call of this kind that a run of some months accepts. */
+static call good_call(int kind) {
+    call c = {0};
+    c.kind = kind;
+    c.p = card_whole(drawn(0, 6000));
+    c.pe = drawn(0, 1) ? card_inches((float)drawn(0, 8)) : card_millimetres((float)drawn(0, 200));
+    c.inches.p = (float)drawn(0, 60) / 10.0f;
+    c.inches.pe = (float)drawn(0, 80) / 10.0f;
+    c.z = drawn(-6000, 6000);
+    c.list_p = SEASON_P;
+    c.list_p_length = 3;
+    c.list_pe = SEASON_PE;
+    c.list_pe_length = 3;
+    return c;
+}
+
+/* ---- What is tried -------------------------------------------------------------------------------- */
+
+static void try_meanings(void) {
+    static const char *const words[15] = {
+        "done", "lists not all of one length, or length 0 or above 2,400", "constants not sixty numbers",
+        "a constant outside its range", "capacity outside its range",
+        "a start storage negative or above its layer", "start month not 1 to 12", "not a run",
+        "reading missing", "reading not acceptable", "months already equal the column length",
+        "row number not below the months added", "Z outside its range", "no number of this library",
+        "no number of this library"};
+    for (int i = 0; i < 15; i++) {
+        uint8_t number = (uint8_t)(i < 14 ? i : 255);
+        check("card_meaning", strcmp(card_meaning(number), words[i]) == 0, words[i]);
+    }
+}
+
+/* The sizes that the header gives. */
+static void try_sizes(void) {
+    check("sizes", sizeof(card_run) == 288, "a run is not 288 bytes");
+    check("sizes", sizeof(card_started) == 296, "card_started is not 296 bytes");
+    check("sizes", sizeof(card_added) == 368, "card_added is not 368 bytes");
+    check("sizes", sizeof(card_season) == 376, "card_season is not 376 bytes");
+    check("sizes", sizeof(lists) == 17 * MONTHS, "a month is not 17 bytes in the columns");
+}
+
+/* The columns with length 0 for each in the set, at the address that they have, or at NULL. */
+static card_columns emptied(card_columns k, unsigned set, int null) {
+    if (set & 1) k.x1_length = 0;
+    if (set & 2) k.x2_length = 0;
+    if (set & 4) k.x3_length = 0;
+    if (set & 8) k.index_length = 0;
+    if (set & 16) k.mark_length = 0;
+    if (!null) return k;
+    if (set & 1) k.x1 = NULL;
+    if (set & 2) k.x2 = NULL;
+    if (set & 4) k.x3 = NULL;
+    if (set & 8) k.index = NULL;
+    if (set & 16) k.mark = NULL;
+    return k;
+}
+
+/* Every set of columns but the empty one as NULL beside 0, in every kind of call: 1, and nothing is written. */
+static void try_null_columns(void) {
+    lists held = fresh_lists();
+    const lists before = held;
+    card_run run = station();
+    for (int kind = 0; kind < KINDS; kind++) {
+        for (unsigned set = 1; set < 32; set++) {
+            call c = good_call(kind);
+            answer expected = by_library(c, run, emptied(lent(&held, MONTHS), set, 0));
+            card_columns null = emptied(lent(&held, MONTHS), set, 1);
+            answer lists_null = by_lists(c, run, null), columns_null = by_columns(c, run, null);
+            check_refused(KIND_NAMES[kind], &expected, CARD_LENGTHS, run);
+            check_same(KIND_NAMES[kind], &lists_null, &expected);
+            check_same(KIND_NAMES[kind], &columns_null, &expected);
+            check(KIND_NAMES[kind], same_lists(&held, &before), "a column was written");
+        }
+    }
+}
+
+static void try_null_constants(void) {
+    card_started valid = (card_start)(CONSTANTS, 0, 6000, 0, 1330, 6);
+    card_started null = card_start(NULL, 0, 6000, 0, 1330, 6);
+    card_started all_wrong = card_start(NULL, 0, -1, -1, -1, -1);
+    card_run zeros = {0};
+    check_number("start, constants NULL", valid.number, CARD_NOT_SIXTY);
+    check_number("start, constants NULL", null.number, CARD_NOT_SIXTY);
+    check_number("start, all wrong", all_wrong.number, CARD_NOT_SIXTY);
+    check("start, constants NULL", same_run(&null.run, &zeros), "not a run of zeros");
+    check("start, constants NULL", same_run(&null.run, &valid.run), "another run");
+}
+
+/* A season's lists: both NULL beside 0 are a season of no months, one beside three months is refused. */
+static void try_null_season(void) {
+    lists held = fresh_lists();
+    const lists before = held;
+    card_run run = station();
+    for (unsigned set = 1; set < 4; set++) {
+        call c = good_call(SEASON);
+        if (set & 1) c.list_p_length = 0;
+        if (set & 2) c.list_pe_length = 0;
+        answer expected = by_library(c, run, lent(&held, MONTHS));
+        if (set & 1) c.list_p = NULL;
+        if (set & 2) c.list_pe = NULL;
+        answer lists_null = by_lists(c, run, lent(&held, MONTHS));
+        answer columns_null = by_columns(c, run, lent(&held, MONTHS));
+        answer all_null = by_columns(c, run, emptied(lent(&held, MONTHS), 31, 1));
+        check_refused("season, lists NULL", &expected, set == 3 ? CARD_DONE : CARD_LENGTHS, run);
+        check_same("season, lists NULL", &lists_null, &expected);
+        check_same("season, lists NULL", &columns_null, &expected);
+        check_refused("season, all NULL", &all_null, CARD_LENGTHS, run);
+        check("season, lists NULL", same_lists(&held, &before), "a column was written");
+    }
+}
+
+static void try_null_series(void) {
+    int32_t z[3] = {-3000, 1040, 0}, indexes[3] = {71, 72, 73};
+    uint8_t marks[3] = {81, 82, 83};
+    for (unsigned set = 1; set < 8; set++) {
+        size_t nz = set & 1 ? 0 : 3, ni = set & 2 ? 0 : 3, nm = set & 4 ? 0 : 3;
+        check_number("whole series", (card_whole_series)(z, nz, indexes, ni, marks, nm), CARD_LENGTHS);
+        check_number("whole series, NULL",
+                     card_whole_series(nz ? z : NULL, nz, ni ? indexes : NULL, ni, nm ? marks : NULL, nm),
+                     CARD_LENGTHS);
+        check("whole series, NULL", indexes[0] == 71 && indexes[1] == 72 && indexes[2] == 73 &&
+              marks[0] == 81 && marks[1] == 82 && marks[2] == 83, "a list was written");
+    }
+    check_number("whole series", card_whole_series(z, 3, indexes, 3, marks, 3), CARD_DONE);
+    check("whole series", indexes[0] == -1000 && indexes[1] == 347 && indexes[2] == 311 &&
+          marks[0] == CARD_SETTLED && marks[1] == CARD_SETTLED && marks[2] == CARD_SETTLED,
+          "not the index of document 01");
+}
+
+static void try_zeros(void) {
+    card_columns zeros = {0};
+    card_run run = station();
+    for (int kind = 0; kind < KINDS; kind++) {
+        call c = good_call(kind);
+        answer a = by_columns(c, run, zeros);
+        check_refused("columns of zeros", &a, CARD_LENGTHS, run);
+    }
+}
+
+/* Each length of card_columns by itself, one below and one above the others. */
+static void try_unequal(void) {
+    lists held = fresh_lists();
+    const lists before = held;
+    card_run run = station();
+    for (int i = 0; i < KINDS * 10; i++) {
+        call c = good_call(i / 10);
+        card_columns k = lent(&held, MONTHS - 1);
+        size_t other = i % 2 ? MONTHS : MONTHS - 2;
+        switch (i / 2 % 5) {
+        case 0: k.x1_length = other; break;
+        case 1: k.x2_length = other; break;
+        case 2: k.x3_length = other; break;
+        case 3: k.index_length = other; break;
+        default: k.mark_length = other;
+        }
+        answer a = by_library(c, run, k), b = by_lists(c, run, k), d = by_columns(c, run, k);
+        check_refused("unequal lengths", &a, CARD_LENGTHS, run);
+        check_same("unequal lengths", &b, &a);
+        check_same("unequal lengths", &d, &a);
+        check("unequal lengths", same_lists(&held, &before), "a column was written");
+    }
+}
+
+/* ---- A run, three ways ---------------------------------------------------------------------------- */
+
+/* The same months in three sets of columns, one for each way of calling. */
+typedef struct three {
+    card_run run;
+    lists library, apart, together;
+} three;
+
+/* Makes the call in all three ways, with columns so long; all must come to the same. The run moves on. */
+static answer in_three_ways(three *t, call c, size_t length) {
+    answer a = by_library(c, t->run, lent(&t->library, length));
+    answer b = by_lists(c, t->run, lent(&t->apart, length));
+    answer d = by_columns(c, t->run, lent(&t->together, length));
+    check_same(KIND_NAMES[c.kind], &b, &a);
+    check_same(KIND_NAMES[c.kind], &d, &a);
+    check(KIND_NAMES[c.kind], same_lists(&t->library, &t->apart), "other columns, each list by itself");
+    check(KIND_NAMES[c.kind], same_lists(&t->library, &t->together), "other columns, as one");
+    t->run = a.run;
+    return a;
+}
+
+static void refused(three *t, call c, size_t length, uint8_t number) {
+    card_run run = t->run;
+    lists before = t->library;
+    answer a = in_three_ways(t, c, length);
+    check_refused(KIND_NAMES[c.kind], &a, number, run);
+    check(KIND_NAMES[c.kind], same_lists(&t->library, &before), "a refused call has written");
+}
+
+/* The refusals that a run of any months gives. */
+static void try_refusals(three *t) {
+    call water = good_call(WATER), inches = good_call(INCHES), z = good_call(Z), row = good_call(ROW);
+    card_reading p = water.p;
+    water.p = card_missing();
+    refused(t, water, MONTHS, CARD_MISSING_READING);
+    water.p = card_inches(-0.5f);
+    refused(t, water, MONTHS, CARD_BAD_READING);
+    water.p = p;
+    water.pe = card_missing();
+    refused(t, water, MONTHS, CARD_MISSING_READING);
+    water.pe = card_millimetres(2541.0f);
+    refused(t, water, MONTHS, CARD_BAD_READING);
+    inches.inches.pe = 100.5f;
+    refused(t, inches, MONTHS, CARD_BAD_READING);
+    z.z = 4000001;
+    refused(t, z, MONTHS, CARD_BAD_Z);
+    row.row = t->run.months;
+    refused(t, row, MONTHS, CARD_NO_ROW);
+    row.row = SIZE_MAX;
+    refused(t, row, MONTHS, CARD_NO_ROW);
+}
+
+/* A season that stops at its second month. */
+static void try_stopped_season(three *t) {
+    int32_t pe[3] = {2500, CARD_NO_READING, 900};
+    uint32_t months = t->run.months;
+    call c = good_call(SEASON);
+    c.list_pe = pe;
+    answer a = in_three_ways(t, c, MONTHS);
+    check_number("a season with a missing month", a.number, CARD_MISSING_READING);
+    check("a season with a missing month", a.added == 1 && a.run.months == months + 1, "not one month added");
+}
+
+/* With columns that end where the months do, and with a run that is none. */
+static void try_full(three *t) {
+    for (int kind = WATER; kind <= SEASON; kind++) refused(t, good_call(kind), t->run.months, CARD_FULL);
+    card_run run = t->run;
+    t->run.calendar = 13;
+    for (int kind = 0; kind < KINDS; kind++) refused(t, good_call(kind), MONTHS, CARD_NOT_A_RUN);
+    t->run = run;
+}
+
+static void try_a_run(void) {
+    static three t;
+    t.run = station();
+    t.library = t.apart = t.together = fresh_lists();
+    while (t.run.months < 40) {
+        uint32_t months = t.run.months;
+        int kind = drawn(WATER, SEASON);
+        try_refusals(&t);
+        answer a = in_three_ways(&t, good_call(kind), MONTHS);
+        check_number(KIND_NAMES[kind], a.number, CARD_DONE);
+        check(KIND_NAMES[kind], t.run.months == months + (kind == SEASON ? 3 : 1), "the months do not add up");
+        if (months % 7 == 3) try_stopped_season(&t);
+        try_full(&t);
+    }
+    for (size_t row = 0; row < t.run.months; row++) {
+        call c = good_call(ROW);
+        c.row = row;
+        answer a = in_three_ways(&t, c, MONTHS);
+        check_number("row", a.number, CARD_DONE);
+        check("row", a.shown.index == t.library.index[row] && a.shown.mark == t.library.mark[row] &&
+              a.shown.x3 == t.library.x3[row], "not what the columns hold");
+    }
+}
+
+/* ---- Function pointers ---------------------------------------------------------------------------- */
+
+/* A name without parentheses after it is the library's own function. */
+static card_started (*const start)(const int32_t *, size_t, int32_t, int32_t, int32_t, int32_t) = card_start;
+static card_added (*const add_water)(card_run, card_reading, card_reading, WRITTEN) = &card_add_water;
+static card_added (*const add_inches)(card_run, card_month_inches, WRITTEN) = card_add_inches;
+static card_added (*const add_z)(card_run, int32_t, WRITTEN) = &card_add_z;
+static card_season (*const add_season)(card_run, const int32_t *, size_t, const int32_t *, size_t, WRITTEN) =
+    card_add_season;
+static card_shown (*const row_of)(card_run, size_t, READ) = &card_row;
+static uint8_t (*const series)(const int32_t *, size_t, int32_t *, size_t, uint8_t *, size_t) =
+    card_whole_series;
+
+static void try_pointers(void) {
+    lists held = fresh_lists();
+    card_columns k = lent(&held, MONTHS);
+    card_run run = start(CONSTANTS, CARD_CONSTANTS, 6000, 0, 1330, 6).run;
+    card_month_inches month = {1.0f, 2.0f};
+    run = add_z(run, 2999, EACH(k)).run;
+    run = add_water(run, card_whole(5560), card_whole(4800), EACH(k)).run;
+    run = add_inches(run, month, EACH(k)).run;
+    run = add_season(run, SEASON_P, 3, SEASON_PE, 3, EACH(k)).run;
+    check("function pointers", run.months == 6 && run.calendar == 12, "not six months");
+    check("function pointers", row_of(run, 0, EACH(k)).x3 == 1000, "X3 is not 1,000 after a Z of 2,999");
+    check_number("function pointers", series(SEASON_P, 3, held.index, 3, held.mark, 3), CARD_DONE);
+}
+
+/* ---- Missing months ------------------------------------------------------------------------------- */
+
+/* A missing reading is 8, and leaves run, calendar and columns; a season stops at it. */
+static void try_missing(void) {
+    lists held = fresh_lists();
+    const lists before = held;
+    card_columns k = lent(&held, MONTHS);
+    card_run run = station();
+    answer p = of_added(card_add_water_in(k, run, card_missing(), card_whole(4800)));
+    answer pe = of_added(card_add_water_in(k, run, card_whole(5560), card_missing()));
+    check_refused("precipitation missing", &p, CARD_MISSING_READING, run);
+    check_refused("PE missing", &pe, CARD_MISSING_READING, run);
+    card_month_inches none = {strtof("nan", NULL), 4.8f};
+    answer nan = of_added(card_add_inches_in(k, run, none));
+    check_refused("inches, NaN", &nan, CARD_BAD_READING, run);
+    check("a missing month", p.run.calendar == 6 && same_lists(&held, &before), "something moved");
+
+    int32_t list[3] = {5560, CARD_NO_READING, 1530};
+    card_season s = card_add_season_in(k, run, list, 3, SEASON_PE, 3);
+    check_number("a season", s.number, CARD_MISSING_READING);
+    check("a season", s.added == 1 && s.run.months == 1 && s.run.calendar == 7, "it did not stop there");
+    check("a season", held.x3[1] == before.x3[1] && held.mark[1] == before.mark[1], "it wrote the month");
+}
+
+/* Waiting, and putting an estimate right from a copy, both come to what the straight record is. */
+static void try_waiting(void) {
+    static const int32_t p[4] = {5560, 1780, 1530, 1280}, pe[4] = {4800, 7040, 5970, 3410};
+    lists straight = fresh_lists(), waited = straight, estimated = straight;
+    answer a = of_season(card_add_season_in(lent(&straight, MONTHS), station(), p, 4, pe, 4));
+    card_columns k = lent(&waited, MONTHS);
+    card_run run = card_add_water_in(k, station(), card_whole(p[0]), card_whole(pe[0])).run;
+    run = card_add_water_in(k, run, card_missing(), card_whole(pe[1])).run;
+    answer late = of_season(card_add_season_in(k, run, p + 1, 3, pe + 1, 3));
+    check("waiting", same_run(&late.run, &a.run) && same_figures(&late.figures, &a.figures), "another record");
+    check("waiting", same_lists(&waited, &straight), "other columns");
+
+    k = lent(&estimated, MONTHS);
+    run = card_add_water_in(k, station(), card_whole(p[0]), card_whole(pe[0])).run;
+    const lists copy = estimated;
+    card_run wrong = card_add_water_in(k, run, card_whole(9000), card_whole(pe[1])).run;
+    wrong = card_add_season_in(k, wrong, p + 2, 2, pe + 2, 2).run;
+    check("an estimate", !same_run(&wrong, &a.run) && !same_lists(&estimated, &straight), "it made no difference");
+    estimated = copy;
+    run = card_add_season_in(k, run, p + 1, 3, pe + 1, 3).run;
+    check("an estimate put right", same_run(&run, &a.run) && same_lists(&estimated, &straight), "another record");
+}
+
+/* Nearest to 2691 x / 3000. */
+static int32_t faded(int32_t x) {
+    int32_t size = (2 * 2691 * abs(x) + 3000) / 6000;
+    return x < 0 ? -size : size;
+}
+
+/* A Z of 0 in a spell: X1, X2 and X3 fade, and the spell abates or, with X3 at most 613 in size, ends. */
+static void try_z_0_in_spell(int32_t x3) {
+    lists held = fresh_lists();
+    card_run run = station();
+    run.values.x1 = 430;
+    run.values.x2 = -205;
+    run.values.x3 = x3;
+    card_added a = card_add_z_in(lent(&held, MONTHS), run, 0);
+    check_number("a Z of 0", a.number, CARD_DONE);
+    check("a Z of 0", a.run.calendar == 7 && a.run.soil.surface == run.soil.surface &&
+          a.run.soil.underlying == run.soil.underlying, "calendar or storages");
+    check("a Z of 0", a.figures.x1 == faded(430) && a.figures.x2 == faded(-205), "X1 or X2 does not fade");
+    int ends = abs(x3) <= 613;
+    check("a Z of 0", a.figures.x3 == (ends ? 0 : faded(x3)), "X3 does not fade, or end at 613");
+    check("a Z of 0", a.figures.mark == CARD_OPEN && a.settled == 0, "it settles a month");
+    check("a Z of 0", a.run.values.v == (ends ? 0 : x3 < 0 ? 150 : -150), "V");
+    check("a Z of 0", ends ? a.figures.percent == (abs(x3) > 500 ? 100 : 0) :
+          a.figures.percent >= 1 && a.figures.percent <= 99, "percent");
+}
+
+static void try_z_0(void) {
+    for (int32_t x3 = -7000; x3 <= 7000; x3++) try_z_0_in_spell(x3);
+    lists held = fresh_lists();
+    card_run run = station();
+    run.calendar = 12;
+    check("a Z of 0", card_add_z_in(lent(&held, MONTHS), run, 0).run.calendar == 1, "after December no January");
+    for (int32_t x = 0; x < 1000; x++) {
+        run.values.x1 = x;
+        run.values.x2 = x - 999;
+        card_added a = card_add_z_in(lent(&held, MONTHS), run, 0);
+        check("a Z of 0", a.figures.x1 == faded(x) && a.figures.x2 == faded(x - 999), "no spell, and no fading");
+    }
+}
+
+/* A new run knows no spell and begins at place 0; no rain where it was not measured can found a drought. */
+static void try_new_run_and_no_rain(void) {
+    lists held = fresh_lists();
+    const lists before = held;
+    card_run run = station();
+    check("a new run", run.values.x1 == 0 && run.values.x2 == 0 && run.values.x3 == 0 && run.values.v == 0 &&
+          run.months == 0, "it knows of a spell");
+    card_added a = card_add_water_in(lent(&held, MONTHS), run, card_whole(0), card_whole(4800));
+    check_number("no rain", a.number, CARD_DONE);
+    check("no rain", a.figures.x3 <= -1000 && a.figures.index == a.figures.x3, "it founds no drought");
+    check("a new run", held.x3[0] == a.figures.x3 && held.x3[1] == before.x3[1], "it does not write place 0");
+}
+
+int main(void) {
+    try_meanings();
+    try_sizes();
+    try_null_columns();
+    try_null_constants();
+    try_null_season();
+    try_null_series();
+    try_zeros();
+    try_unequal();
+    try_a_run();
+    try_pointers();
+    try_missing();
+    try_waiting();
+    try_z_0();
+    try_new_run_and_no_rain();
+    check("linking", watched > 0, "the calls of the library were not watched");
+    printf("header: %lu comparisons, all as include/card.h says\n", checks);
+    return 0;
+}
