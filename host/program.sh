@@ -18,7 +18,7 @@ wrong() {
 asks_help() {
     case ${1-} in
         --help | -h)
-            help || unwritten
+            help 2>/dev/null || unwritten
             exit 0
             ;;
         -*) wrong "there is no option $1" ;;

@@ -1,0 +1,109 @@
+#!/usr/bin/env python3
+"""Holds README.md to what it says and shows: its commands print what it shows of them, its C compiles without a warning
+and prints what it says, its way from a CSV comes to the sample's own figures, its table of refusals has the words of
+the header and of the programs. CC and RUN, from the environment, are how C is compiled and run (host/setup.sh).
+"""
+import os
+import re
+import shlex
+import subprocess
+import sys
+import tempfile
+
+import program
+from stored import TOP
+
+TOP = os.path.realpath(TOP)
+
+
+def text(*path):
+    with open(os.path.join(TOP, *path)) as f:
+        return f.read()
+
+
+README = text('README.md')
+BLOCKS = re.findall(r'```(\w*)\n(.*?)```', README, re.S)
+
+
+def printed(command, cwd=TOP, status=0):
+    done = subprocess.run(['sh', '-c', command], cwd=cwd, stdin=subprocess.DEVNULL, stdout=subprocess.PIPE, stderr=subprocess.PIPE, text=True)
+    if done.returncode != status:
+        sys.exit('readme: %s: status %d, %s' % (command, done.returncode, done.stderr[:300]))
+    return done.stdout, done.stderr
+
+
+def block(words):
+    """The one block of commands that has these words."""
+    found = [body for language, body in BLOCKS if language == 'sh' and words in body]
+    if len(found) != 1:
+        sys.exit('readme: %d blocks of commands have %s' % (len(found), words))
+    return found[0]
+
+
+def shown(command, lines):
+    """A command's output, of which README shows lines, in their order, with two points for what is left out."""
+    out = printed(block(command))[0].split('\n')
+    at = 0
+    for line in lines:
+        if line != '..':
+            if line not in out[at:]:
+                sys.exit('readme: %s does not print %r, or not there' % (command, line))
+            at = out.index(line, at) + 1
+
+
+def c_program():
+    """The program in C, and what README says that it prints."""
+    said = re.search(r'and prints `(.*?)`\. `host/station\.c`', README)[1] + '\n'
+    source = [body for language, body in BLOCKS if language == 'c'][0]
+    with tempfile.TemporaryDirectory() as folder:
+        with open(os.path.join(folder, 'june.c'), 'w') as f:
+            f.write(source)
+        flags = ['-std=c99', '-Wall', '-Wextra', '-Werror', '-pedantic', '-I' + os.path.join(TOP, 'include')]
+        made = os.path.join(folder, 'june')
+        subprocess.run(shlex.split(os.environ['CC']) + flags + [os.path.join(folder, 'june.c'), os.path.join(TOP, 'target', 'staticlib', 'libcard.a'), '-o', made], check=True)
+        out = subprocess.run(shlex.split(os.environ.get('RUN', '')) + [made], stdout=subprocess.PIPE, text=True).stdout
+    if out != said:
+        sys.exit('readme: the program in C prints %r, and not %r' % (out, said))
+    if len(source.strip().split('\n')) > 13:
+        sys.exit('readme: the program in C has grown')
+
+
+def station():
+    """From a CSV to an index, in a folder with nothing but links; and the line that is told of a comma."""
+    with tempfile.TemporaryDirectory() as folder:
+        for name in ('host', 'samples', 'include', 'crates', 'target', 'crates.txt'):
+            os.symlink(os.path.join(TOP, name), os.path.join(folder, name))
+        out = printed(block('tail -n +2'), cwd=folder)[0]
+        if out != printed('host/station samples/western-kansas-station.txt')[0]:
+            sys.exit('readme: the way from a CSV does not come to the figures of the sample')
+        told = [body for language, body in BLOCKS if body.startswith('station: line')][0]
+        with open(os.path.join(folder, 'comma.txt'), 'w') as f:
+            f.write(text('samples', 'western-kansas-station.txt').replace(' 1.53 ', ' 1,53 '))
+        if printed('host/station comma.txt', cwd=folder, status=1) != ('', told):
+            sys.exit('readme: of a comma the station program says %r' % printed('host/station comma.txt', cwd=folder, status=1)[1])
+
+
+def refusals():
+    """README's table has the header's words, and for 13 the program's."""
+    table = {int(number): words for number, words in re.findall(r'^\| (\d+) \| (.*) \|$', README, re.M)}
+    names = dict(re.findall(r'(CARD_\w+) = (\d+)', text('include', 'card.h').split('/* What a number means')[0]))
+    header = {int(names[name]): words for name, words in re.findall(r'case (CARD_\w+): return "(.*)";', text('include', 'card.h'))}
+    rust = {int(number): words for number, words in re.findall(r'^\s*(\d+) => "(.*)",$', text('host', 'station.rs').split('fn meaning')[1].split('\n}')[0], re.M)}
+    if sorted(table) != list(range(17)) or {k: v for k, v in table.items() if k < 13} != header or header != rust:
+        sys.exit('readme: the table of refusals differs from card_meaning of include/card.h, or meaning of host/station.rs')
+    if not program.MEANS[13].endswith(b'13 means: ' + table[13].encode() + b'\n'):
+        sys.exit('readme: 13 is told otherwise by palmer')
+
+
+def main():
+    blocks = [body.strip().split('\n') for language, body in BLOCKS if language == '']
+    shown('host/palmer <samples', next(lines for lines in blocks if lines[0].startswith('1 0 0')))
+    shown('host/division 14 07', next(lines for lines in blocks if lines[0].startswith('2019')))
+    c_program()
+    station()
+    refusals()
+    print('readme: its commands, its C, its way from a CSV and its table are as it says')
+
+
+if __name__ == '__main__':
+    main()

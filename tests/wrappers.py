@@ -1,0 +1,217 @@
+#!/usr/bin/env python3
+"""Runs the wrappers of host/ as a person would: bad input, wrong arguments, files from any folder, output that cannot be
+written. Asks for each the status, the words on standard error and what is on standard output.
+
+Status: 0 done, 1 refused or bad input, 2 wrong arguments or unreadable input, 3 output that could not be written. It
+prints how many cases were run.
+"""
+import os
+import re
+import subprocess
+import sys
+import tempfile
+
+from stored import TOP
+
+TOP = os.path.realpath(TOP)
+HOST = os.path.join(TOP, 'host')
+COUNT = 0
+
+
+def kept(*path):
+    with open(os.path.join(TOP, *path), 'rb') as f:
+        return f.read()
+
+
+STATION = kept('samples', 'western-kansas-station.txt')
+SERIES = kept('samples', 'western-kansas.txt')
+ROWS = kept('crates', 'palmer', 'stdout')
+DIVISION = kept('crates', 'division', 'stdin')
+YEARS = kept('crates', 'division', 'stdout')
+# line numbers of the station file: its first month and its last
+LINES = STATION.split(b'\n')
+FIRST, LAST = LINES.index(b'1932-06 5.56 4.80') + 1, LINES.index(b'1935-05 4.65 2.52') + 1
+
+
+def with_line(number, text):
+    """The station file with another line."""
+    return b'\n'.join(LINES[:number - 1] + [text] + LINES[number:])
+
+
+# The story: what a person may hand in for a month's rain and PE, and what each program says of it. palmer and division
+# get it as their second line.
+STORY = [
+    (b'5.56,4.80', b'1932-06 5.56,4.80', FIRST, b'column 13: a comma in "5.56,4.80"', b'column 2: a point'),
+    (b'abc', b'1932-06 abc 4.80', FIRST, b'column 9: "abc" is no number', b'column 1: a letter'),
+    (b'T', b'1932-06 T 4.80', FIRST, b'column 9: "T" is no number; a trace of rain is written 0', b'column 1: a letter'),
+    (b'1,53', b'1932-06 1,53 4.80', FIRST, b'column 10: a comma in "1,53"', b'column 2: a comma'),
+    (b'62mm', b'1932-06 62mm 4.80', FIRST, b'column 11: something after the number in "62mm"', b'column 3: a letter'),
+    (b'4.65', b'1935-05 4.65', LAST, b'column 13: the line ends after 2 words; expected: 1935-05 PRECIPITATION PE', b'column 2: a point'),
+]
+
+
+def ran(words, data=b'', cwd=TOP, out=subprocess.PIPE, **more):
+    """Status, standard output (b'' where it is not caught) and standard error."""
+    global COUNT
+    COUNT += 1
+    done = subprocess.run([os.path.join(HOST, words[0]), *words[1:]], input=None if 'stdin' in more else data, stdout=out, stderr=subprocess.PIPE, cwd=cwd, **more)
+    return done.returncode, done.stdout or b'', done.stderr
+
+
+def asked(name, got, status, out, words):
+    """Holds what was got to the status, the whole output and what standard error must have; one line there, or none."""
+    if got[0] != status or got[1] != out:
+        sys.exit('wrappers: %s: status %d, %r, %r; expected status %d and %r' % (name, got[0], got[1][:200], got[2][:300], status, out[:200]))
+    if words is None:
+        fine = got[2] == b''
+    else:
+        fine = got[2].count(b'\n') == 1 and got[2].endswith(b'\n') and words in got[2]
+    if not fine:
+        sys.exit('wrappers: %s: standard error is %r; expected %r' % (name, got[2][:300], words))
+
+
+def stories():
+    """Each bad input through each program."""
+    good = DIVISION.split(b'\n')[0] + b'\n'
+    for text, month, line, station, palmer in STORY:
+        told = b'station: line %d, %s' % (line, station)
+        for words in (['station'], ['station', '--season', '6']):
+            asked('%s: %s' % (' '.join(words), text), ran(words, with_line(line, month)), 1, b'', told)
+        with tempfile.NamedTemporaryFile() as f:
+            f.write(with_line(line, month))
+            f.flush()
+            asked('run: %s' % text, ran(['run', f.name]), 1, b'', told)
+        asked('palmer: %s' % text, ran(['palmer'], b'0\n' + text + b'\n'), 1, b'refused 2 13\n', b'palmer: line 2, ' + palmer)
+        asked('division: %s' % text, ran(['division', '1', '1'], good + text + b'\n'), 1, b'refused 2 14\n', b'division: line 2: it ends after column %d, and the layout has 94' % len(text))
+    missing = with_line(FIRST, b'1932-06 - 4.80')
+    asked('station: missing', ran(['station'], missing), 1, b'', b'line %d, column 9: precipitation is missing (8: reading missing); README.md, "Missing months", says what to do' % FIRST)
+    cr_lf = DIVISION.replace(b'\n', b'\r\n')
+    asked('division: CR LF', ran(['division', '14', '7'], cr_lf), 1, b'refused 1 14\n', b'line 1, column 95: a carriage return; the file has CR LF line ends')
+    asked('palmer: CR LF', ran(['palmer'], b'1\r\n'), 1, b'refused 1 13\n', b'line 1, column 2: a carriage return at the end: the lines end in CR LF')
+    asked('station: CR LF', ran(['station'], STATION.replace(b'\n', b'\r\n')), 1, b'', b'a carriage return; the file has CR LF line ends')
+
+
+def good():
+    asked('palmer', ran(['palmer'], SERIES), 0, ROWS, None)
+    asked('palmer, nothing', ran(['palmer'], b''), 0, b'', None)
+    asked('division', ran(['division', '14', '07'], DIVISION), 0, YEARS, None)
+    status, singly, err = ran(['station'], STATION)
+    if (status, err, singly.count(b'\n')) != (0, b'', 74) or singly.split(b'\n')[1] != b'1932-06 5560 4800 3105 3142 0 1047 1':
+        sys.exit('wrappers: station: %r' % ((status, singly[:200], err),))
+    _, seasons, _ = ran(['station', '--season', '6'], STATION)
+    six = seasons.split(b'month X1 ')[0]
+    asked('run', ran(['run']), 0, singly + six, None)
+    return singly
+
+
+def folders(singly):
+    """A relative FILE from any folder, odd names, a wrapper reached by a link."""
+    with tempfile.TemporaryDirectory() as folder:
+        inner = os.path.join(folder, 'a folder')
+        os.mkdir(inner)
+        for name, data in (('my station.txt', STATION), ('-z.txt', SERIES), ('year', DIVISION)):
+            with open(os.path.join(inner, name), 'wb') as f:
+                f.write(data)
+        for place, prefix in ((inner, ''), (folder, 'a folder/'), (inner, './'), (folder, './a folder/../a folder/')):
+            asked('station in a folder', ran(['station', prefix + 'my station.txt'], cwd=place), 0, singly, None)
+            asked('division in a folder', ran(['division', '14', '7', prefix + 'year'], cwd=place), 0, YEARS, None)
+            if prefix:
+                asked('palmer in a folder', ran(['palmer', prefix + '-z.txt'], cwd=place), 0, ROWS, None)
+        linked = os.path.join(folder, 'linked')
+        os.symlink(os.path.join(HOST, 'palmer'), linked)
+        asked('palmer by a link', ran([linked, './-z.txt'], cwd=inner), 0, ROWS, None)
+
+
+HELP = [['palmer'], ['division'], ['station'], ['run'], ['start']]
+WRONG = [
+    (['palmer', '-x'], b'there is no option -x'),
+    (['palmer', 'a', 'b'], b'one FILE at most'),
+    (['palmer', ''], b'the name of FILE is empty'),
+    (['division'], b'a STATE and a DIVISION are asked for'),
+    (['division', '1'], b'a STATE and a DIVISION are asked for'),
+    (['division', '1', 'x'], b'usage: division STATE DIVISION'),
+    (['division', '001', '1'], b'usage: division STATE DIVISION'),
+    (['division', '', ''], b'usage: division STATE DIVISION'),
+    (['division', '1', '1', 'a', 'b'], b'three arguments at most'),
+    (['division', '--state', '1'], b'there is no option --state'),
+    (['station', 'a', 'b'], b'one FILE at most'),
+    (['station', '--season'], b'--season asks for MONTHS'),
+    (['station', '--season', ''], b'MONTHS is empty'),
+    (['station', '--season', '0'], b'"0" is no number of months; expected: 1 to 2400'),
+    (['station', '--season', '6x'], b'"6x" is no number of months'),
+    (['station', '--season', '*'], b'"*" is no number of months'),
+    (['station', '--season', '2401'], b'"2401" is no number of months'),
+    (['station', '-s'], b'there is no option -s'),
+    (['run', 'a', 'b'], b'one FILE at most'),
+    (['run', '--season', '6'], b'there is no option --season'),
+    (['start'], b'a PROGRAM is asked for'),
+]
+
+
+def arguments():
+    for words in HELP:
+        for option in ('--help', '-h'):
+            status, out, err = ran(words + [option])
+            if status != 0 or words[0].encode() not in out.split(b'\n')[0] or err:
+                sys.exit('wrappers: %s %s: %r' % (words[0], option, (status, out, err)))
+    for words, said in WRONG:
+        asked(' '.join(words), ran(words), 2, b'', said)
+
+
+def unreadable():
+    for words in (['palmer'], ['division', '1', '1'], ['station'], ['run']):
+        asked('no file', ran(words + ['there-is-none']), 2, b'', b'the input cannot be read: there-is-none: there is no such file')
+        asked('a folder', ran(words + [TOP]), 2, b'', b' is a folder')
+        if words[0] != 'run':
+            with_folder = os.open(TOP, os.O_RDONLY)
+            asked('a folder on standard input', ran(words, stdin=with_folder), 2, b'', b'input cannot be read')
+            os.close(with_folder)
+            asked('standard input closed', ran(words, stdin=subprocess.DEVNULL, preexec_fn=lambda: os.close(0)), 2, b'', b'input cannot be read')
+
+
+def unwritten():
+    """Output that is closed, full, or that nobody reads, of good input and of bad."""
+    cases = [(['palmer'], SERIES), (['palmer'], b'x\n'), (['division', '14', '7'], DIVISION), (['division', '1', '1'], b''), (['station'], STATION), (['run'], b''), (['palmer', '--help'], b''), (['run', '-h'], b'')]
+    for words, data in cases:
+        with open('/dev/full', 'wb') as full:
+            asked('full', ran(words, data, out=full), 3, b'', b'output cannot be written')
+        with tempfile.TemporaryFile() as f:
+            f.write(data)
+            f.seek(0)
+            asked('closed', ran(words, stdin=f, preexec_fn=lambda: os.close(1)), 3, b'', b'output cannot be written')
+        reading, writing = os.pipe()
+        os.close(reading)
+        asked('a pipe that nobody reads', ran(words, data, out=writing), 3, b'', b'output cannot be written')
+        os.close(writing)
+
+
+def built_once():
+    """A second run builds nothing: what it would build stays as it was."""
+    made = [os.path.join(TOP, 'target', *path) for path in (('bin', 'palmer'), ('bin', 'division'), ('staticlib', 'libcard.a'), ('host', 'station-c'), ('host', 'station-rust'))]
+    before = [os.stat(path).st_mtime_ns for path in made]
+    ran(['palmer'])
+    ran(['division', '1', '1'])
+    ran(['station'])
+    ran(['run'])
+    if before != [os.stat(path).st_mtime_ns for path in made]:
+        sys.exit('wrappers: a second run builds again')
+    proved = re.findall(rb'proved \((.*)\)', kept('target', 'palmer.log'))
+    if not proved or any(not word.startswith(b'unchanged') for word in proved):
+        sys.exit('wrappers: a second run proves again: %r' % proved)
+
+
+def main():
+    # the first run of each may build, and says so
+    for words in (['palmer'], ['division', '1', '1'], ['run']):
+        ran(words)
+    folders(good())
+    stories()
+    arguments()
+    unreadable()
+    unwritten()
+    built_once()
+    print('wrappers: %d runs, no difference' % COUNT)
+
+
+if __name__ == '__main__':
+    main()
