@@ -13,7 +13,7 @@ def milliseconds(data):
     best = None
     for _ in range(9):
         began = time.perf_counter()
-        subprocess.run(COMMAND, input=data, stdout=subprocess.DEVNULL, check=True)
+        subprocess.run(COMMAND, input=data, stdout=subprocess.DEVNULL, stderr=subprocess.DEVNULL, check=True)
         took = 1000 * (time.perf_counter() - began)
         best = took if best is None else min(best, took)
     return best

@@ -2,6 +2,48 @@
 //! the header asks of a caller is kept by the types. A program has it as a module and links libcard.a.
 #![allow(dead_code)]
 
+/// The numbers that calls answer with.
+pub const DONE: u8 = 0;
+pub const LENGTHS: u8 = 1;
+pub const NOT_SIXTY: u8 = 2;
+pub const CONSTANT_OUT: u8 = 3;
+pub const CAPACITY_OUT: u8 = 4;
+pub const STORAGE_OUT: u8 = 5;
+pub const START_MONTH: u8 = 6;
+pub const NOT_A_RUN: u8 = 7;
+pub const MISSING_READING: u8 = 8;
+pub const BAD_READING: u8 = 9;
+pub const FULL: u8 = 10;
+pub const NO_ROW: u8 = 11;
+pub const BAD_Z: u8 = 12;
+
+/// What a column holds at most, how many constants a station has, and the two marks of a month.
+pub const MOST_MONTHS: usize = 2400;
+pub const CONSTANTS: usize = 60;
+pub const OPEN: u8 = 1;
+pub const SETTLED: u8 = 2;
+
+/// What a number means: the words of card_meaning in include/card.h.
+pub fn meaning(number: u8) -> &'static str {
+    match number {
+        DONE => "done",
+        LENGTHS => "lists not all of one length, or length 0 or above 2,400",
+        NOT_SIXTY => "constants not sixty numbers",
+        CONSTANT_OUT => "a constant outside its range",
+        CAPACITY_OUT => "capacity outside its range",
+        STORAGE_OUT => "a start storage negative or above its layer",
+        START_MONTH => "start month not 1 to 12",
+        NOT_A_RUN => "not a run",
+        MISSING_READING => "reading missing",
+        BAD_READING => "reading not acceptable",
+        FULL => "months already equal the column length",
+        NO_ROW => "row number not below the months added",
+        BAD_Z => "Z outside its range",
+        _ => "no number of this library",
+    }
+}
+
+/// The kinds of a reading.
 pub const MISSING: u32 = 0;
 pub const WHOLE: u32 = 1;
 pub const INCHES: u32 = 2;

@@ -21,7 +21,7 @@ asks_help() {
             help 2>/dev/null || unwritten
             exit 0
             ;;
-        -*) wrong "there is no option $1" ;;
+        -*) wrong "there is no option $1 (a file whose name begins so is written ./$1)" ;;
     esac
 }
 

@@ -66,9 +66,11 @@ else
 fi
 provide
 
-# The files that the library is made of: rt's list of crates, and of each crate what is proved.
+# The files that the library is made of: rt's list of crates, and what is proved of each that `card` names there.
 sources() {
-    find crates.txt crates -type f ! -path '*/must-fail/*' | sort
+    # shellcheck disable=SC2046
+    find crates.txt crates/card $(sed -n 's/^card: *//p' crates.txt | tr ' ' '\n' | sed 's,^,crates/,') \
+        -type f ! -path '*/must-fail/*' | sort
 }
 
 # shellcheck disable=SC2046

@@ -20,7 +20,8 @@
  *   end                                  nothing after it
  *
  * A whole number is digits, perhaps after a minus, within 32 bits; a reading is the same with perhaps a point
- * and more digits, or a dash alone, which is a missing reading.
+ * and more digits, or a dash alone, which is a missing reading. A reading counts as the binary32 number nearest
+ * to it, as a gauge would hand it over: 100.000001 is 100.
  *
  * Nothing is printed on standard output before the whole file was found good, the run was started and every
  * month was added: a card must not show figures of half a file. What is wrong is said in one line on standard
@@ -209,8 +210,9 @@ static word next_word(scanner *s) {
 static word take(scanner *s) {
     word w = next_word(s);
     if (w.length == 0)
-        refuse(w.at, "the line ends after %zu word%s; expected: %s%s", s->words, s->words == 1 ? "" : "s",
-               s->expected, s->words == 0 ? s->other : "");
+        refuse(w.at, "the line ends after %zu word%s; expected: %s%s%s", s->words, s->words == 1 ? "" : "s",
+               s->expected, s->words == 0 ? s->other : "",
+               s->end == s->length ? "; the file ends here and may be cut short" : "");
     s->words++;
     return w;
 }

@@ -8,7 +8,10 @@
 
 mod card;
 
-use card::{Columns, Figures, Reading, Run, Shown};
+use card::{
+    meaning, Columns, Figures, Reading, Run, Shown, BAD_READING, CAPACITY_OUT, CONSTANTS, CONSTANT_OUT, DONE,
+    FULL, MISSING_READING, MOST_MONTHS, SETTLED, STORAGE_OUT,
+};
 use std::fs::File;
 use std::io::{Read, Write};
 use std::mem::ManuallyDrop;
@@ -20,18 +23,6 @@ const NOT_READ: i32 = 2;
 const NOT_WRITTEN: i32 = 3;
 const MOST_BYTES: usize = 1048576;
 const MOST_SHOWN: usize = 40;
-
-// the library's numbers that are asked for by name, and its sizes, as in include/card.h
-const DONE: u8 = 0;
-const CONSTANT_OUT: u8 = 3;
-const CAPACITY_OUT: u8 = 4;
-const STORAGE_OUT: u8 = 5;
-const MISSING_READING: u8 = 8;
-const BAD_READING: u8 = 9;
-const FULL: u8 = 10;
-const SETTLED: u8 = 2;
-const CONSTANTS: usize = 60;
-const MOST_MONTHS: usize = 2400;
 
 #[rustfmt::skip]
 const CALENDAR: [&str; 12] = ["January", "February", "March", "April", "May", "June",
@@ -73,26 +64,6 @@ fn shown(text: &[u8]) -> String {
     let plain = |&byte: &u8| if (32..=126).contains(&byte) { byte as char } else { '?' };
     let held: String = text.iter().take(MOST_SHOWN).map(plain).collect();
     held + if text.len() > MOST_SHOWN { ".." } else { "" }
-}
-
-/// What a number that the library answers means: the words of card_meaning in include/card.h.
-fn meaning(number: u8) -> &'static str {
-    match number {
-        0 => "done",
-        1 => "lists not all of one length, or length 0 or above 2,400",
-        2 => "constants not sixty numbers",
-        3 => "a constant outside its range",
-        4 => "capacity outside its range",
-        5 => "a start storage negative or above its layer",
-        6 => "start month not 1 to 12",
-        7 => "not a run",
-        8 => "reading missing",
-        9 => "reading not acceptable",
-        10 => "months already equal the column length",
-        11 => "row number not below the months added",
-        12 => "Z outside its range",
-        _ => "no number of this library",
-    }
 }
 
 // ---- Lines and words ------------------------------------------------------------------------------------------
@@ -257,7 +228,9 @@ impl<'a> Scanner<'a> {
         if w.text.is_empty() {
             let s = if self.words == 1 { "" } else { "s" };
             let other = if self.words == 0 { self.other } else { "" };
-            let what = format!("the line ends after {} word{s}; expected: {}{other}", self.words, self.expected);
+            let cut = if self.closed < self.number { "; the file ends here and may be cut short" } else { "" };
+            let what =
+                format!("the line ends after {} word{s}; expected: {}{other}{cut}", self.words, self.expected);
             return refuse(w.at, what);
         }
         self.words += 1;

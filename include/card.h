@@ -184,7 +184,10 @@ typedef struct card_answer {
  *
  * The water is the nearest thousandth of an inch to the exact value of the number; for millimetres that
  * is the value x 5000/127. Negative zero is 0. NaN, infinities, negatives and anything above the range
- * are not acceptable. 0.0625 inch gives 63; 7.9375 mm gives 313; 2,540 mm gives 100,000. */
+ * are not acceptable. 0.0625 inch gives 63; 7.9375 mm gives 313; 2,540 mm gives 100,000.
+ *
+ * The exact value is the float's: 0.0025f is a little less than 0.0025 and gives 2. Whoever has decimals
+ * and wants their halves exact makes thousandths of them and uses card_whole. */
 card_answer card_read(card_reading reading);
 
 /* ---- A run ---------------------------------------------------------------------------------------- */
@@ -205,8 +208,13 @@ typedef struct card_values {
 } card_values;
 
 /* A run: what a station's card keeps between months, beside the columns. card_start makes one, and each
- * add hands back the next. It is plain data and may be stored and copied as such; between its fields are
- * bytes that mean nothing, so two runs are compared field by field and not with memcmp.
+ * add hands back the next. It is plain data and may be stored and copied as such, 288 bytes in the host's
+ * byte order; between its fields are bytes that mean nothing, so two runs are compared field by field and
+ * not with memcmp.
+ *
+ * A run and its columns belong together. Store both or neither: a card that may lose power between the two
+ * keeps the last whole pair to go back to. A run of before an add, with the columns of after it, is taken,
+ * and its settled months may then change.
  *
  * These are not a run, and the calls refuse them (7): months above the column length; open months above
  * months; a constant, the capacity or a storage out of range; a calendar month not 1 to 12; an X beyond
@@ -245,8 +253,11 @@ card_started card_start(const int32_t *constants, size_t constants_length,
  * CARD_MOST_MONTHS, which is how many months the run can come to hold; a month takes 17 bytes in all. A
  * struct of zeros is five lists of length 0, and refused with 1.
  *
+ * Where they are full (10), copy them to the beginning of longer ones, up to CARD_MOST_MONTHS, and go on
+ * with the same run; at CARD_MOST_MONTHS a new run is needed, in other columns.
+ *
  * The calls whose names end in _in take the columns so, and are the usual way. The same calls with each
- * list by itself stand further down. */
+ * list by itself stand further down. card_row_in and card_row only read; card_row takes const columns. */
 typedef struct card_columns {
     int32_t *x1;
     size_t x1_length;
@@ -377,7 +388,7 @@ static inline card_season card_add_season_in(card_columns columns, card_run run,
  * - Start a new run, in other columns: in the same ones it would write over the past months. It knows no
  *   spell (X1, X2, X3 all 0) and needs start storages; months must pass before its index says anything.
  * - Never give 0 for a missing reading. A month without rain is a dry month that nobody measured, and it
- *   can found a drought.
+ *   can found a drought. Nor a code that stands for one: 99.99 is within the range of inches, and is taken.
  *
  * This project recommends: wait as long as the reading may still come, for the index is monthly and a late
  * one is better than a wrong one. Then take an estimate from neighbouring stations, written down as such. A

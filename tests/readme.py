@@ -73,7 +73,7 @@ def station():
     with tempfile.TemporaryDirectory() as folder:
         for name in ('host', 'samples', 'include', 'crates', 'target', 'crates.txt'):
             os.symlink(os.path.join(TOP, name), os.path.join(folder, name))
-        out = printed(block('tail -n +2'), cwd=folder)[0]
+        out = printed(block('host/csv samples'), cwd=folder)[0]
         if out != printed('host/station samples/western-kansas-station.txt')[0]:
             sys.exit('readme: the way from a CSV does not come to the figures of the sample')
         told = [body for language, body in BLOCKS if body.startswith('station: line')][0]
@@ -88,9 +88,10 @@ def refusals():
     table = {int(number): words for number, words in re.findall(r'^\| (\d+) \| (.*) \|$', README, re.M)}
     names = dict(re.findall(r'(CARD_\w+) = (\d+)', text('include', 'card.h').split('/* What a number means')[0]))
     header = {int(names[name]): words for name, words in re.findall(r'case (CARD_\w+): return "(.*)";', text('include', 'card.h'))}
-    rust = {int(number): words for number, words in re.findall(r'^\s*(\d+) => "(.*)",$', text('host', 'station.rs').split('fn meaning')[1].split('\n}')[0], re.M)}
+    numbers = dict(re.findall(r'^pub const (\w+): u8 = (\d+);$', text('host', 'card.rs'), re.M))
+    rust = {int(numbers[name]): words for name, words in re.findall(r'^\s*([A-Z]\w+) => "(.*)",$', text('host', 'card.rs'), re.M)}
     if sorted(table) != list(range(17)) or {k: v for k, v in table.items() if k < 13} != header or header != rust:
-        sys.exit('readme: the table of refusals differs from card_meaning of include/card.h, or meaning of host/station.rs')
+        sys.exit('readme: the table of refusals differs from card_meaning of include/card.h, or meaning of host/card.rs')
     if not program.MEANS[13].endswith(b'13 means: ' + table[13].encode() + b'\n'):
         sys.exit('readme: 13 is told otherwise by palmer')
 

@@ -312,10 +312,10 @@ def end_cases():
     yield 'all but the end, a comment, not closed', changed(END, b'# end')[:-1], END, None, cut
     yield 'all but the last digit', GOOD[:-6], LAST, None, cut
     yield 'cut after a point', GOOD[:-7], LAST, 15, b'no digit after the point in "2."'
-    yield 'cut after the precipitation', GOOD[:-10], LAST, 13, b'the line ends after 2 words; expected: 1935-05 PRECIPITATION PE'
+    yield 'cut after the precipitation', GOOD[:-10], LAST, 13, b'the line ends after 2 words; expected: 1935-05 PRECIPITATION PE; the file ends here and may be cut short\n'
     yield 'cut in the end', GOOD[:-2], END, 1, b'"en" is no month (four digits, a minus, 01 to 12); expected: 1935-06 PRECIPITATION PE, or end'
     yield 'cut in a name', GOOD[:GOOD.index(b'uary')], JANUARY, 1, b'"Jan" is not known here; expected: January ALPHA BETA GAMMA DELTA K'
-    yield 'cut in the constants', GOOD[:GOOD.index(b' 4694')], JANUARY, 20, b'the line ends after 4 words; expected: January ALPHA BETA GAMMA DELTA K'
+    yield 'cut in the constants', GOOD[:GOOD.index(b' 4694')], JANUARY, 20, b'the line ends after 4 words; expected: January ALPHA BETA GAMMA DELTA K; the file ends here and may be cut short\n'
     after = b'something after the last line, end; nothing may follow it'
     for name, text in (('a month', LINES[LAST - 1]), ('a comment', b'# a'), ('a second end', b'end'), ('a space', b' '), ('a carriage return', b'\r'), ('a zero byte', b'\0')):
         yield '%s after the end' % name, GOOD + text + b'\n', END + 1, 1, after
@@ -323,7 +323,7 @@ def end_cases():
     yield 'the file twice', GOOD + GOOD, END + 1, 1, after
     yield 'an empty line after the end', GOOD + b'\n', END + 1, None, b'it is empty; end is the last line, and nothing may follow it'
     yield 'the end with a number', changed(END, b'end 36'), END, 5, b'a second word, "36"; expected: end\n'
-    yield 'a last month without its PE', changed(LAST, b'1935-05 4.65'), LAST, 13, b'the line ends after 2 words; expected: 1935-05 PRECIPITATION PE'
+    yield 'a last month without its PE', changed(LAST, b'1935-05 4.65'), LAST, 13, b'the line ends after 2 words; expected: 1935-05 PRECIPITATION PE\n'
     # what comes first is told
     yield 'two faults', worded(FIRST, 1, b'abc')[0].replace(b'2.52', b'T'), FIRST, 9, b'"abc" is no number'
     yield 'two faults in a line', changed(FIRST, b'1932-06 abc T x'), FIRST, 9, b'"abc" is no number'

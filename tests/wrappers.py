@@ -122,16 +122,88 @@ def folders(singly):
         asked('palmer by a link', ran([linked, './-z.txt'], cwd=inner), 0, ROWS, None)
 
 
-HELP = [['palmer'], ['division'], ['station'], ['run'], ['start']]
+CSV = kept('samples', 'western-kansas.csv')
+HEADING = b'month,precipitation,pe\n'
+# a CSV, and what is said of it
+CSVS = [
+    (b'', b'is empty'),
+    (HEADING, b'there is no month in it'),
+    (CSV[len(HEADING):], b'line 1: the heading is "1932-06,5.56,4.80"; expected: month,precipitation,pe, the columns in this order'),
+    (CSV.replace(HEADING, b'month,pe,precipitation\n'), b'line 1: the heading is "month,pe,precipitation"; expected'),
+    (CSV.replace(b',', b';').replace(b'.', b','), b'line 1: a semicolon; the cells are parted by commas, and decimals begin with a point'),
+    (CSV.replace(b',', b'\t'), b'line 1: a tab; the cells are parted by commas'),
+    (HEADING + b'"1932-06","5.56","4.80"\n', b'line 2: a quote mark'),
+    (HEADING + b'1932-06,5,56,4,80\n', b'line 2: 5 cells in "1932-06,5,56,4,80"; expected: month,precipitation,pe'),
+    (HEADING + b'1932-06,5.56\n', b'line 2: 2 cells'),
+    (HEADING + b'1932-06,5.56,4.80,\n', b'line 2: 4 cells'),
+    (HEADING + b'5.56,4.80\n', b'line 2: 2 cells in "5.56,4.80"'),
+    (HEADING + b',5.56,4.80\n', b'line 2: the month is empty'),
+    (HEADING + b'1932-06,5.56,4.80\n\n', b'line 3: it is empty'),
+    (CSV[:-1], b'the last line has no line feed at its end: see that the file is whole, and add one'),
+    (CSV[:-3], b'the last line has no line feed at its end'),
+    (CSV.replace(b'\n', b'\r'), b'the last line has no line feed at its end'),
+]
+# what is written, and is then for the station program to refuse
+THEN = [
+    (b'1932-06,,4.80', b'column 9: precipitation is missing (8: reading missing)'),
+    (b'1932-06,5.56,', b'column 14: PE is missing (8: reading missing)'),
+    (b'1932-06,T,4.80', b'column 9: "T" is no number; a trace of rain is written 0'),
+    (b'1932-06,abc,4.80', b'column 9: "abc" is no number'),
+    (b'1932-06,62mm,4.80', b'column 11: something after the number in "62mm"'),
+    (b'06/1932,5.56,4.80', b'column 1: "06/1932" is no month'),
+    (b'1932-6,5.56,4.80', b'column 1: "1932-6" is no month'),
+    (b'1932-05,5.56,4.80', b'column 1: 1932-07 here, and 1932-06 was to follow'),
+    (b'1932-06,5.56 in,4.80', b'column 14: "in" is no number'),
+]
+
+
+def from_csv(singly):
+    """A CSV becomes a station file that is whole or not there, with nothing guessed."""
+    soil = os.path.join(TOP, 'samples', 'western-kansas-station.txt')
+    with tempfile.TemporaryDirectory() as folder:
+        def made(data, soil=soil, file='made.txt'):
+            with open(os.path.join(folder, 'rain and pe.csv'), 'wb') as f:
+                f.write(data)
+            return ran(['csv', soil, 'rain and pe.csv', file], cwd=folder)
+
+        def left():
+            return sorted(os.listdir(folder))
+
+        for data in (CSV, CSV.replace(b'\n', b'\r\n'), b'\xef\xbb\xbf' + CSV, CSV.replace(HEADING, HEADING.upper())):
+            asked('csv', made(data), 0, b'', None)
+            asked('station of a csv', ran(['station', 'made.txt'], cwd=folder), 0, singly, None)
+            asked('csv, again', made(data), 2, b'', b'made.txt is there already')
+            os.remove(os.path.join(folder, 'made.txt'))
+        for data, words in CSVS:
+            asked('csv %r' % data[:60], made(data), 1, b'', words)
+            if left() != ['rain and pe.csv']:
+                sys.exit('wrappers: csv %r: it leaves %r' % (data[:60], left()))
+        first = len(LINES[:FIRST])
+        for line, words in THEN:
+            asked('csv %r' % line, made(CSV.replace(b'1932-06,5.56,4.80', line)), 0, b'', None)
+            got = ran(['station', 'made.txt'], cwd=folder)
+            told = first + 1 if b'1932-07 here' in words or b'was to follow' in words else first
+            asked('station of csv %r' % line, got, 1, b'', b'station: line %d, %s' % (told, words))
+            os.remove(os.path.join(folder, 'made.txt'))
+        asked('csv, no soil', made(CSV, soil='rain and pe.csv'), 1, b'', b'has no line that begins with months')
+        asked('csv, no soil there', made(CSV, soil='none'), 2, b'', b'the input cannot be read: none: there is no such file')
+        asked('csv, no folder', made(CSV, file='none/made.txt'), 3, b'', b'the output cannot be written')
+        asked('csv, a folder', made(CSV, file='.'), 2, b'', b'. is there already')
+        if left() != ['rain and pe.csv']:
+            sys.exit('wrappers: csv leaves %r' % left())
+
+
+HELP = [['palmer'], ['division'], ['station'], ['run'], ['start'], ['csv']]
 WRONG = [
     (['palmer', '-x'], b'there is no option -x'),
     (['palmer', 'a', 'b'], b'one FILE at most'),
     (['palmer', ''], b'the name of FILE is empty'),
     (['division'], b'a STATE and a DIVISION are asked for'),
     (['division', '1'], b'a STATE and a DIVISION are asked for'),
-    (['division', '1', 'x'], b'usage: division STATE DIVISION'),
-    (['division', '001', '1'], b'usage: division STATE DIVISION'),
-    (['division', '', ''], b'usage: division STATE DIVISION'),
+    (['division', '1', 'x'], b'DIVISION "x" is not one or two digits'),
+    (['division', '001', '1'], b'STATE "001" is not one or two digits'),
+    (['division', 'KS', '7', 'there-is-none'], b'STATE "KS" is not one or two digits'),
+    (['division', '', ''], b'STATE "" is not one or two digits'),
     (['division', '1', '1', 'a', 'b'], b'three arguments at most'),
     (['division', '--state', '1'], b'there is no option --state'),
     (['station', 'a', 'b'], b'one FILE at most'),
@@ -145,6 +217,9 @@ WRONG = [
     (['run', 'a', 'b'], b'one FILE at most'),
     (['run', '--season', '6'], b'there is no option --season'),
     (['start'], b'a PROGRAM is asked for'),
+    (['csv'], b'a SOIL, a CSV and a FILE are asked for'),
+    (['csv', 'a', 'b'], b'a SOIL, a CSV and a FILE are asked for'),
+    (['csv', 'a', 'b', ''], b'the name of FILE is empty'),
 ]
 
 
@@ -156,6 +231,8 @@ def arguments():
                 sys.exit('wrappers: %s %s: %r' % (words[0], option, (status, out, err)))
     for words, said in WRONG:
         asked(' '.join(words), ran(words), 2, b'', said)
+    with open(os.path.join(TOP, 'samples', 'western-kansas-station.txt'), 'rb') as f:
+        asked('run <FILE', ran(['run'], stdin=f), 2, b'', b'FILE is an argument, and not standard input')
 
 
 def unreadable():
@@ -171,14 +248,15 @@ def unreadable():
 
 def unwritten():
     """Output that is closed, full, or that nobody reads, of good input and of bad."""
-    cases = [(['palmer'], SERIES), (['palmer'], b'x\n'), (['division', '14', '7'], DIVISION), (['division', '1', '1'], b''), (['station'], STATION), (['run'], b''), (['palmer', '--help'], b''), (['run', '-h'], b'')]
+    cases = [(['palmer'], SERIES), (['palmer'], b'x\n'), (['division', '14', '7'], DIVISION), (['division', '1', '1'], b''), (['station'], STATION), (['run'], b''), (['palmer', '--help'], b''), (['csv', '-h'], b'')]
     for words, data in cases:
         with open('/dev/full', 'wb') as full:
             asked('full', ran(words, data, out=full), 3, b'', b'output cannot be written')
         with tempfile.TemporaryFile() as f:
             f.write(data)
             f.seek(0)
-            asked('closed', ran(words, stdin=f, preexec_fn=lambda: os.close(1)), 3, b'', b'output cannot be written')
+            given = subprocess.DEVNULL if words == ['run'] else f
+            asked('closed', ran(words, stdin=given, preexec_fn=lambda: os.close(1)), 3, b'', b'output cannot be written')
         reading, writing = os.pipe()
         os.close(reading)
         asked('a pipe that nobody reads', ran(words, data, out=writing), 3, b'', b'output cannot be written')
@@ -204,7 +282,9 @@ def main():
     # the first run of each may build, and says so
     for words in (['palmer'], ['division', '1', '1'], ['run']):
         ran(words)
-    folders(good())
+    singly = good()
+    folders(singly)
+    from_csv(singly)
     stories()
     arguments()
     unreadable()

@@ -12,10 +12,10 @@ use lib.Seq.{take-all, take-append-le, take-suc-set}
 use borrow.Author.Tests.{ltb-true, ltb-false, lt-ltb, le-ltb, eqb-true, eqb-false}
 use Rattle.text.specs.Bytes.{lineFeed}
 use Rattle.text.specs.Lines.{lastLine, cut, linesOf}
-use Rattle.quoted.specs.Start.{room, fresh, inRoom, pastRoom, withByte, nextLine, faultEnded, lineEnded, heeded}
+use Rattle.quoted.specs.Start.{room, fresh, inRoom, pastRoom, withByte, nextLine, faultEnded, heeded}
 use Rattle.quoted.specs.Quotes.{Quotes}
 use Rattle.quoted.specs.declared.Start.{Start}
-use Rattle.quoted.proofs.Steps.{step-ended, step-feed, step-byte}
+use Rattle.quoted.proofs.Steps.{step-ended, step-next, step-fault, step-byte}
 
 -- the start of a line is kept, as far as the line has come
 record Holds (s : Start) (come : List ℕ) : Type 0 where
@@ -65,7 +65,7 @@ same-line s b false f = rw f
 
 -- ---- a line that begins
 next-holds : (s : Start) (come : List ℕ) → Holds s come → Holds (nextLine s) []
-next-holds s come e = record { going = refl; count = refl; text = refl; more = refl; wide = e .wide }
+next-holds s come e = record { going = e .going; count = refl; text = refl; more = refl; wide = e .wide }
 
 -- ---- the line at fault has ended
 stays : (fault : ℕ) (s : Start) (bs : List ℕ) → s .ended ≡ true → foldl (heeded fault) s bs ≡ s
@@ -82,15 +82,6 @@ last-quotes s [] n e h = absurd (omega arith)
 last-quotes s (c ∷ cs) zero e h = record { text = e .text; more = e .more }
 last-quotes s (c ∷ cs) (suc n) e h = absurd (omega arith)
 
--- a line feed, where the line is not the one at fault, and where it is
-feed-next : (fault : ℕ) (s : Start) (b : ℕ) → s .ended ≡ false → b ≡ lineFeed → s .line < fault → heeded fault s b ≡ nextLine s
-unfolding lineEnded
-feed-next fault s b g f h = step-feed fault s b g f ∙ rw (lt-ltb (s .line) fault h)
-
-feed-fault : (fault : ℕ) (s : Start) (b : ℕ) → s .ended ≡ false → b ≡ lineFeed → fault ≤ s .line → heeded fault s b ≡ faultEnded s
-unfolding lineEnded
-feed-fault fault s b g f h = step-feed fault s b g f ∙ rw (le-ltb (s .line) fault h)
-
 -- what is shown of some bytes that follow, whatever has come before them
 AllQuoted : ℕ → List ℕ → Type 0
 AllQuoted fault bs =
@@ -100,9 +91,9 @@ AllQuoted fault bs =
 quotes-feed : (fault : ℕ) (b : ℕ) (bs come : List ℕ) (s : Start) (n : ℕ) → b ≡ lineFeed → AllQuoted fault bs → Holds s come → fault ≡ s .line + n → n < length (come ∷ cut [] bs) → Quotes (foldl (heeded fault) s (b ∷ bs)) (getD (come ∷ cut [] bs) n [])
 unfolding AllQuoted
 quotes-feed fault b bs come s zero f next e k h =
-    rw (feed-fault fault s b (e .going) f (omega arith), stays fault (faultEnded s) bs refl) (ended-quotes s come e)
+    rw (step-fault fault s b (e .going) f (omega arith), stays fault (faultEnded s) bs refl) (ended-quotes s come e)
 quotes-feed fault b bs come s (suc n) f next e k h =
-    rw (feed-next fault s b (e .going) f (omega arith)) (next [] (nextLine s) n (next-holds s come e) (omega arith) (omega arith))
+    rw (step-next fault s b (e .going) f (omega arith)) (next [] (nextLine s) n (next-holds s come e) (omega arith) (omega arith))
 
 quotes-by : (fault : ℕ) (b : ℕ) (bs : List ℕ) (t : Bool) → eqb b lineFeed ≡ t → AllQuoted fault bs → AllQuoted fault (b ∷ bs)
 unfolding AllQuoted cut

@@ -25,7 +25,7 @@ unfoldable pub withByte : Start → ℕ → Start
 withByte s b = cond (ltb (s .kept) room) (inRoom s b) (pastRoom s)
 
 abbrev pub nextLine : Start → Start
-nextLine s = record { line = s .line + 1; ended = false; kept = 0; more = false; bytes = s .bytes }
+nextLine s = record { line = s .line + 1; ended = s .ended; kept = 0; more = false; bytes = s .bytes }
 
 abbrev pub faultEnded : Start → Start
 faultEnded s = record { line = s .line; ended = true; kept = s .kept; more = s .more; bytes = s .bytes }

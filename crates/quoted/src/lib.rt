@@ -5,7 +5,7 @@
 
 ghost use mathlib.Core.Path.{_≡_};
 ghost use mathlib.Core.List.{foldl};
-ghost use Rattle.quoted.specs.Start.{fresh, withByte, lineEnded, heeded};
+ghost use Rattle.quoted.specs.Start.{fresh, heeded};
 
 pub struct Start {
     // The number of the line that is being read, counted from 1.
@@ -36,67 +36,6 @@ pub fn begin() -> Start
     }
 }
 
-// One byte more of the line.
-fn keep(s: Start, b: u8) -> Start
-    ensures { λ r. ⌜ r ≡ withByte s b ⌝ }
-{
-    let kept = s.kept;
-    let mut bytes = s.bytes;
-    if kept < ROOM {
-        bytes[kept] = b;
-        return Start {
-            line: s.line,
-            ended: s.ended,
-            kept: kept + 1,
-            more: s.more,
-            bytes,
-        };
-    }
-    Start {
-        line: s.line,
-        ended: s.ended,
-        kept,
-        more: true,
-        bytes,
-    }
-}
-
-// The line ends: it is the one at fault, or the next begins.
-fn end_line(s: Start, fault: u32) -> Start
-    ensures { λ r. ⌜ r ≡ lineEnded fault s ⌝ }
-{
-    let bytes = s.bytes;
-    if s.line < fault {
-        return Start {
-            line: s.line + 1,
-            ended: false,
-            kept: 0,
-            more: false,
-            bytes,
-        };
-    }
-    Start {
-        line: s.line,
-        ended: true,
-        kept: s.kept,
-        more: s.more,
-        bytes,
-    }
-}
-
-// One byte more of the input.
-fn heed_byte(s: Start, fault: u32, b: u8) -> Start
-    ensures { λ r. ⌜ r ≡ heeded fault s b ⌝ }
-{
-    if s.ended {
-        return s;
-    }
-    if b == LINE_FEED {
-        return end_line(s, fault);
-    }
-    keep(s, b)
-}
-
 // A piece of the input more, up to the end of the line at fault, which is counted from 1.
 pub fn heed(s: Start, fault: u32, piece: &[u8]) -> Start
     ensures { λ r. ⌜ r ≡ foldl (heeded fault) s (now (piece .entry)) ⌝ }
@@ -104,7 +43,24 @@ pub fn heed(s: Start, fault: u32, piece: &[u8]) -> Start
     let mut t = s;
     let mut i = 0;
     while i < piece.len() {
-        t = heed_byte(t, fault, piece[i]);
+        if !t.ended {
+            let b = piece[i];
+            let kept = t.kept;
+            if b == LINE_FEED {
+                if t.line < fault {
+                    t.line = t.line + 1;
+                    t.kept = 0;
+                    t.more = false;
+                } else {
+                    t.ended = true;
+                }
+            } else if kept < ROOM {
+                t.bytes[kept] = b;
+                t.kept = kept + 1;
+            } else {
+                t.more = true;
+            }
+        }
         i += 1;
     }
     t

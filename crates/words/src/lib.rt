@@ -122,9 +122,12 @@ fn has_wide_mark(text: &[u8]) -> bool {
 fn say_byte(b: u8) {
     match b {
         b'\t' => say(b"a tab"),
+        b'"' => say(b"a quote mark"),
         b',' => say(b"a comma: a line has one number, in whole thousandths"),
-        b'-' => say(b"a minus that is not in front"),
+        b'-' => say(b"a minus that is not in front: a line has one number and no date"),
         b'.' => say(b"a point: a number is in whole thousandths, as 1040 for 1.04"),
+        b'/' | b':' => say(b"a date: a line has one number and nothing beside it"),
+        b';' => say(b"a semicolon: a line has one number and nothing beside it"),
         b'A'..=b'Z' | b'a'..=b'z' => say(b"a letter"),
         128..=255 => say(b"a byte above 127, which is no plain text"),
         _ => say(b"no digit"),
