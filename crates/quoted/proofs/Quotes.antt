@@ -1,8 +1,9 @@
--- What is kept after an input is the start of its line at fault: `quotes`, which stands last. The idea: of the line that is being read, as far
--- as it has come, the start is kept after every byte (`Holds`), and at the end of the line at fault the reading stands still. Assumes nothing.
+-- What is kept after an input is the start of its line at fault: `quotes`; and in pieces, as the program has it, which learns the line at
+-- fault only with the piece that it ends in: `quotes-in-pieces`, which stands last. The idea: of the line that is being read, as far as it
+-- has come, the start is kept after every byte (`Holds`), and at the end of the line at fault the reading stands still. Assumes nothing.
 use mathlib.Core.Path.{_≡_, refl, sym, ap, _∙_}
 use mathlib.Core.Bool.{Bool, true, false}
-use mathlib.Core.List.{List, [], _∷_, _++_, foldl}
+use mathlib.Core.List.{List, [], _∷_, _++_, foldl, foldl-append}
 use Prim.Native.Nat.{ℕ, zero, suc, _+_, _-_, _≤_, _<_, min}
 use native.Mathlib.Numerals.{add-one}
 use native.Mathlib.Omega.{arith}
@@ -13,7 +14,7 @@ use borrow.Author.Tests.{ltb-true, ltb-false, lt-ltb, le-ltb, eqb-true, eqb-fals
 use Rattle.text.specs.Bytes.{lineFeed}
 use Rattle.text.specs.Lines.{lastLine, cut, linesOf}
 use Rattle.quoted.specs.Start.{room, fresh, inRoom, pastRoom, withByte, nextLine, faultEnded, heeded}
-use Rattle.quoted.specs.Quotes.{Quotes}
+use Rattle.quoted.specs.Quotes.{Quotes, feeds}
 use Rattle.quoted.specs.declared.Start.{Start}
 use Rattle.quoted.proofs.Steps.{step-ended, step-next, step-fault, step-byte}
 
@@ -110,3 +111,35 @@ quotes-all fault (b ∷ bs) come s n e k h = quotes-by fault b bs (eqb b lineFee
 pub quotes : (input : List ℕ) (fault : ℕ) → 0 < fault → fault ≤ length (linesOf input) → Quotes (foldl (heeded fault) fresh input) (getD (linesOf input) (fault - 1) [])
 unfolding AllQuoted linesOf
 quotes input fault p h = quotes-all fault input [] fresh (fault - 1) (record { going = refl; count = refl; text = refl; more = refl; wide = length-replicate {A = ℕ} room 0 }) (omega arith) (omega arith)
+
+-- ---- in pieces
+same-end : (s : Start) (b : ℕ) (t : Bool) → ltb (s .kept) room ≡ t → withByte s b .ended ≡ s .ended
+unfolding withByte
+same-end s b true f = rw f
+same-end s b false f = rw f
+
+-- as long as the line at fault has not ended, it does not matter which later one is taken for it
+SameBefore : ℕ → ℕ → List ℕ → Type 0
+SameBefore fault later bs =
+    (s : Start) → s .ended ≡ false → s .line + feeds bs ≤ fault → foldl (heeded later) s bs ≡ foldl (heeded fault) s bs
+
+same-by : (fault later b : ℕ) (bs : List ℕ) (t : Bool) → eqb b lineFeed ≡ t → fault ≤ later → SameBefore fault later bs → SameBefore fault later (b ∷ bs)
+unfolding SameBefore feeds
+same-by fault later b bs true f l next s e h =
+    let k : s .line + (1 + feeds bs) ≤ fault = rw f at h in
+    rw (step-next later s b e (eqb-true _ _ f) (omega arith), step-next fault s b e (eqb-true _ _ f) (omega arith)) (next (nextLine s) e (omega arith))
+same-by fault later b bs false f l next s e h =
+    let k : s .line + feeds bs ≤ fault = rw f at h in
+    let q = same-line s b (ltb (s .kept) room) refl in
+    rw (step-byte later s b e (eqb-false _ _ f), step-byte fault s b e (eqb-false _ _ f)) (next (withByte s b) (same-end s b (ltb (s .kept) room) refl ∙ e) (omega (arith, q)))
+
+same-before : (fault later : ℕ) (bs : List ℕ) → fault ≤ later → SameBefore fault later bs
+unfolding SameBefore
+same-before fault later [] l s e h = refl
+same-before fault later (b ∷ bs) l s e h = same-by fault later b bs (eqb b lineFeed) refl l (same-before fault later bs l) s e h
+
+-- the pieces before were gone over for a later line, and the line at fault ends in this one or after it
+pub quotes-in-pieces : (earlier piece : List ℕ) (fault later : ℕ) → 1 + feeds earlier ≤ fault → fault ≤ later → fault ≤ length (linesOf (earlier ++ piece)) → Quotes (foldl (heeded fault) (foldl (heeded later) fresh earlier) piece) (getD (linesOf (earlier ++ piece)) (fault - 1) [])
+unfolding SameBefore
+quotes-in-pieces earlier piece fault later b l h =
+    rw (same-before fault later earlier l fresh refl b, ← foldl-append (heeded fault) fresh earlier piece) (quotes (earlier ++ piece) fault (omega arith) h)

@@ -1,5 +1,5 @@
 -- What is kept of a line to be quoted: its first forty bytes, and whether it has more. The lines of the input are counted from 1, and the
--- one at fault is not left again. That this is the start of that line is `quotes`, proofs/Quotes.antt. Assumes nothing.
+-- one at fault is not left again. That this is the start of that line is `quotes`, and of an input in pieces `quotes-in-pieces`, proofs/Quotes.antt. Assumes nothing.
 use Prim.Native.Nat.{ℕ, _+_}
 use mathlib.Core.Bool.{true, false, cond}
 use lib.ListN.{set, replicate}
