@@ -60,7 +60,7 @@ def c_program():
             f.write(source)
         flags = ['-std=c99', '-Wall', '-Wextra', '-Werror', '-pedantic', '-I' + os.path.join(TOP, 'include')]
         made = os.path.join(folder, 'june')
-        subprocess.run(shlex.split(os.environ['CC']) + flags + [os.path.join(folder, 'june.c'), os.path.join(TOP, 'target', 'staticlib', 'libcard.a'), '-o', made], check=True)
+        subprocess.run(shlex.split(os.environ.get('CC', 'cc')) + flags + [os.path.join(folder, 'june.c'), os.path.join(TOP, 'target', 'staticlib', 'libcard.a'), '-o', made], check=True)
         out = subprocess.run(shlex.split(os.environ.get('RUN', '')) + [made], stdout=subprocess.PIPE, text=True).stdout
     if out != said:
         sys.exit('readme: the program in C prints %r, and not %r' % (out, said))
