@@ -1,2 +1,3 @@
--- What is known of a digit's byte (Digits).
+-- What is known of a digit's byte (Digits), and of a loop over bytes (Folds).
 pub mod Digits
+pub mod Folds

@@ -1,15 +1,13 @@
 -- `lines::parse`: what is still to be fed takes the line so far to where the whole line ends, and there `streamed` says what it is. Assumes
 -- nothing.
 use borrow.Author.Needs.{needs}
-use mathlib.Core.Path.{_≡_, sym, ap, _∙_}
-use mathlib.Core.List.{List, foldl}
-use Prim.Native.Nat.{ℕ, _+_, _-_, _≤_, _<_}
-use native.Mathlib.Numerals.{add-one}
+use mathlib.Core.Path.{_≡_, ap, _∙_}
+use mathlib.Core.List.{foldl}
+use Prim.Native.Nat.{_-_, _≤_}
 use native.Mathlib.Omega.{arith}
-use lib.ListN.{length, drop, getD, drop-of-length-le}
-use lib.Seq.{drop-cons}
+use lib.ListN.{length, drop}
+use Rattle.text.proofs.Folds.{fold-more, fold-all}
 use Rattle.lines.specs.Reading.{begun, fed, finished}
-use Rattle.lines.specs.declared.Line.{Line}
 use Rattle.lines.proofs.Lines.{streamed}
 use Rattle.lines.proofs.parse.Statement.{statement}
 use Rattle.lines.proofs.parse.Tie as tie
@@ -19,12 +17,6 @@ Inv-loop line l₀ i₀ l i = (i ≤ length line) × (foldl fed l (drop i line) 
 
 abbrev μ-loop : tie.MeasureT-loop
 μ-loop line l₀ i₀ l i = length line - i
-
-one-more : (line : List ℕ) (l : Line) (i : ℕ) → i < length line → foldl fed l (drop i line) ≡ foldl fed begun line → foldl fed (fed l (getD line i 0)) (drop (i + 1) line) ≡ foldl fed begun line
-one-more line l i h e = rw add-one (sym (ap (foldl fed l) (drop-cons line i 0 h)) ∙ e)
-
-all-fed : (line : List ℕ) (l : Line) (i : ℕ) → length line ≤ i → foldl fed l (drop i line) ≡ foldl fed begun line → l ≡ foldl fed begun line
-all-fed line l i h e = sym (ap (foldl fed l) (drop-of-length-le line h)) ∙ e
 
 begin-requires : tie.Need-begin-requires Inv-loop μ-loop
 begin-requires c κs = search needs
@@ -47,7 +39,7 @@ loop-less c = omega arith
 loop-again : tie.Need-loop-again Inv-loop μ-loop
 loop-again c =
     let a = c .before .before .before in
-    (omega arith, rw (c .feed .ensures) (one-more (a .before .before .before .args .line .now) (a .loop .l) (a .loop .i) (omega arith) (a .loop .inv .1)))
+    (omega arith, rw (c .feed .ensures) (fold-more fed (a .before .before .before .args .line .now) (a .loop .l) _ (a .loop .i) (omega arith) (a .loop .inv .1)))
 
 finish-requires : tie.Need-finish-requires Inv-loop μ-loop
 finish-requires c κs = search needs
@@ -55,7 +47,7 @@ finish-requires c κs = search needs
 returns : tie.Need-returns Inv-loop μ-loop
 returns c =
     let a = c .before .before in
-    c .finish .ensures ∙ ap finished (all-fed (a .before .before .before .args .line .now) (a .loop .l) (a .loop .i) (omega arith) (a .loop .inv .1)) ∙ streamed (a .before .before .before .args .line .now)
+    c .finish .ensures ∙ ap finished (fold-all fed (a .before .before .before .args .line .now) (a .loop .l) _ (a .loop .i) (omega arith) (a .loop .inv .1)) ∙ streamed (a .before .before .before .args .line .now)
 
 pub parse-spec : {M : Type 1} → statement M
 parse-spec =

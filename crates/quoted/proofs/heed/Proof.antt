@@ -1,15 +1,13 @@
 -- `quoted::heed`: what is kept after the bytes so far, and those still to come, make what the whole piece makes. Assumes nothing.
 use borrow.Author.Needs.{needs}
-use mathlib.Core.Path.{_≡_, refl, sym, ap, _∙_}
-use mathlib.Core.List.{List, foldl}
+use mathlib.Core.Path.{_≡_, refl, sym, _∙_}
+use mathlib.Core.List.{foldl}
 use mathlib.Core.Logic.{⊎-elim}
-use Prim.Native.Nat.{ℕ, _+_, _-_, _≤_, _<_}
-use native.Mathlib.Numerals.{add-one}
+use Prim.Native.Nat.{_-_, _≤_}
 use native.Mathlib.Omega.{arith}
-use lib.ListN.{length, drop, getD, drop-of-length-le}
-use lib.Seq.{drop-cons}
+use lib.ListN.{length, drop, getD}
+use Rattle.text.proofs.Folds.{fold-more, fold-all}
 use Rattle.quoted.specs.Start.{heeded}
-use Rattle.quoted.specs.declared.Start.{Start}
 use borrow.Author.Tests.{not-true, not-false}
 use Rattle.quoted.proofs.Steps.{step-ended, step-next, step-fault, step-room, step-past}
 use Rattle.quoted.proofs.heed.Statement.{statement}
@@ -20,12 +18,6 @@ Inv-loop fault piece t₀ i₀ t i = (i ≤ length piece) × (foldl (heeded faul
 
 abbrev μ-loop : tie.MeasureT-loop
 μ-loop fault piece t₀ i₀ t i = length piece - i
-
-one-more : (fault : ℕ) (piece : List ℕ) (s t : Start) (i : ℕ) → i < length piece → foldl (heeded fault) t (drop i piece) ≡ foldl (heeded fault) s piece → foldl (heeded fault) (heeded fault t (getD piece i 0)) (drop (i + 1) piece) ≡ foldl (heeded fault) s piece
-one-more fault piece s t i h e = rw add-one (sym (ap (foldl (heeded fault) t) (drop-cons piece i 0 h)) ∙ e)
-
-all-heeded : (fault : ℕ) (piece : List ℕ) (s t : Start) (i : ℕ) → length piece ≤ i → foldl (heeded fault) t (drop i piece) ≡ foldl (heeded fault) s piece → t ≡ foldl (heeded fault) s piece
-all-heeded fault piece s t i h e = sym (ap (foldl (heeded fault) t) (drop-of-length-le piece h)) ∙ e
 
 loop-holds : tie.Need-loop-holds Inv-loop μ-loop
 loop-holds c = (omega arith, refl)
@@ -65,13 +57,13 @@ loop-again : tie.Need-loop-again Inv-loop μ-loop
 loop-again c =
     let l = c .before .before in
     let a = l .before .args in
-    (omega arith, rw (moved c) (one-more (a .fault) (a .piece .now) (a .s) (l .loop .t) (l .loop .i) (omega arith) (l .loop .inv .1)))
+    (omega arith, rw (moved c) (fold-more (heeded (a .fault)) (a .piece .now) (l .loop .t) _ (l .loop .i) (omega arith) (l .loop .inv .1)))
 
 returns : tie.Need-returns Inv-loop μ-loop
 returns c =
     let l = c .before in
     let a = l .before .args in
-    all-heeded (a .fault) (a .piece .now) (a .s) (l .loop .t) (l .loop .i) (omega arith) (l .loop .inv .1)
+    fold-all (heeded (a .fault)) (a .piece .now) (l .loop .t) _ (l .loop .i) (omega arith) (l .loop .inv .1)
 
 pub heed-spec : {M : Type 1} → statement M
 heed-spec =
