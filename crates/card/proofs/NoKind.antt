@@ -5,10 +5,10 @@ use native.Mathlib.Omega.{arith}
 use borrow.Author.Tests.{ne-eqb}
 use Rattle.door.specs.Outcome.{refused, notAcceptable}
 use Rattle.door.specs.Readings.{reading, whole}
-use Rattle.card.specs.Given.{given, missingKind, wholeKind, inchesKind, millimetresKind}
-use Rattle.card.specs.declared.GivenReading.{GivenReading}
+use Rattle.card.specs.FromC.{readingOfC, missingKind, wholeKind, inchesKind, millimetresKind}
+use Rattle.card.specs.declared.CReading.{CReading}
 
-pub no-kind : (g : GivenReading) → 3 < g .kind → reading (given g) ≡ refused notAcceptable
-unfolding given reading whole
+pub no-kind : (g : CReading) → 3 < g .kind → reading (readingOfC g) ≡ refused notAcceptable
+unfolding readingOfC reading whole
 no-kind g h =
     simp (ne-eqb (g .kind) missingKind (λ e. omega arith), ne-eqb (g .kind) wholeKind (λ e. omega arith), ne-eqb (g .kind) inchesKind (λ e. omega arith), ne-eqb (g .kind) millimetresKind (λ e. omega arith))

@@ -3,11 +3,11 @@
 use mathlib.Core.Path.{_≡_, sym, ap, _∙_}
 use Prim.Native.Nat.{ℕ}
 use Rattle.door.specs.Outcome.{Outcome}
-use Rattle.card.specs.Given.{answered}
-use Rattle.card.specs.declared.GivenAnswer.{GivenAnswer}
+use Rattle.card.specs.FromC.{answered}
+use Rattle.card.specs.declared.CAnswer.{CAnswer}
 
-abbrev from : Outcome → GivenAnswer
+abbrev from : Outcome → CAnswer
 from o = record { number = o .number; water = o .water }
 
-pub one-answer : (o : Outcome) (a b : GivenAnswer) → answered a ≡ o → answered b ≡ o → a ≡ b
+pub one-answer : (o : Outcome) (a b : CAnswer) → answered a ≡ o → answered b ≡ o → a ≡ b
 one-answer o a b p q = ap from (p ∙ sym q)

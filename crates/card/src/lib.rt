@@ -15,13 +15,13 @@ ghost use Rattle.door.specs.Readings.{reading};
 ghost use Rattle.runs.specs.Start.{startOf};
 ghost use Rattle.series.specs.Series.{filled, wholeSeries};
 ghost use Rattle.drought.specs.Columns.{columns};
-ghost use Rattle.drought.specs.Asked.{result, addWater, addInches, addZ, rowOfRun};
-ghost use Rattle.season.specs.Season.{left, addSeason};
-ghost use Rattle.card.specs.Given.{given, answered};
+ghost use Rattle.drought.specs.Calls.{result, addWater, addInches, addZ, rowOfRun};
+ghost use Rattle.season.specs.Season.{seasonResult, addSeason};
+ghost use Rattle.card.specs.FromC.{readingOfC, answered};
 
 // A reading as C hands it in: its kind, and the number that this kind reads.
 #[repr(C)]
-pub struct GivenReading {
+pub struct CReading {
     pub kind: u32,
     pub whole: i32,
     pub measure: f32,
@@ -29,7 +29,7 @@ pub struct GivenReading {
 
 // A reading's answer: 0, 8 or 9, and thousandths of an inch.
 #[repr(C)]
-pub struct GivenAnswer {
+pub struct CAnswer {
     pub number: u8,
     pub water: u32,
 }
@@ -46,8 +46,8 @@ const MILLIMETRES: u32 = 3;
 // What a whole reading of no such kind says: it is below 0, and so not acceptable.
 const NO_KIND: i32 = -1;
 
-fn reading_of(g: GivenReading) -> Reading
-    ensures { λ r. ⌜ r ≡ given g ⌝ }
+fn reading_of(g: CReading) -> Reading
+    ensures { λ r. ⌜ r ≡ readingOfC g ⌝ }
 {
     let kind = g.kind;
     if kind == MISSING {
@@ -67,11 +67,11 @@ fn reading_of(g: GivenReading) -> Reading
 
 // Reads a reading: 8 or 9.
 #[no_mangle]
-pub extern "C" fn card_read(g: GivenReading) -> GivenAnswer
-    ensures { λ a. ⌜ answered a ≡ reading (given g) ⌝ }
+pub extern "C" fn card_read(g: CReading) -> CAnswer
+    ensures { λ a. ⌜ answered a ≡ reading (readingOfC g) ⌝ }
 {
     let a = drought::read(reading_of(g));
-    GivenAnswer {
+    CAnswer {
         number: door::number(a),
         water: door::water(a),
     }
@@ -95,15 +95,15 @@ pub extern "C" fn card_start(
 #[no_mangle]
 pub extern "C" fn card_add_water(
     run: Run,
-    p: GivenReading,
-    pe: GivenReading,
+    p: CReading,
+    pe: CReading,
     x1: &mut [i32],
     x2: &mut [i32],
     x3: &mut [i32],
     index: &mut [i32],
     mark: &mut [u8],
 ) -> Added
-    ensures { λ a. ⌜ result a (columns (now (x1 .exit)) (now (x2 .exit)) (now (x3 .exit)) (now (index .exit)) (now (mark .exit))) ≡ addWater run (given p) (given pe) (columns (now (x1 .entry)) (now (x2 .entry)) (now (x3 .entry)) (now (index .entry)) (now (mark .entry))) ⌝ }
+    ensures { λ a. ⌜ result a (columns (now (x1 .exit)) (now (x2 .exit)) (now (x3 .exit)) (now (index .exit)) (now (mark .exit))) ≡ addWater run (readingOfC p) (readingOfC pe) (columns (now (x1 .entry)) (now (x2 .entry)) (now (x3 .entry)) (now (index .entry)) (now (mark .entry))) ⌝ }
 {
     let a = reading_of(p);
     let b = reading_of(pe);
@@ -155,7 +155,7 @@ pub extern "C" fn card_add_season(
     index: &mut [i32],
     mark: &mut [u8],
 ) -> Season
-    ensures { λ s. ⌜ left s (columns (now (x1 .exit)) (now (x2 .exit)) (now (x3 .exit)) (now (index .exit)) (now (mark .exit))) ≡ addSeason run (now (p .entry)) (now (pe .entry)) (columns (now (x1 .entry)) (now (x2 .entry)) (now (x3 .entry)) (now (index .entry)) (now (mark .entry))) ⌝ }
+    ensures { λ s. ⌜ seasonResult s (columns (now (x1 .exit)) (now (x2 .exit)) (now (x3 .exit)) (now (index .exit)) (now (mark .exit))) ≡ addSeason run (now (p .entry)) (now (pe .entry)) (columns (now (x1 .entry)) (now (x2 .entry)) (now (x3 .entry)) (now (index .entry)) (now (mark .entry))) ⌝ }
 {
     season::add_season(run, p, pe, x1, x2, x3, index, mark)
 }

@@ -2,10 +2,10 @@
 -- input. Assumes nothing.
 use mathlib.Core.Path.{_≡_, sym, ap, _∙_}
 use Rattle.drought.specs.Columns.{Columns}
-use Rattle.drought.specs.Asked.{Result, result}
+use Rattle.drought.specs.Calls.{Result, result}
 use Rattle.drought.specs.declared.Added.{Added}
 use Rattle.drought.specs.declared.Shown.{Shown}
-use Rattle.season.specs.Season.{Left, left}
+use Rattle.season.specs.Season.{SeasonResult, seasonResult}
 use Rattle.season.specs.declared.Season.{Season}
 
 -- an add: the answer with the run in it, and all five columns
@@ -17,5 +17,5 @@ pub one-row : (said a b : Shown) → a ≡ said → b ≡ said → a ≡ b
 one-row said a b p q = p ∙ sym q
 
 -- a season: the answer with the run in it, and all five columns
-pub one-season : (said : Left) (a b : Season) (cs ds : Columns) → left a cs ≡ said → left b ds ≡ said → (a ≡ b) × (cs ≡ ds)
-one-season said a b cs ds p q = let e = p ∙ sym q in (ap (λ (t : Left). t .answer) e, ap (λ (t : Left). t .columns) e)
+pub one-season : (said : SeasonResult) (a b : Season) (cs ds : Columns) → seasonResult a cs ≡ said → seasonResult b ds ≡ said → (a ≡ b) × (cs ≡ ds)
+one-season said a b cs ds p q = let e = p ∙ sym q in (ap (λ (t : SeasonResult). t .answer) e, ap (λ (t : SeasonResult). t .columns) e)

@@ -23,7 +23,7 @@ use Rattle.runs.specs.Start.{freshRun}
 use Rattle.runs.specs.declared.Run.{Run}
 use Rattle.drought.specs.Columns.{Columns, columns, long, lengthsFit, columnsFit}
 use Rattle.drought.specs.Refusals.{runRefusal, roomRefusal, waterRefusal, zRefusal, rowRefusal}
-use Rattle.drought.specs.Asked.{Result, taken, addOutcomes, addWater, addZ, rowOfRun}
+use Rattle.drought.specs.Calls.{Result, taken, addOutcomes, addWater, addZ, rowOfRun}
 use Rattle.drought.specs.declared.Figures.{Figures}
 use Rattle.drought.specs.declared.Shown.{Shown}
 use Rattle.drought.proofs.Refused.{or-first}

@@ -13,7 +13,7 @@ use Rattle.exact.specs.Nearest.{nearest, nearestℕ}
 use Rattle.exact.specs.Next.{nextOf}
 use Rattle.door.specs.Readings.{reading, whole}
 use Rattle.water.specs.Layers.{surfaceHolds, underlyingHolds}
-use Rattle.water.specs.Balance.{underLoss, balanceOf, otherMonth, toSurface, toUnderlying}
+use Rattle.water.specs.Balance.{underLoss, balanceOf, wetMonth, toSurface, toUnderlying}
 use Rattle.water.specs.Expected.{potentialSurface, potentialUnderlying, potentialsOf, nOf, expectedOf, zOf, monthOf}
 use Rattle.spells.specs.Spells.{turn, uOf, vOf, eOf, qOf, endingOf, percentOf, raised, lowered, largerInSize, provisional, steadyMonth, abatingValues, abatingMonth, founded, unfounded, tried, noSpell, endingMonth, inForce, stepOf}
 use Rattle.runs.specs.Ranges.{limitOf, constantFits, constantsFitTo, constantsAt, calendarFits, nextCalendar}
@@ -22,9 +22,9 @@ use Rattle.runs.specs.declared.Run.{Run}
 use Rattle.drought.specs.Columns.{Columns, long, lengthsFit, columnsFit}
 use Rattle.drought.specs.Refusals.{badLists, notARun, runRefusal, roomRefusal, waterRefusal}
 use Rattle.drought.specs.Figures.{noFigures}
-use Rattle.drought.specs.Asked.{taken, takenWater, addOutcomes, addWater}
+use Rattle.drought.specs.Calls.{taken, takenWater, addOutcomes, addWater}
 use Rattle.drought.specs.declared.Figures.{Figures}
-use Rattle.season.specs.Season.{Left, listed, onward, seasonRefusal, addSeason}
+use Rattle.season.specs.Season.{SeasonResult, listed, addEach, seasonRefusal, addSeason}
 use Rattle.demands.proofs.Rejected.{begun, blank}
 
 -- a thousandth, two thousandths, and a missing month; PE is 0
@@ -34,19 +34,19 @@ rain = pos 1 ∷ pos 2 ∷ negsuc 0 ∷ []
 abbrev none : List ℤ
 none = pos 0 ∷ pos 0 ∷ pos 0 ∷ []
 
-abbrev broken : Left
+abbrev broken : SeasonResult
 broken = addSeason begun rain none (blank 3)
 
 -- the first month alone
-abbrev one : Left
+abbrev one : SeasonResult
 one = addSeason begun (pos 1 ∷ []) (pos 0 ∷ []) (blank 3)
 
 -- the first two
-abbrev two : Left
+abbrev two : SeasonResult
 two = addSeason begun (pos 1 ∷ pos 2 ∷ []) (pos 0 ∷ pos 0 ∷ []) (blank 3)
 
 -- the second, after the first
-abbrev last : Left
+abbrev last : SeasonResult
 last = addSeason (one .answer .run) (pos 2 ∷ []) (pos 0 ∷ []) (one .columns)
 
 record WorkedSeason : Type 0 where
@@ -64,7 +64,7 @@ record WorkedSeason : Type 0 where
   last-settled : last .answer .settled ≡ 1
 
 worked : WorkedSeason
-unfolding nearest nearestℕ nextOf turn uOf vOf eOf qOf endingOf percentOf raised lowered largerInSize provisional steadyMonth abatingValues abatingMonth founded unfounded tried noSpell endingMonth inForce stepOf surfaceHolds underlyingHolds underLoss balanceOf otherMonth toSurface toUnderlying potentialSurface potentialUnderlying potentialsOf nOf expectedOf zOf monthOf limitOf constantFits constantsFitTo constantsAt calendarFits nextCalendar lengthFits zFits soilFits sizesFit signsFit vFits isRun reading whole lengthsFit runRefusal roomRefusal waterRefusal taken takenWater addOutcomes addWater listed onward seasonRefusal addSeason
+unfolding nearest nearestℕ nextOf turn uOf vOf eOf qOf endingOf percentOf raised lowered largerInSize provisional steadyMonth abatingValues abatingMonth founded unfounded tried noSpell endingMonth inForce stepOf surfaceHolds underlyingHolds underLoss balanceOf wetMonth toSurface toUnderlying potentialSurface potentialUnderlying potentialsOf nOf expectedOf zOf monthOf limitOf constantFits constantsFitTo constantsAt calendarFits nextCalendar lengthFits zFits soilFits sizesFit signsFit vFits isRun reading whole lengthsFit runRefusal roomRefusal waterRefusal taken takenWater addOutcomes addWater listed addEach seasonRefusal addSeason
 worked =
     record {
       broken-number = refl;
@@ -81,7 +81,7 @@ worked =
       last-settled = refl;
     }
 
-module _ (f : Run → List ℤ → List ℤ → Columns → Left) (keeps : (r : Run) (ps pes : List ℤ) (cs : Columns) → f r ps pes cs ≡ addSeason r ps pes cs) where
+module _ (f : Run → List ℤ → List ℤ → Columns → SeasonResult) (keeps : (r : Run) (ps pes : List ℤ) (cs : Columns) → f r ps pes cs ≡ addSeason r ps pes cs) where
   is-broken : f begun rain none (blank 3) ≡ broken
   is-broken = keeps begun rain none (blank 3)
 

@@ -18,11 +18,11 @@ use Rattle.runs.specs.declared.Run.{Run}
 use Rattle.runs.proofs.RunLaws.{start-is-run}
 use Rattle.drought.specs.Columns.{Columns, long, columnsFit}
 use Rattle.drought.specs.Ready.{Good}
-use Rattle.drought.specs.Asked.{Result, heldBy, taken}
+use Rattle.drought.specs.Calls.{Result, heldBy, taken}
 use Rattle.drought.proofs.Readiness.{lengths-are}
 use Rattle.drought.proofs.Keeps.{wrote-index, wrote-mark}
 use Rattle.drought.proofs.Accepts.{good-passes}
-use Rattle.season.specs.Season.{Left, left, listed, nothing, joined, stopped, onlyIf, single, onward, seasonRefusal, addSeason}
+use Rattle.season.specs.Season.{SeasonResult, seasonResult, listed, nothing, joined, stopped, onlyIf, single, addEach, seasonRefusal, addSeason}
 use Rattle.season.proofs.Steps.{on, off}
 use Rattle.demands.specs.Months.{Ask, water, asked, State, after, afterAll, Accepted, stationOf, zFor}
 use Rattle.demands.specs.Demands.{Honest, begun}
@@ -32,7 +32,7 @@ use Rattle.demands.proofs.Sequence.{after-append, accepted-append}
 use Rattle.demands.proofs.Honest.{zero-or, not-both, never-refused, good-always}
 
 -- ---- what the months of two lists make of a season so far: n of them are added
-record Made (t : Left) (months : List Ask) (u : Left) : Type 0 where
+record Made (t : SeasonResult) (months : List Ask) (u : SeasonResult) : Type 0 where
   n : ℕ
   few : n ≤ length months
   added : u .answer .added ≡ t .answer .added + n
@@ -46,7 +46,7 @@ record Made (t : Left) (months : List Ask) (u : Left) : Type 0 where
       → (u .answer .number ≡ asked (leftOf u .run) a (leftOf u .columns) .answer .number) × (u .answer .number ≡ 0 → ⊥)
 
 -- no month
-made-none : (t : Left) → t .answer .number ≡ 0 → Made t [] t
+made-none : (t : SeasonResult) → t .answer .number ≡ 0 → Made t [] t
 made-none t z =
     record {
       n = 0;
@@ -68,21 +68,21 @@ abbrev first-of : Ask → List Ask → Ask
 first-of d [] = d
 first-of d (a ∷ later) = a
 
-module _ (t : Left) (p pe : ℤ) (months : List Ask) where
+module _ (t : SeasonResult) (p pe : ℤ) (months : List Ask) where
   abbrev ask : Ask
   ask = water (listed p) (listed pe)
 
   abbrev alone : Result
   alone = single t p pe
 
-  abbrev next : Left
-  next = left (joined (t .answer) (alone .answer)) (alone .columns)
+  abbrev next : SeasonResult
+  next = seasonResult (joined (t .answer) (alone .answer)) (alone .columns)
 
-  abbrev stop : Left
-  stop = left (stopped (t .answer) (alone .answer .number)) (t .columns)
+  abbrev stop : SeasonResult
+  stop = seasonResult (stopped (t .answer) (alone .answer .number)) (t .columns)
 
   -- a month that is added, and those after it
-  made-more : (u : Left) → alone .answer .number ≡ 0 → Made next months u → Made t (ask ∷ months) u
+  made-more : (u : SeasonResult) → alone .answer .number ≡ 0 → Made next months u → Made t (ask ∷ months) u
   made-more u z m =
       record {
         n = suc (m .n);
@@ -121,13 +121,13 @@ module _ (t : Left) (p pe : ℤ) (months : List Ask) where
       here a [] l e k = (ap (λ (x : Ask). asked (t .answer .run) x (t .columns) .answer .number) (ap (first-of ask) e), h)
       here a (x ∷ earlier) l e k = absurd (omega arith)
 
-made : (ps pes : List ℤ) (t : Left) → t .answer .number ≡ 0 → Made t (monthsOf ps pes) (onward t ps pes)
-unfolding onward
+made : (ps pes : List ℤ) (t : SeasonResult) → t .answer .number ≡ 0 → Made t (monthsOf ps pes) (addEach t ps pes)
+unfolding addEach
 made [] pes t z = made-none t z
 made (p ∷ ps) [] t z = made-none t z
 made (p ∷ ps) (pe ∷ pes) t z =
     let months = monthsOf ps pes in
-    let u = onward (next t p pe months) ps pes in
+    let u = addEach (next t p pe months) ps pes in
     let k = alone t p pe months .answer .number in
     ⊎-elim
     (λ e. subst (Made t (ask t p pe months ∷ months)) (sym (on k u (stop t p pe months) e)) (made-more t p pe months u e (made ps pes (next t p pe months) refl)))
@@ -139,27 +139,27 @@ module _ (r : Run) (ps pes : List ℤ) (cs : Columns) where
   abbrev here : State
   here = record { run = r; columns = cs }
 
-  abbrev first : Left
-  first = left (nothing 0 r) cs
+  abbrev first : SeasonResult
+  first = seasonResult (nothing 0 r) cs
 
-  refused : (seasonRefusal r ps pes cs ≡ 0 → ⊥) → addSeason r ps pes cs ≡ left (nothing (seasonRefusal r ps pes cs) r) cs
+  refused : (seasonRefusal r ps pes cs ≡ 0 → ⊥) → addSeason r ps pes cs ≡ seasonResult (nothing (seasonRefusal r ps pes cs) r) cs
   unfolding addSeason
-  refused h = off (seasonRefusal r ps pes cs) (onward first ps pes) _ h
+  refused h = off (seasonRefusal r ps pes cs) (addEach first ps pes) _ h
 
-  begins : seasonRefusal r ps pes cs ≡ 0 → addSeason r ps pes cs ≡ onward first ps pes
+  begins : seasonRefusal r ps pes cs ≡ 0 → addSeason r ps pes cs ≡ addEach first ps pes
   unfolding addSeason
-  begins z = on (seasonRefusal r ps pes cs) (onward first ps pes) _ z
+  begins z = on (seasonRefusal r ps pes cs) (addEach first ps pes) _ z
 
   singly : seasonRefusal r ps pes cs ≡ 0 → Singly here (monthsOf ps pes) (addSeason r ps pes cs)
   singly z = subst (Singly here (monthsOf ps pes)) (sym (begins z)) go
     where
-      m : Made first (monthsOf ps pes) (onward first ps pes)
+      m : Made first (monthsOf ps pes) (addEach first ps pes)
       m = made ps pes first refl
 
-      count : onward first ps pes .answer .added ≡ m .n
+      count : addEach first ps pes .answer .added ≡ m .n
       count = omega (arith, m .added)
 
-      go : Singly here (monthsOf ps pes) (onward first ps pes)
+      go : Singly here (monthsOf ps pes) (addEach first ps pes)
       go =
           record {
             added = omega (arith, m .few, count);
@@ -179,11 +179,11 @@ module _ (r : Run) (ps pes : List ℤ) (cs : Columns) where
       (λ h. rw (refused h) (tt, refl))
       (zero-or (seasonRefusal r ps pes cs))
 
-empty : (r : Run) (cs : Columns) → addSeason r [] [] cs ≡ left (nothing (seasonRefusal r [] [] cs) r) cs
-unfolding addSeason onward
+empty : (r : Run) (cs : Columns) → addSeason r [] [] cs ≡ seasonResult (nothing (seasonRefusal r [] [] cs) r) cs
+unfolding addSeason addEach
 empty r cs = go (seasonRefusal r [] [] cs)
   where
-    go : (k : ℕ) → onlyIf k (left (nothing 0 r) cs) (left (nothing k r) cs) ≡ left (nothing k r) cs
+    go : (k : ℕ) → onlyIf k (seasonResult (nothing 0 r) cs) (seasonResult (nothing k r) cs) ≡ seasonResult (nothing k r) cs
     go zero = refl
     go (suc k) = refl
 
@@ -265,25 +265,25 @@ more s asks ps pes h =
     (accepted-append s asks months h (g .0), g .1 ∙ sym (after-append s asks months))
 
 -- ---- neither 1 nor 7
-onward-honest : (ps pes : List ℤ) (t : Left) → t .answer .number ≡ 0 → Good (t .answer .run) (t .columns) → Honest (onward t ps pes .answer .number)
-unfolding onward
-onward-honest [] pes t z g = not-both _ z
-onward-honest (p ∷ ps) [] t z g = not-both _ z
-onward-honest (p ∷ ps) (pe ∷ pes) t z g =
+addEach-honest : (ps pes : List ℤ) (t : SeasonResult) → t .answer .number ≡ 0 → Good (t .answer .run) (t .columns) → Honest (addEach t ps pes .answer .number)
+unfolding addEach
+addEach-honest [] pes t z g = not-both _ z
+addEach-honest (p ∷ ps) [] t z g = not-both _ z
+addEach-honest (p ∷ ps) (pe ∷ pes) t z g =
     let months = monthsOf ps pes in
-    let u = onward (next t p pe months) ps pes in
+    let u = addEach (next t p pe months) ps pes in
     let k = alone t p pe months .answer .number in
     let a = ask t p pe months in
     ⊎-elim
-    (λ e. subst (λ (w : Left). Honest (w .answer .number)) (sym (on k u (stop t p pe months) e)) (onward-honest ps pes (next t p pe months) refl (good-kept (t .answer .run) a (t .columns) (took (t .answer .run) (t .columns) a e))))
-    (λ h. subst (λ (w : Left). Honest (w .answer .number)) (sym (off k u (stop t p pe months) h)) (never-refused (t .answer .run) a (t .columns) g))
+    (λ e. subst (λ (w : SeasonResult). Honest (w .answer .number)) (sym (on k u (stop t p pe months) e)) (addEach-honest ps pes (next t p pe months) refl (good-kept (t .answer .run) a (t .columns) (took (t .answer .run) (t .columns) a e))))
+    (λ h. subst (λ (w : SeasonResult). Honest (w .answer .number)) (sym (off k u (stop t p pe months) h)) (never-refused (t .answer .run) a (t .columns) g))
     (zero-or k)
 
 season-honest : (r : Run) (ps pes : List ℤ) (cs : Columns) → length ps ≡ length pes → Good r cs → Honest (addSeason r ps pes cs .answer .number)
 unfolding seasonRefusal
 season-honest r ps pes cs e g =
     let z : seasonRefusal r ps pes cs ≡ 0 = rw (eq-eqb (length ps) (length pes) e) (good-passes r cs g) in
-    rw (begins r ps pes cs z) (onward-honest ps pes (first r ps pes cs) refl g)
+    rw (begins r ps pes cs z) (addEach-honest ps pes (first r ps pes cs) refl g)
 
 honest : (constants : List ℤ) (c ss su m : ℤ) (cs : Columns) → startRefusal constants c ss su m ≡ 0 → columnsFit cs ≡ true → (asks : List Ask) (ps pes : List ℤ)
     → length ps ≡ length pes

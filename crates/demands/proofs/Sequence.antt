@@ -9,13 +9,13 @@ use lib.IntN.{ℤ, pos}
 use lib.ListN.{length, getD}
 use lib.Seq.{getD-set-other}
 use Rattle.hindsight.specs.Adding.{addTo}
-use Rattle.hindsight.specs.Adding.{Run as Held}
+use Rattle.hindsight.specs.Adding.{History}
 use Rattle.hindsight.specs.Columns.{rowsOf}
-use Rattle.drought.specs.Asked.{heldBy}
+use Rattle.drought.specs.Calls.{heldBy}
 use Rattle.demands.specs.Months.{Ask, State, after, afterAll, Accepted, Station, stationOf, stationNext, stationRow, rowsOfMonths}
 use Rattle.demands.proofs.Took.{took, months-next, station-next, held-next, x1-next, x2-next, x3-next}
 
-abbrev heldIn : State → Held
+abbrev heldIn : State → History
 heldIn s = heldBy (s .run) (s .columns)
 
 -- after any accepted months the columns hold what adding their rows to what they held gives
@@ -25,7 +25,7 @@ held-all s (a ∷ later) h =
     let t = took (s .run) (s .columns) a (h .0) in
     held-all (after s a) later (h .1)
     ∙ ap (λ (d : Station). addTo (heldIn (after s a)) (rowsOf stationNext stationRow d later)) (station-next (s .run) a (s .columns) t)
-    ∙ ap (λ (e : Held). addTo e (rowsOf stationNext stationRow (stationNext (stationOf (s .run)) a) later)) (held-next (s .run) a (s .columns) t)
+    ∙ ap (λ (e : History). addTo e (rowsOf stationNext stationRow (stationNext (stationOf (s .run)) a) later)) (held-next (s .run) a (s .columns) t)
 
 pub months-all : (s : State) (asks : List Ask) → Accepted s asks → afterAll s asks .run .months ≡ s .run .months + length asks
 months-all s [] h = omega arith

@@ -17,7 +17,7 @@ use Rattle.spells.specs.Spells.{stepOf}
 use Rattle.hindsight.specs.Rule.{Row, forward}
 use Rattle.hindsight.specs.Counts.{NoneFrom, count}
 use Rattle.hindsight.specs.Adding.{addAll, addTo, addMonth, settledCount}
-use Rattle.hindsight.specs.Adding.{Run as Held}
+use Rattle.hindsight.specs.Adding.{History}
 use Rattle.hindsight.specs.Adding.{fresh as nothing-held}
 use Rattle.hindsight.specs.Columns.{rowsOf}
 use Rattle.hindsight.specs.Columns.{stateOf as stateAfter}
@@ -28,7 +28,7 @@ use Rattle.runs.specs.declared.Run.{Run}
 use Rattle.drought.specs.Columns.{Columns, long, columnsFit}
 use Rattle.drought.specs.Refusals.{waterRefusal, zRefusal}
 use Rattle.drought.specs.Figures.{figuresOf, waterFigures}
-use Rattle.drought.specs.Asked.{Result, heldBy, soilAfter, taken, takenWater, takenZ, unless, addOutcomes, addWater, addInches, addZ}
+use Rattle.drought.specs.Calls.{Result, heldBy, soilAfter, taken, takenWater, takenZ, unless, addOutcomes, addWater, addInches, addZ}
 use Rattle.drought.proofs.Readiness.{run-is}
 use Rattle.demands.specs.Months.{Ask, water, inches, anomaly, asked, State, after, afterAll, Accepted, stationOf, watered, zFor, soilFor, waterFor, stationNext, stationRow, rowsOfMonths}
 use Rattle.demands.proofs.Took.{Took, took, settled-is, held-next}
@@ -111,13 +111,13 @@ module _ (constants : List ℤ) (c ss su m : ℤ) (cs : Columns) (started : star
   index-at asks h i l =
       let n = months asks h in
       sym (getD-take (afterAll fresh asks .run .months) (afterAll fresh asks .columns .index) i (pos 0) (omega arith))
-      ∙ ap (λ (u : Held). getD (u .index) i (pos 0)) (held asks h)
+      ∙ ap (λ (u : History). getD (u .index) i (pos 0)) (held asks h)
 
   mark-at : (asks : List Ask) → Accepted fresh asks → (i : ℕ) → i < length asks → getD (afterAll fresh asks .columns .mark) i 0 ≡ getD (addAll (rows asks) .mark) i 0
   mark-at asks h i l =
       let n = months asks h in
       sym (getD-take (afterAll fresh asks .run .months) (afterAll fresh asks .columns .mark) i 0 (omega arith))
-      ∙ ap (λ (u : Held). getD (u .mark) i 0) (held asks h)
+      ∙ ap (λ (u : History). getD (u .mark) i 0) (held asks h)
 
   -- "After each, every settled index equals the choice made knowing all months so far, by a rule that looks forward from that month."
   -- So does every mark, and every open month's index
@@ -146,8 +146,8 @@ module _ (constants : List ℤ) (c ss su m : ℤ) (cs : Columns) (started : star
       let r = rows-append stationNext stationRow (stationOf (freshRun constants c ss su m)) asks more in
       let a : addAll (rows (asks ++ more)) ≡ addTo (addAll (rows asks)) (rowsOf stationNext stationRow (stateAfter stationNext (stationOf (freshRun constants c ss su m)) asks) more) = rw r (add-append nothing-held (rows asks) _) in
       rw (← after-append fresh asks more) (
-        mark-at (asks ++ more) all i j ∙ ap (λ (u : Held). getD (u .mark) i 0) a ∙ f .0,
-        index-at (asks ++ more) all i j ∙ ap (λ (u : Held). getD (u .index) i (pos 0)) a ∙ f .1 ∙ sym (index-at asks h i l),
+        mark-at (asks ++ more) all i j ∙ ap (λ (u : History). getD (u .mark) i 0) a ∙ f .0,
+        index-at (asks ++ more) all i j ∙ ap (λ (u : History). getD (u .index) i (pos 0)) a ∙ f .1 ∙ sym (index-at asks h i l),
       )
 
   -- nor X1, X2, X3 of any earlier month, settled or open
@@ -163,17 +163,17 @@ module _ (constants : List ℤ) (c ss su m : ℤ) (cs : Columns) (started : star
   open-are-last asks h =
       let n = months asks h in
       let u = held asks h in
-      let o : afterAll fresh asks .run .opens ≡ addAll (rows asks) .opens = ap (λ (v : Held). v .opens) u in
+      let o : afterAll fresh asks .run .opens ≡ addAll (rows asks) .opens = ap (λ (v : History). v .opens) u in
       ap (λ (k : ℕ). take k (afterAll fresh asks .columns .mark)) (sym n)
-      ∙ ap (λ (v : Held). v .mark) u
+      ∙ ap (λ (v : History). v .mark) u
       ∙ rw (o, ← rows-long stationNext stationRow (stationOf (freshRun constants c ss su m)) asks) (last-are-open (rows asks))
 
   pub opens-are-counted : (asks : List Ask) → Accepted fresh asks → afterAll fresh asks .run .opens ≡ count 1 (take (length asks) (afterAll fresh asks .columns .mark))
   opens-are-counted asks h =
       let u = held asks h in
-      ap (λ (v : Held). v .opens) u
+      ap (λ (v : History). v .opens) u
       ∙ opens-counts (rows asks)
-      ∙ sym (ap (λ (v : Held). count 1 (v .mark)) u)
+      ∙ sym (ap (λ (v : History). count 1 (v .mark)) u)
       ∙ ap (λ (k : ℕ). count 1 (take k (afterAll fresh asks .columns .mark))) (months asks h)
 
   -- an add's settled count is the number of marks that it writes as 2
@@ -185,8 +185,8 @@ module _ (constants : List ℤ) (c ss su m : ℤ) (cs : Columns) (started : star
       let t = took (s .run) (s .columns) a e in
       let row = stationRow (stationOf (s .run)) a in
       let u = held asks h in
-      ap (λ (v : Held). count 2 (v .mark)) (held-next (s .run) a (s .columns) t)
-      ∙ ap (λ (v : Held). count 2 (addMonth v row .mark)) u
+      ap (λ (v : History). count 2 (v .mark)) (held-next (s .run) a (s .columns) t)
+      ∙ ap (λ (v : History). count 2 (addMonth v row .mark)) u
       ∙ answers-settled (rows asks) row
-      ∙ sym (ap (λ (v : Held). count 2 (v .mark) + settledCount v row) u)
+      ∙ sym (ap (λ (v : History). count 2 (v .mark) + settledCount v row) u)
       ∙ ap (λ (k : ℕ). count 2 (heldBy (s .run) (s .columns) .mark) + k) (sym (settled-is (s .run) a (s .columns) t))

@@ -10,7 +10,7 @@ use lib.ListN.{length, take, length-map}
 use borrow.Author.Tests.{lt-ltb}
 use Rattle.hindsight.specs.Rule.{Row}
 use Rattle.hindsight.specs.Adding.{addAll}
-use Rattle.hindsight.specs.Adding.{Run as Held}
+use Rattle.hindsight.specs.Adding.{History}
 use Rattle.hindsight.specs.Columns.{rowsOf}
 use Rattle.hindsight.specs.Months.{nextValues, rowOfZ, rowsOfZ}
 use Rattle.hindsight.proofs.Adding.{series-is-adding}
@@ -23,7 +23,7 @@ use Rattle.series.specs.Series.{allZFit, seriesRefusal, filled, filledWith, who
 use Rattle.drought.specs.Columns.{Columns, long, columnsFit}
 use Rattle.drought.specs.Ready.{Good}
 use Rattle.drought.specs.Refusals.{runRefusal, roomRefusal, zRefusal}
-use Rattle.drought.specs.Asked.{Result, heldBy}
+use Rattle.drought.specs.Calls.{Result, heldBy}
 use Rattle.demands.specs.Months.{Ask, anomaly, asked, State, after, afterAll, Accepted, Station, stationOf, stationNext, stationRow}
 use Rattle.drought.proofs.Keeps.{long-kept}
 use Rattle.demands.proofs.Took.{Took, took, good-kept, months-next}
@@ -71,7 +71,7 @@ module _ (constants : List ℤ) (c ss su m : ℤ) (cs : Columns) (started : star
       let u : heldBy (s .run) (s .columns) ≡ addAll (rowsOfZ zs) = held-all begun (map anomaly zs) h ∙ ap addAll (rows-same (stationOf (freshRun constants c ss su m)) zs) in
       let a = series-is-adding (rowsOfZ zs) in
       ap (λ (k : ℕ). filledWith k (rowsOfZ zs) index mark) none
-      ∙ ap₂ (λ (i : List ℤ) (k : List ℕ). filled 0 i k) (a .0 ∙ sym (ap (λ (v : Held). v .index) u)) (a .1 ∙ sym (ap (λ (v : Held). v .mark) u))
+      ∙ ap₂ (λ (i : List ℤ) (k : List ℕ). filled 0 i k) (a .0 ∙ sym (ap (λ (v : History). v .index) u)) (a .1 ∙ sym (ap (λ (v : History). v .mark) u))
       ∙ ap (λ (k : ℕ). filled 0 (take k (s .columns .index)) (take k (s .columns .mark))) n
     where
       zero-more : (k : ℕ) → 0 + k ≡ k

@@ -21,7 +21,7 @@ use Rattle.runs.specs.declared.Run.{Run}
 use Rattle.drought.specs.Columns.{Columns, long, columnsFit}
 use Rattle.drought.specs.Ready.{Good}
 use Rattle.drought.specs.Refusals.{zRefusal}
-use Rattle.drought.specs.Asked.{Result, heldBy, taken, takenZ, takenWater, waterOf, addOutcomes, addWater, addInches, addZ}
+use Rattle.drought.specs.Calls.{Result, heldBy, taken, takenZ, takenWater, waterOf, addOutcomes, addWater, addInches, addZ}
 use Rattle.drought.proofs.Refused.{z-passes}
 use Rattle.drought.proofs.Readiness.{run-is, lengths-are}
 use Rattle.drought.proofs.Taken.{row-is}

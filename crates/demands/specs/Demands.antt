@@ -23,7 +23,7 @@ use Rattle.series.specs.Series.{allZFit, seriesRefusal, filled, wholeSeries}
 use Rattle.drought.specs.Columns.{Columns, long, columnsFit}
 use Rattle.drought.specs.Refusals.{waterRefusal, zRefusal}
 use Rattle.drought.specs.Figures.{figuresOf, noFigures}
-use Rattle.drought.specs.Asked.{Result, heldBy}
+use Rattle.drought.specs.Calls.{Result, heldBy}
 use Rattle.demands.specs.Months.{Ask, water, inches, anomaly, asked, State, after, afterAll, Accepted, stationOf, zFor, waterFor, rowsOfMonths}
 
 -- ---- 1. "Every reading, constant, month and list gets its answer or a numbered refusal. Nobody has to check beforehand. A refused call

@@ -19,7 +19,7 @@ use Rattle.runs.specs.Ranges.{constantsAt, nextCalendar}
 use Rattle.runs.specs.declared.Run.{Run}
 use Rattle.drought.specs.Columns.{Columns}
 use Rattle.drought.specs.Figures.{waterFigures, noWater}
-use Rattle.drought.specs.Asked.{Result, soilAfter, addWater, addInches, addZ}
+use Rattle.drought.specs.Calls.{Result, soilAfter, addWater, addInches, addZ}
 use Rattle.drought.specs.declared.WaterFigures.{WaterFigures}
 
 -- a month that is added: water by two readings, water by two binary32 inches, or a Z

@@ -12,7 +12,7 @@ use Rattle.runs.specs.declared.Run.{Run}
 use Rattle.drought.specs.Columns.{Columns, columnsFit}
 use Rattle.drought.specs.Figures.{noFigures}
 use Rattle.drought.specs.declared.Figures.{Figures}
-use Rattle.season.specs.Season.{Left, left, listed, nothing, seasonRefusal, addSeason}
+use Rattle.season.specs.Season.{SeasonResult, seasonResult, listed, nothing, seasonRefusal, addSeason}
 use Rattle.demands.specs.Months.{Ask, water, asked, State, after, afterAll, Accepted}
 use Rattle.demands.specs.Demands.{Honest, begun}
 
@@ -33,11 +33,11 @@ lastOf f s [] = f
 lastOf f s (a ∷ later) = lastOf (asked (s .run) a (s .columns) .answer .figures) (after s a) later
 
 -- where a season stands when its call returns
-abbrev pub leftOf : Left → State
+abbrev pub leftOf : SeasonResult → State
 leftOf t = record { run = t .answer .run; columns = t .columns }
 
 -- what the months before the refused one leave, added one by one
-pub record Singly (s : State) (months : List Ask) (t : Left) : Type 0 where
+pub record Singly (s : State) (months : List Ask) (t : SeasonResult) : Type 0 where
   -- so many were added, and no single add refuses one of them
   pub added : t .answer .added ≤ length months
   pub accepted : Accepted s (take (t .answer .added) months)
@@ -62,11 +62,11 @@ pub record SameFrom (n : ℕ) (cs ds : Columns) : Type 0 where
 
 pub record Seasons : Type 0 where
   -- 1 and 7, before the first month: nothing is added
-  pub refused : (r : Run) (ps pes : List ℤ) (cs : Columns) → (seasonRefusal r ps pes cs ≡ 0 → ⊥) → addSeason r ps pes cs ≡ left (nothing (seasonRefusal r ps pes cs) r) cs
+  pub refused : (r : Run) (ps pes : List ℤ) (cs : Columns) → (seasonRefusal r ps pes cs ≡ 0 → ⊥) → addSeason r ps pes cs ≡ seasonResult (nothing (seasonRefusal r ps pes cs) r) cs
   -- otherwise it is what the single adds make of it
   pub singly : (r : Run) (ps pes : List ℤ) (cs : Columns) → seasonRefusal r ps pes cs ≡ 0 → Singly (record { run = r; columns = cs }) (monthsOf ps pes) (addSeason r ps pes cs)
   -- "Empty lists add nothing."
-  pub empty : (r : Run) (cs : Columns) → addSeason r [] [] cs ≡ left (nothing (seasonRefusal r [] [] cs) r) cs
+  pub empty : (r : Run) (cs : Columns) → addSeason r [] [] cs ≡ seasonResult (nothing (seasonRefusal r [] [] cs) r) cs
   -- demand 1's "writes nothing": no place of the refused month or of those after it is written, nor any beyond the last month added
   pub beyond : (r : Run) (ps pes : List ℤ) (cs : Columns) → SameFrom (r .months + addSeason r ps pes cs .answer .added) cs (addSeason r ps pes cs .columns)
   -- demand 3 and the rest of 1 and 2 as they stand: after any accepted months a season leaves what more accepted months leave

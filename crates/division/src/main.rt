@@ -1,8 +1,8 @@
 // The program: a division file from standard input, and for the state and the division that its two arguments name a
 // row a year, as year, twelve amounts in thousandths of an inch or a dash, months present. Where the reading stops,
-// only which line was refused and why. `century` reads, `layout` judges a line, `rows` lays out; here bytes are only
+// only which line was refused and why. `division_input` reads, `layout` judges a line, `rows` lays out; here bytes are only
 // moved, and a refusal is put in words.
-use century::Session;
+use division_input::Session;
 use layout::Digits;
 use libc::STDERR_FILENO;
 use libc::STDIN_FILENO;
@@ -10,9 +10,9 @@ use libc::STDOUT_FILENO;
 ghost use Prim.Native.Nat.{_≤_, _<_};
 ghost use mathlib.Core.Path.{_≡_};
 ghost use lib.ListN.{length};
-ghost use Rattle.century.specs.Century.{Held};
+ghost use Rattle.division_input.specs.Input.{Held};
 
-// What `century` asks to be lent: a line's first bytes, and the rows of the years 0 to 9999.
+// What `division_input` asks to be lent: a line's first bytes, and the rows of the years 0 to 9999.
 const KEPT: usize = 95;
 
 const ROOM: usize = 1_540_000;
@@ -35,7 +35,7 @@ const AFTER_VALUES: u32 = 95;
 const BYTE_ORDER_MARK: u8 = 0xEF;
 
 // The refusals.
-const ANOTHER: u8 = 15;
+const OTHER_LINE: u8 = 15;
 
 const NOT_THE_YEAR: u8 = 16;
 
@@ -69,7 +69,7 @@ fn read_some(
             session,
         };
     }
-    let next = century::take(session, &buffer[..n], line, out);
+    let next = division_input::take(session, &buffer[..n], line, out);
     Heard {
         left: if next.refused == 0 { left - 1 } else { 0 },
         failed: false,
@@ -202,7 +202,7 @@ fn explain(s: Session, line: &[u8])
 {
     let kept = s.kept;
     let number = s.refused;
-    if number == ANOTHER {
+    if number == OTHER_LINE {
         explain_none(s.lines, s.state, s.division);
         return;
     }
@@ -237,7 +237,7 @@ fn run_with(session: Session, buffer: &mut [u8], line: &mut [u8], out: &mut [u8]
         return;
     }
     let read = heard.session;
-    let s = century::finish(read, line, out);
+    let s = division_input::finish(read, line, out);
     let number = s.refused;
     if number != 0 {
         print_refusal(s.lines, number);
@@ -252,7 +252,7 @@ fn run_with(session: Session, buffer: &mut [u8], line: &mut [u8], out: &mut [u8]
 fn argument(i: usize) -> Digits {
     let mut text = [0u8; 8];
     let n = os::arg(i, &mut text);
-    century::named(&text[..n])
+    division_input::named(&text[..n])
 }
 
 fn usage() {
@@ -272,7 +272,7 @@ fn run(state: u32, division: u32) {
     let mut line = [0u8; KEPT];
     let mut out = make_room();
     run_with(
-        century::begin(state, division),
+        division_input::begin(state, division),
         &mut buffer,
         &mut line,
         &mut out,

@@ -15,7 +15,7 @@ use Rattle.runs.specs.declared.Run.{Run}
 use Rattle.drought.specs.Columns.{Columns, long, columnsFit}
 use Rattle.drought.specs.Ready.{Good}
 use Rattle.drought.specs.Refusals.{runRefusal, waterRefusal}
-use Rattle.drought.specs.Asked.{Result, taken, takenWater, soilAfter, waterOf, unless, addOutcomes}
+use Rattle.drought.specs.Calls.{Result, taken, takenWater, soilAfter, waterOf, unless, addOutcomes}
 use Rattle.drought.specs.declared.WaterFigures.{WaterFigures}
 use Rattle.drought.proofs.Refused.{water-passes}
 use Rattle.drought.proofs.Readiness.{run-is}

@@ -19,7 +19,7 @@ use Rattle.spells.specs.declared.Decision.the-variants.{Nothing, Decides}
 use Rattle.spells.proofs.Theorems.{values-kept}
 use Rattle.hindsight.specs.Rule.{X, Row}
 use Rattle.hindsight.specs.Adding.{settledAll, addAs, addMonth}
-use Rattle.hindsight.specs.Adding.{Run as Held}
+use Rattle.hindsight.specs.Adding.{History}
 use Rattle.hindsight.specs.Months.{rowFor}
 use Rattle.hindsight.specs.Columns.{xAt}
 use Rattle.hindsight.proofs.Adding.{length-xs}
@@ -30,7 +30,7 @@ use Rattle.runs.specs.declared.Run.{Run}
 use Rattle.runs.proofs.RunLaws.{fits-run, calendar-next, constants-at-fit}
 use Rattle.runs.proofs.RangeLaws.{calendar-is}
 use Rattle.drought.specs.Columns.{Columns, long, columnsFit}
-use Rattle.drought.specs.Asked.{heldBy, runAfter, taken}
+use Rattle.drought.specs.Calls.{heldBy, runAfter, taken}
 use Rattle.drought.specs.declared.WaterFigures.{WaterFigures}
 use Rattle.drought.proofs.Taken.{opens-most}
 use Rattle.drought.proofs.Readiness.{lengths-are, run-is}
@@ -40,7 +40,7 @@ settled-long : (w : With) (l : List X) → length (settledAll w l) ≡ length l
 settled-long w [] = refl
 settled-long w (m ∷ l) = ap suc (settled-long w l)
 
-module _ (run : Held) (r : Row) (n : ℕ) (past : length (run .past) ≡ n) (opens : run .opens ≤ n) where
+module _ (run : History) (r : Row) (n : ℕ) (past : length (run .past) ≡ n) (opens : run .opens ≤ n) where
   index-long : (d : Decision) → length (run .index) ≡ n → length (addAs d run r .index) ≡ suc n
   index-long Nothing i = omega (arith, length-append (run .index) (r .shown ∷ []))
   index-long (Decides w) i =

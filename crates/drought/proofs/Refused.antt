@@ -11,7 +11,7 @@ use Rattle.runs.specs.Runs.{isRun, zFits}
 use Rattle.runs.specs.declared.Run.{Run}
 use Rattle.drought.specs.Columns.{Columns}
 use Rattle.drought.specs.Refusals.{orElse, badLists, notARun, noSuchRow, badZ, runRefusal, roomRefusal, waterRefusal, zRefusal, rowRefusal}
-use Rattle.drought.specs.Asked.{Result, result, refusal, unless}
+use Rattle.drought.specs.Calls.{Result, result, refusal, unless}
 use Rattle.drought.specs.declared.Added.{Added}
 
 -- ---- two tests in a row

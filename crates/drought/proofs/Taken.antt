@@ -14,7 +14,7 @@ use Rattle.spells.specs.declared.Running.{Running}
 use Rattle.spells.specs.declared.SpellMonth.{SpellMonth}
 use Rattle.hindsight.specs.Rule.{Row}
 use Rattle.hindsight.specs.Adding.{addAs, addMonth, settledAs, settledCount}
-use Rattle.hindsight.specs.Adding.{Run as Held}
+use Rattle.hindsight.specs.Adding.{History}
 use Rattle.hindsight.specs.Columns.{rowOf, Adds}
 use Rattle.spells.specs.Decisions.{decisionNumber}
 use Rattle.hindsight.specs.Months.{rowFor}
@@ -23,7 +23,7 @@ use Rattle.runs.specs.Ranges.{nextCalendar}
 use Rattle.runs.specs.declared.Run.{Run}
 use Rattle.drought.specs.Columns.{Columns, columns}
 use Rattle.drought.specs.Figures.{figuresOf}
-use Rattle.drought.specs.Asked.{result, heldIn, taken}
+use Rattle.drought.specs.Calls.{result, heldIn, taken}
 use Rattle.drought.specs.Spelled.{Spells}
 use Rattle.drought.specs.declared.Spelled.{Spelled}
 use Rattle.drought.specs.declared.WaterFigures.{WaterFigures}
@@ -34,17 +34,17 @@ pub row-is : (s : SpellMonth) (by : ℕ) → by ≡ decisionNumber (s .decision)
 row-is s by e = rw (e, number-is (s .decision))
 
 -- what an add settles and what it leaves open are together at most one more than were open
-counts-as : (d : Decision) (run : Held) (r : Row) → settledAs d (run .opens) + addAs d run r .opens ≤ suc (run .opens)
+counts-as : (d : Decision) (run : History) (r : Row) → settledAs d (run .opens) + addAs d run r .opens ≤ suc (run .opens)
 counts-as Nothing run r = omega arith
 counts-as (Decides w) run r = omega arith
 
-pub counts-most : (run : Held) (r : Row) → settledCount run r + addMonth run r .opens ≤ suc (run .opens)
+pub counts-most : (run : History) (r : Row) → settledCount run r + addMonth run r .opens ≤ suc (run .opens)
 counts-most run r = counts-as (r .decision) run r
 
-pub opens-most : (run : Held) (r : Row) → addMonth run r .opens ≤ suc (run .opens)
+pub opens-most : (run : History) (r : Row) → addMonth run r .opens ≤ suc (run .opens)
 opens-most run r = omega (arith, counts-most run r)
 
-pub settled-most : (run : Held) (r : Row) → settledCount run r ≤ suc (run .opens)
+pub settled-most : (run : History) (r : Row) → settledCount run r ≤ suc (run .opens)
 settled-most run r = omega (arith, counts-most run r)
 
 module _ (months opens : ℕ) (cs : Columns) (s : SpellMonth) (by : ℕ) where

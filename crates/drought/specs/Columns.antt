@@ -1,5 +1,5 @@
 -- Document 01: "Five lent columns hold X1, X2, X3, index and mark (1 open, 2 settled)." A further lent column is one field more here, one
--- test in `columnsFit` and one line where a month is written (Asked.antt). Assumes nothing.
+-- test in `columnsFit` and one line where a month is written (Calls.antt). Assumes nothing.
 use Prim.Native.Nat.{ℕ}
 use mathlib.Core.Bool.{Bool, _&&_}
 use mathlib.Core.List.{List}

@@ -3,6 +3,6 @@ pub mod Columns
 pub mod Refusals
 pub mod Figures
 pub mod Ready
-pub mod Asked
+pub mod Calls
 pub mod Spelled
-pub mod Standing
+pub mod Progress

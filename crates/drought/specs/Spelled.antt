@@ -1,4 +1,4 @@
--- What a month of spells leaves, beside the run's storages, calendar and constants: the parts of `taken` (Asked.antt) that `add_spells`
+-- What a month of spells leaves, beside the run's storages, calendar and constants: the parts of `taken` (Calls.antt) that `add_spells`
 -- works out and `add_month` puts together. Assumes nothing.
 use mathlib.Core.Path.{_≡_}
 use Prim.Native.Nat.{ℕ}
@@ -9,7 +9,7 @@ use Rattle.hindsight.specs.Adding.{addMonth, settledCount}
 use Rattle.hindsight.specs.Months.{rowFor}
 use Rattle.drought.specs.Columns.{Columns}
 use Rattle.drought.specs.Figures.{figuresOf}
-use Rattle.drought.specs.Asked.{heldIn, written}
+use Rattle.drought.specs.Calls.{heldIn, written}
 use Rattle.drought.specs.declared.WaterFigures.{WaterFigures}
 use Rattle.drought.specs.declared.Spelled.{Spelled}
 

@@ -1,7 +1,7 @@
 // The drought index: all that can be asked of it, and nothing else.
 //
 // Every call has its promise: its answer, the run that it hands back and the whole content of every lent list
-// equal a definition of what was handed in (specs/Asked.antt), for every input, refused or not. No call has a
+// equal a definition of what was handed in (specs/Calls.antt), for every input, refused or not. No call has a
 // `requires`. The functions below the calls may have one, and are called only after the refusals; those that
 // are `pub` are so for the crate `season` alone.
 use door::Answer;
@@ -26,8 +26,8 @@ ghost use Rattle.drought.specs.Refusals.{runRefusal, roomRefusal, waterR
 ghost use Rattle.drought.specs.Figures.{waterFigures, noWater, figuresOf};
 ghost use Rattle.drought.specs.Ready.{Ready, Watered};
 ghost use Rattle.drought.specs.Spelled.{Spells};
-ghost use Rattle.drought.specs.Standing.{standingOf, runOf, addedOf, Takes};
-ghost use Rattle.drought.specs.Asked.{result, refusal, takenWater, addOutcomes, addWater, addInches, addZ, rowOfRun};
+ghost use Rattle.drought.specs.Progress.{progressOf, runOf, addedOf, Takes};
+ghost use Rattle.drought.specs.Calls.{result, refusal, takenWater, addOutcomes, addWater, addInches, addZ, rowOfRun};
 
 // Refusals.
 const BAD_LISTS: u8 = 1;
@@ -79,7 +79,7 @@ pub struct Added {
 }
 
 // A run without its constants: what a month changes of it. For `season` too.
-pub struct Standing {
+pub struct Progress {
     pub months: u32,
     pub opens: u32,
     pub calendar: u32,
@@ -88,10 +88,10 @@ pub struct Standing {
 }
 
 // What an added month leaves beside the columns, without the run's constants. For `season` too.
-pub struct Moved {
+pub struct MonthAdded {
     pub settled: u32,
     pub figures: Figures,
-    pub standing: Standing,
+    pub progress: Progress,
 }
 
 // What the five columns hold of a month.
@@ -177,7 +177,7 @@ pub fn add_z(
     }
     let soil = run.soil;
     let water = no_water();
-    let at = standing_of(run);
+    let at = progress_of(run);
     let t = add_month(at, soil, water, z, x1, x2, x3, index, mark);
     added_of(t, run)
 }
@@ -426,12 +426,12 @@ fn add_spells(
 }
 
 // A run without its constants. For `season` too.
-pub fn standing_of(run: Run) -> Standing
-    ensures { λ s. ⌜ s ≡ standingOf run ⌝ }
+pub fn progress_of(run: Run) -> Progress
+    ensures { λ s. ⌜ s ≡ progressOf run ⌝ }
 {
     let soil = run.soil;
     let values = run.values;
-    Standing {
+    Progress {
         months: run.months,
         opens: run.opens,
         calendar: run.calendar,
@@ -441,7 +441,7 @@ pub fn standing_of(run: Run) -> Standing
 }
 
 // The run that stands so, with the constants of the run given. For `season` too.
-pub fn run_of(s: Standing, run: Run) -> Run
+pub fn run_of(s: Progress, run: Run) -> Run
     ensures { λ r. ⌜ r ≡ runOf s (run .constants) ⌝ }
 {
     let soil = s.soil;
@@ -458,12 +458,12 @@ pub fn run_of(s: Standing, run: Run) -> Run
 }
 
 // A month added to the run given.
-fn added_of(t: Moved, run: Run) -> Added
+fn added_of(t: MonthAdded, run: Run) -> Added
     ensures { λ a. ⌜ a ≡ addedOf t (run .constants) ⌝ }
 {
     let figures = t.figures;
-    let standing = t.standing;
-    let next = run_of(standing, run);
+    let progress = t.progress;
+    let next = run_of(progress, run);
     Added {
         number: 0,
         settled: t.settled,
@@ -474,7 +474,7 @@ fn added_of(t: Moved, run: Run) -> Added
 
 // A month of spells, and the run with it added, whatever its constants.
 fn add_month(
-    at: Standing,
+    at: Progress,
     soil: Soil,
     water: WaterFigures,
     z: i32,
@@ -483,7 +483,7 @@ fn add_month(
     x3: &mut [i32],
     index: &mut [i32],
     mark: &mut [u8],
-) -> Moved
+) -> MonthAdded
     requires { ⌜ Ready (at .months) (at .opens) (at .values) (columns (now x1) (now x2) (now x3) (now index) (now mark)) ⌝ }
     requires { ⌜ natAbs z ≤ mostZ ⌝ }
     ensures { λ t. ⌜ Takes at soil water z (columns (now (x1 .entry)) (now (x2 .entry)) (now (x3 .entry)) (now (index .entry)) (now (mark .entry))) t (columns (now (x1 .exit)) (now (x2 .exit)) (now (x3 .exit)) (now (index .exit)) (now (mark .exit))) ⌝ }
@@ -503,24 +503,24 @@ fn add_month(
     );
     let figures = s.figures;
     let moved = s.values;
-    let standing = Standing {
+    let progress = Progress {
         months: at.months + 1,
         opens: s.opens,
         calendar: runs::next_calendar(at.calendar),
         soil,
         values: moved,
     };
-    Moved {
+    MonthAdded {
         settled: s.settled,
         figures,
-        standing,
+        progress,
     }
 }
 
 // The balance of the run's month with precipitation p and PE pe, and the month added. For `season` too,
 // which has asked for every refusal before.
 pub fn add_measured(
-    at: Standing,
+    at: Progress,
     constants: &[i32; 60],
     p: u32,
     pe: u32,
@@ -529,7 +529,7 @@ pub fn add_measured(
     x3: &mut [i32],
     index: &mut [i32],
     mark: &mut [u8],
-) -> Moved
+) -> MonthAdded
     requires { ⌜ Ready (at .months) (at .opens) (at .values) (columns (now x1) (now x2) (now x3) (now index) (now mark)) ⌝ }
     requires { ⌜ Watered (runOf at (now constants)) ⌝ }
     requires { ⌜ (p ≤ mostReading) × (pe ≤ mostReading) ⌝ }
@@ -587,7 +587,7 @@ fn add_answers(
     }
     let measured = door::water(p);
     let potential = door::water(pe);
-    let at = standing_of(run);
+    let at = progress_of(run);
     let t = add_measured(
         at,
         &run.constants,

@@ -11,7 +11,7 @@ use Rattle.spells.specs.declared.With.{With}
 use Rattle.spells.specs.declared.Decision.{Decision}
 use Rattle.spells.specs.declared.Decision.the-variants.{Nothing, Decides}
 use Rattle.hindsight.specs.Rule.{X, Row, forwardIndexes, forwardMarks}
-use Rattle.hindsight.specs.Adding.{Run, fresh, addAll, settledAll, kept, addAs, addMonth, settledCount, settledAs}
+use Rattle.hindsight.specs.Adding.{History, fresh, addAll, settledAll, kept, addAs, addMonth, settledCount, settledAs}
 use Rattle.hindsight.specs.Columns.{xAt, xsFrom, withOf, decisionOf, runFrom, rowOf, Adds}
 use Rattle.hindsight.proofs.Scan.{decision-zero, decision-some, xs-long}
 use Rattle.hindsight.proofs.Hindsight.{inv, index-columns, mark-columns, add-append}
@@ -101,7 +101,7 @@ module _ (x1 x2 x3 index : List ℤ) (mark : List ℕ) (n opens : ℕ) (a b c : 
       })
 
 -- So the run that the columns hold afterwards is `addMonth` of the one that they held: whatever is proved of `addAll` is proved of what `add` leaves, month after month
-past-of : (d : Decision) (run : Run) (r : Row) → addAs d run r .past ≡ run .past ++ (r .x ∷ [])
+past-of : (d : Decision) (run : History) (r : Row) → addAs d run r .past ≡ run .past ++ (r .x ∷ [])
 past-of Nothing run r = refl
 past-of (Decides w) run r = refl
 
@@ -118,7 +118,7 @@ pub adds-run : (x1 x2 x3 index₀ : List ℤ) (mark₀ : List ℕ) (n opens : �
 adds-run x1 x2 x3 index₀ mark₀ n opens a b c by shown index mark o settled h1 h2 h3 hi hm ki km g =
     λ i. record { past = p i; index = q i; mark = m i; opens = g .opens-is i }
   where
-    run : Run
+    run : History
     run = runFrom x1 x2 x3 index₀ mark₀ n opens
 
     new : xAt (set x1 n a) (set x2 n b) (set x3 n c) (0 + n) ≡ record { x1 = a; x2 = b; x3 = c }
@@ -139,8 +139,8 @@ adds-run x1 x2 x3 index₀ mark₀ n opens a b c by shown index mark o settled h
     m = front mark mark₀ (addMonth run (rowOf a b c by shown) .mark) n hm km (g .mark-is)
 
 -- one add more, from a fresh run on
-pub adds-all : (rows : List Row) (r : Row) (run run' : Run) → run ≡ addAll rows → run' ≡ addMonth run r → run' ≡ addAll (rows ++ (r ∷ []))
-adds-all rows r run run' e f = f ∙ ap (λ (u : Run). addMonth u r) e ∙ sym (add-append fresh rows (r ∷ []))
+pub adds-all : (rows : List Row) (r : Row) (run run' : History) → run ≡ addAll rows → run' ≡ addMonth run r → run' ≡ addAll (rows ++ (r ∷ []))
+adds-all rows r run run' e f = f ∙ ap (λ (u : History). addMonth u r) e ∙ sym (add-append fresh rows (r ∷ []))
 
 -- and the whole series fills what adding singly to a fresh run would
 pub series-is-adding : (rows : List Row) → (forwardIndexes rows ≡ addAll rows .index) × (forwardMarks rows ≡ addAll rows .mark)

@@ -16,7 +16,7 @@ use Rattle.spells.specs.declared.Decision.{Decision}
 use Rattle.spells.specs.declared.Decision.the-variants.{Nothing, Decides}
 use Rattle.hindsight.specs.Rule.{X, Row, Deciding, nobody, after, oneEarlier, decidingFor, deciding, Shown, shownBy, settledIndex, forwardOf, forward, forwardAll, indexOf, markOf, forwardIndexes, forwardMarks}
 use Rattle.hindsight.specs.Counts.{NoneFrom, one-if, count}
-use Rattle.hindsight.specs.Adding.{Run, fresh, settledAll, kept, addAs, addMonth, settledCount, settledAs, addTo, addAll}
+use Rattle.hindsight.specs.Adding.{History, fresh, settledAll, kept, addAs, addMonth, settledCount, settledAs, addTo, addAll}
 
 abbrev pub xOf : Row → X
 xOf r = r .x
@@ -34,7 +34,7 @@ abbrev pub Closed : List Row → Type 0
 Closed s = (rest : List Row) → forwardAll (s ++ rest) ≡ forwardAll s ++ forwardAll rest
 
 -- the run whose settled months are s and whose open months are t
-abbrev pub runOf : List Row → List Row → Run
+abbrev pub runOf : List Row → List Row → History
 runOf s t =
     record {
       past = map xOf s ++ map xOf t;
@@ -157,7 +157,7 @@ module _ (s t : List Row) (r : Row) (w : With) (c : Closed s) (h : Wait t) (e : 
   twos-more p = rw (c (t ++ (r ∷ [])), forward-settles t r w [] h e) (simp (map-append, shows-marks, replicate-append, length-map, p))
 
 -- THE INVARIANT of adding one by one
-pub record Inv (rows : List Row) (run : Run) : Type 0 where
+pub record Inv (rows : List Row) (run : History) : Type 0 where
   pub s : List Row
   pub t : List Row
   pub split : rows ≡ s ++ t
@@ -169,7 +169,7 @@ pub record Inv (rows : List Row) (run : Run) : Type 0 where
 inv-fresh : Inv [] fresh
 inv-fresh = record { s = []; t = []; split = refl; closed = closed-nil; wait = tt; twos = refl; is = refl }
 
-inv-add : (rows : List Row) (run : Run) (r : Row) → Inv rows run → Inv (rows ++ (r ∷ [])) (addMonth run r)
+inv-add : (rows : List Row) (run : History) (r : Row) → Inv rows run → Inv (rows ++ (r ∷ [])) (addMonth run r)
 inv-add rows run r v = go (r .decision) refl
   where
     go : (d : Decision) → r .decision ≡ d → Inv (rows ++ (r ∷ [])) (addAs d run r)
@@ -181,7 +181,7 @@ inv-add rows run r v = go (r .decision) refl
           closed = v .closed;
           wait = wait-more (v .t) r (v .wait) e;
           twos = v .twos;
-          is = ap (λ (u : Run). addAs Nothing u r) (v .is) ∙ add-waits (v .s) (v .t) r;
+          is = ap (λ (u : History). addAs Nothing u r) (v .is) ∙ add-waits (v .s) (v .t) r;
         }
     go (Decides w) e =
         record {
@@ -191,10 +191,10 @@ inv-add rows run r v = go (r .decision) refl
           closed = closed-more (v .s) (v .t) r w (v .closed) (v .wait) e;
           wait = tt;
           twos = twos-more (v .s) (v .t) r w (v .closed) (v .wait) e (v .twos);
-          is = ap (λ (u : Run). addAs (Decides w) u r) (v .is) ∙ add-Decides (v .s) (v .t) r w (v .closed) (v .wait) e;
+          is = ap (λ (u : History). addAs (Decides w) u r) (v .is) ∙ add-Decides (v .s) (v .t) r w (v .closed) (v .wait) e;
         }
 
-inv-all : (rows : List Row) (run : Run) (more : List Row) → Inv rows run → Inv (rows ++ more) (addTo run more)
+inv-all : (rows : List Row) (run : History) (more : List Row) → Inv rows run → Inv (rows ++ more) (addTo run more)
 inv-all rows run [] v = rw append-nil v
 inv-all rows run (r ∷ more) v =
     rw append-assoc at (inv-all (rows ++ (r ∷ [])) (addMonth run r) more (inv-add rows run r v))
@@ -218,10 +218,10 @@ ones : (t : List Row) → Wait t → map markOf (forwardAll t) ≡ replicate (le
 ones [] h = refl
 ones (m ∷ t) h = rw (waits-nobody (m ∷ t) h, ones t (h .1))
 
-pub index-columns : (rows : List Row) (run : Run) → Inv rows run → run .index ≡ map indexOf (forwardAll rows)
+pub index-columns : (rows : List Row) (run : History) → Inv rows run → run .index ≡ map indexOf (forwardAll rows)
 index-columns rows run v = rw (v .is, v .split, v .closed (v .t)) (simp (map-append, forward-waits (v .t) (v .wait)))
 
-pub mark-columns : (rows : List Row) (run : Run) → Inv rows run → run .mark ≡ map markOf (forwardAll rows)
+pub mark-columns : (rows : List Row) (run : History) → Inv rows run → run .mark ≡ map markOf (forwardAll rows)
 mark-columns rows run v = rw (v .is, v .split, v .closed (v .t)) (simp (map-append, v .twos, ones (v .t) (v .wait)))
 
 -- THEOREM 1: after any list of months added one by one to a fresh run, the index and the mark at every place are the forward rule's
@@ -236,7 +236,7 @@ every-mark rows i =
     (getD-map markOf (forwardAll rows) i (record { mark = 0; index = pos 0 }))
 
 -- the columns are as long as the months
-length-columns : (rows : List Row) (run : Run) → Inv rows run → (length (run .index) ≡ length rows) × (length (run .mark) ≡ length rows)
+length-columns : (rows : List Row) (run : History) → Inv rows run → (length (run .index) ≡ length rows) × (length (run .mark) ≡ length rows)
 length-columns rows run v =
     (rw (index-columns rows run v) (simp (length-map, length-forwardAll)), rw (mark-columns rows run v) (simp (length-map, length-forwardAll)))
 
@@ -330,7 +330,7 @@ forward-stays [] more i e = absurd (omega arith)
 forward-stays (m ∷ rows) more zero e = ap (shownBy (m .shown)) (found-stays (m ∷ rows) more (two-found (m .shown) (deciding (m ∷ rows)) e))
 forward-stays (m ∷ rows) more (suc i) e = forward-stays rows more i e
 
-pub add-append : (run : Run) (rows more : List Row) → addTo run (rows ++ more) ≡ addTo (addTo run rows) more
+pub add-append : (run : History) (rows more : List Row) → addTo run (rows ++ more) ≡ addTo (addTo run rows) more
 add-append run [] more = refl
 add-append run (r ∷ rows) more = add-append (addMonth run r) rows more
 
@@ -344,7 +344,7 @@ settled-stays rows more i e =
     )
 
 -- THEOREM 4: the marks are 2 up to the last `opens` months, which are 1. So the open count is the number of open marks, and these are the last ones
-last-marks : (rows : List Row) (run : Run) → Inv rows run
+last-marks : (rows : List Row) (run : History) → Inv rows run
     → (run .mark ≡ replicate (length rows - run .opens) 2 ++ replicate (run .opens) 1) × (run .opens ≤ length rows)
 last-marks rows run v = rw (v .is, v .split, length-append (v .s) (v .t)) (rw (long (length (v .s)) (length (v .t))) refl, omega arith)
   where
@@ -389,12 +389,12 @@ opens-counts rows =
 
 -- THEOREM 5: what an add answers is the number of marks that it writes as 2.
 -- Of any run at all: after a month that decides, the marks before the open months stand as they were, and as many marks as it answers follow, each 2 ..
-pub writes-settled : (run : Run) (r : Row) (w : With) → r .decision ≡ Decides w
+pub writes-settled : (run : History) (r : Row) (w : With) → r .decision ≡ Decides w
     → addMonth run r .mark ≡ take (kept run) (run .mark) ++ replicate (settledCount run r) 2
 writes-settled run r w e = rw e (rw replicate-snoc refl)
 
 -- .. and after one that does not, it answers 0, and one mark, 1, follows
-pub writes-open : (run : Run) (r : Row) → r .decision ≡ Nothing → (addMonth run r .mark ≡ run .mark ++ (1 ∷ [])) × (settledCount run r ≡ 0)
+pub writes-open : (run : History) (r : Row) → r .decision ≡ Nothing → (addMonth run r .mark ≡ run .mark ++ (1 ∷ [])) × (settledCount run r ≡ 0)
 writes-open run r e = rw e (refl, refl)
 
 -- Of a run that was made by adding: the answer is by how many the marks 2 grow
@@ -416,7 +416,7 @@ grows-as s t r (Decides w) =
     rw (take-at (replicate {A = ℕ} (length s) 2) (replicate {A = ℕ} (length t) 1) (kept (runOf s t)) (length-replicate (length s) 2 ∙ sym (kept-is s t)))
     (count-settled (length s) (length t))
 
-grows : (rows : List Row) (run : Run) (r : Row) → Inv rows run → count 2 (addMonth run r .mark) ≡ count 2 (run .mark) + settledCount run r
+grows : (rows : List Row) (run : History) (r : Row) → Inv rows run → count 2 (addMonth run r .mark) ≡ count 2 (run .mark) + settledCount run r
 grows rows run r v = rw (v .is) (grows-as (v .s) (v .t) r (r .decision))
 
 pub answers-settled : (rows : List Row) (r : Row) → count 2 (addMonth (addAll rows) r .mark) ≡ count 2 (addAll rows .mark) + settledCount (addAll rows) r

@@ -10,13 +10,13 @@ use Rattle.spells.specs.declared.Decision.the-variants.{Nothing, Decides}
 use Rattle.hindsight.specs.Rule.{X, Row, settledIndex}
 
 -- a run's columns up to the last month, and how many months at the end are open
-pub record Run : Type 0 where
+pub record History : Type 0 where
   pub past : List X
   pub index : List ℤ
   pub mark : List ℕ
   pub opens : ℕ
 
-abbrev pub fresh : Run
+abbrev pub fresh : History
 fresh = record { past = []; index = []; mark = []; opens = 0 }
 
 -- the indexes of the months `open`, which stand directly before a month that decides with w
@@ -25,11 +25,11 @@ settledAll w [] = []
 settledAll w (m ∷ later) = settledIndex w m later ∷ settledAll w later
 
 -- how many months are not open: the open ones come after them
-abbrev pub kept : Run → ℕ
+abbrev pub kept : History → ℕ
 kept run = length (run .past) - run .opens
 
 -- a month that does not decide is one more open month. One that decides rewrites index and mark of the last open months, and writes its own
-abbrev pub addAs : Decision → Run → Row → Run
+abbrev pub addAs : Decision → History → Row → History
 addAs Nothing run r =
     record {
       past = run .past ++ (r .x ∷ []);
@@ -46,7 +46,7 @@ addAs (Decides w) run r =
     }
 
 -- ADDING ONE MONTH
-abbrev pub addMonth : Run → Row → Run
+abbrev pub addMonth : History → Row → History
 addMonth run r = addAs (r .decision) run r
 
 -- what the add answers: "the open months before it plus one if it decides, else 0"
@@ -54,13 +54,13 @@ abbrev pub settledAs : Decision → ℕ → ℕ
 settledAs Nothing opens = 0
 settledAs (Decides w) opens = suc opens
 
-abbrev pub settledCount : Run → Row → ℕ
+abbrev pub settledCount : History → Row → ℕ
 settledCount run r = settledAs (r .decision) (run .opens)
 
 -- THE FOLD: months added one by one to a run; `addAll` to a fresh one
-abbrev pub addTo : Run → List Row → Run
+abbrev pub addTo : History → List Row → History
 addTo run [] = run
 addTo run (r ∷ later) = addTo (addMonth run r) later
 
-abbrev pub addAll : List Row → Run
+abbrev pub addAll : List Row → History
 addAll rows = addTo fresh rows

@@ -5,7 +5,7 @@ use mathlib.Core.Path.{_≡_}
 use Prim.Native.Nat.{ℕ, zero, suc}
 use lib.IntN.{ℤ, pos}
 use lib.ListN.{getD, take, drop}
-use Rattle.hindsight.specs.Adding.{Run, addMonth, settledCount}
+use Rattle.hindsight.specs.Adding.{History, addMonth, settledCount}
 use Rattle.spells.specs.declared.With.{With}
 use Rattle.spells.specs.declared.With.the-variants.{X1, X2, X3}
 use Rattle.spells.specs.declared.Decision.{Decision}
@@ -62,7 +62,7 @@ rowsFrom f i zero = []
 rowsFrom f i (suc k) = f i ∷ rowsFrom f (suc i) k
 
 -- the run that five columns hold, of so many months, the last `opens` of them open
-abbrev pub runFrom : List ℤ → List ℤ → List ℤ → List ℤ → List ℕ → ℕ → ℕ → Run
+abbrev pub runFrom : List ℤ → List ℤ → List ℤ → List ℤ → List ℕ → ℕ → ℕ → History
 runFrom x1 x2 x3 index mark months opens =
     record { past = xsFrom (xAt x1 x2 x3) 0 months; index = take months index; mark = take months mark; opens = opens }
 
@@ -71,7 +71,7 @@ abbrev pub rowOf : ℤ → ℤ → ℤ → ℕ → ℤ → Row
 rowOf a b c by shown = record { x = record { x1 = a; x2 = b; x3 = c }; decision = decisionOf by; shown = shown }
 
 -- what an add leaves in index and mark, and answers: the run with the month added, and every place after it as it was
-pub record Adds (run : Run) (r : Row) (months : ℕ) (index₀ index : List ℤ) (mark₀ mark : List ℕ) (opens settled : ℕ) : Type 0 where
+pub record Adds (run : History) (r : Row) (months : ℕ) (index₀ index : List ℤ) (mark₀ mark : List ℕ) (opens settled : ℕ) : Type 0 where
   pub index-is : index ≡ addMonth run r .index ++ drop (suc months) index₀
   pub mark-is : mark ≡ addMonth run r .mark ++ drop (suc months) mark₀
   pub opens-is : opens ≡ addMonth run r .opens

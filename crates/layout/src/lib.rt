@@ -87,7 +87,7 @@ const PRECIPITATION: u32 = 1;
 // The refusals.
 const MALFORMED: u8 = 14;
 
-const ANOTHER: u8 = 15;
+const OTHER_LINE: u8 = 15;
 
 const NOT_THE_YEAR: u8 = 16;
 
@@ -319,13 +319,13 @@ fn heading_refusal(s: u32, d: u32, e: u32, y: u32, state: u32, division: u32, ye
     ensures { λ r. ⌜ r ≡ headingRefusal s d e y state division year ⌝ }
 {
     if s != state {
-        return ANOTHER;
+        return OTHER_LINE;
     }
     if d != division {
-        return ANOTHER;
+        return OTHER_LINE;
     }
     if e != PRECIPITATION {
-        return ANOTHER;
+        return OTHER_LINE;
     }
     if y != year {
         return NOT_THE_YEAR;

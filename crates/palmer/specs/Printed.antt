@@ -7,7 +7,7 @@ use Rattle.rows.specs.declared.Row.{Row}
 use Rattle.runs.specs.declared.Run.{Run}
 use Rattle.drought.specs.Columns.{Columns}
 use Rattle.drought.specs.declared.Shown.{Shown}
-use Rattle.drought.specs.Asked.{rowOfRun}
+use Rattle.drought.specs.Calls.{rowOfRun}
 
 -- the percent kept of a month
 unfoldable pub percentAt : List ℕ → ℕ → ℕ

@@ -1,7 +1,7 @@
 // The program: one Z a line from standard input into a fresh run, and at the end a row for each month, or the one
-// line that says which line was refused. `intake` reads, `rows` lays out; here bytes are only moved. Standard error has
+// line that says which line was refused. `palmer_input` reads, `rows` lays out; here bytes are only moved. Standard error has
 // a refusal in words, by `words`.
-use intake::Session;
+use palmer_input::Session;
 use libc::STDIN_FILENO;
 use libc::STDOUT_FILENO;
 use quoted::Start;
@@ -79,7 +79,7 @@ fn read_some(
             start,
         };
     }
-    let next = intake::take(session, &buffer[..n], x1, x2, x3, index, mark, percent);
+    let next = palmer_input::take(session, &buffer[..n], x1, x2, x3, index, mark, percent);
     let refused = next.refused;
     let run = next.run;
     let come = quoted::heed(start, line_at_fault(refused, run.months), &buffer[..n]);
@@ -102,7 +102,7 @@ fn read_all(
     mark: &mut [u8],
     percent: &mut [u32],
 ) -> Heard {
-    let fresh = intake::begin();
+    let fresh = palmer_input::begin();
     let first = quoted::begin();
     let mut heard = Heard {
         left: u64::MAX,
@@ -263,7 +263,7 @@ fn main() {
         return;
     }
     let read = heard.session;
-    let s = intake::end(
+    let s = palmer_input::end(
         read,
         &mut x1,
         &mut x2,

@@ -27,14 +27,14 @@ use Rattle.drought.specs.Columns.{Columns, long, columnsFit}
 use Rattle.drought.specs.Refusals.{orElse, runRefusal, roomRefusal, waterRefusal}
 use Rattle.drought.specs.Ready.{Good}
 use Rattle.drought.specs.Figures.{waterFigures}
-use Rattle.drought.specs.Asked.{Result, result, refusal, taken, takenWater, soilAfter, waterOf, heldBy, unless, addOutcomes, addWater}
+use Rattle.drought.specs.Calls.{Result, result, refusal, taken, takenWater, soilAfter, waterOf, heldBy, unless, addOutcomes, addWater}
 use Rattle.drought.specs.declared.Added.{Added}
 use Rattle.drought.proofs.Taken.{counts-most}
 use Rattle.drought.proofs.Accepts.{good-passes, took-water, good-taken}
 use Rattle.drought.proofs.Readiness.{lengths-are, run-is}
 use Rattle.drought.proofs.Refused.{or-second, refuses, accepts}
 use Rattle.season.specs.declared.Season.{Season}
-use Rattle.season.specs.Season.{Left, left, listed, joined, stopped, onlyIf, single, onward}
+use Rattle.season.specs.Season.{SeasonResult, seasonResult, listed, joined, stopped, onlyIf, single, addEach}
 
 -- ---- a list's -1
 pub listed-missing : (n : ℤ) → n ≡ negsuc 0 → listed n ≡ Missing
@@ -48,10 +48,10 @@ listed-whole (negsuc zero) h = absurd (h refl)
 listed-whole (negsuc (suc n)) h = refl
 
 -- ---- by a number
-pub on : (k : ℕ) (a b : Left) → k ≡ 0 → onlyIf k a b ≡ a
+pub on : (k : ℕ) (a b : SeasonResult) → k ≡ 0 → onlyIf k a b ≡ a
 on k a b e = ap (λ (n : ℕ). onlyIf n a b) e
 
-pub off : (k : ℕ) (a b : Left) → (k ≡ 0 → ⊥) → onlyIf k a b ≡ b
+pub off : (k : ℕ) (a b : SeasonResult) → (k ≡ 0 → ⊥) → onlyIf k a b ≡ b
 off zero a b h = absurd (h refl)
 off (suc k) a b h = refl
 
@@ -124,32 +124,32 @@ refused-leaves r p pe cs h = go (waterRefusal (columnsFit cs) (long cs) r (readi
     go (suc k) h = refl
 
 -- ---- a month more of the lists
-module _ (ps pes : List ℤ) (same : length ps ≡ length pes) (t : Left) (i : ℕ) where
+module _ (ps pes : List ℤ) (same : length ps ≡ length pes) (t : SeasonResult) (i : ℕ) where
   abbrev month : Result
   month = single t (getD ps i (pos 0)) (getD pes i (pos 0))
 
-  abbrev rest : Left → Left
-  rest u = onward u (drop (suc i) ps) (drop (suc i) pes)
+  abbrev rest : SeasonResult → SeasonResult
+  rest u = addEach u (drop (suc i) ps) (drop (suc i) pes)
 
-  abbrev next : Left
-  next = left (joined (t .answer) (month .answer)) (month .columns)
+  abbrev next : SeasonResult
+  next = seasonResult (joined (t .answer) (month .answer)) (month .columns)
 
-  abbrev stop : Left
-  stop = left (stopped (t .answer) (month .answer .number)) (t .columns)
+  abbrev stop : SeasonResult
+  stop = seasonResult (stopped (t .answer) (month .answer .number)) (t .columns)
 
-  begins : i < length ps → onward t (drop i ps) (drop i pes) ≡ onlyIf (month .answer .number) (rest next) stop
-  unfolding onward
-  begins h = ap₂ (onward t) (drop-cons ps i (pos 0) h) (drop-cons pes i (pos 0) (omega arith))
+  begins : i < length ps → addEach t (drop i ps) (drop i pes) ≡ onlyIf (month .answer .number) (rest next) stop
+  unfolding addEach
+  begins h = ap₂ (addEach t) (drop-cons ps i (pos 0) h) (drop-cons pes i (pos 0) (omega arith))
 
-  pub goes-on : i < length ps → month .answer .number ≡ 0 → onward t (drop i ps) (drop i pes) ≡ rest next
+  pub goes-on : i < length ps → month .answer .number ≡ 0 → addEach t (drop i ps) (drop i pes) ≡ rest next
   goes-on h z = begins h ∙ on (month .answer .number) (rest next) stop z
 
-  pub stops : i < length ps → (month .answer .number ≡ 0 → ⊥) → onward t (drop i ps) (drop i pes) ≡ stop
+  pub stops : i < length ps → (month .answer .number ≡ 0 → ⊥) → addEach t (drop i ps) (drop i pes) ≡ stop
   stops h n = begins h ∙ off (month .answer .number) (rest next) stop n
 
-  pub ends : length ps ≤ i → onward t (drop i ps) (drop i pes) ≡ t
-  unfolding onward
-  ends h = ap₂ (onward t) (drop-of-length-le ps h) (drop-of-length-le pes {i = i} (omega arith))
+  pub ends : length ps ≤ i → addEach t (drop i ps) (drop i pes) ≡ t
+  unfolding addEach
+  ends h = ap₂ (addEach t) (drop-of-length-le ps h) (drop-of-length-le pes {i = i} (omega arith))
 
 -- a run on columns that fit holds few months
 pub most : (r : Run) (cs : Columns) → Good r cs → r .months ≤ mostMonths
@@ -171,22 +171,22 @@ lengths-then bs cs ds p q = (p .0 ∙ q .0, p .1 ∙ q .1, p .2 ∙ q .2, p .3 �
 
 -- ---- a pass: what the single add left, in the code's terms
 module _ (ps pes : List ℤ) (same : length ps ≡ length pes) (s : Season) (cs : Columns) (i : ℕ) (h : i < length ps) (a : Added) (ds : Columns)
-    (e : result a ds ≡ single (left s cs) (getD ps i (pos 0)) (getD pes i (pos 0))) where
+    (e : result a ds ≡ single (seasonResult s cs) (getD ps i (pos 0)) (getD pes i (pos 0))) where
   abbrev alone : Result
-  alone = single (left s cs) (getD ps i (pos 0)) (getD pes i (pos 0))
+  alone = single (seasonResult s cs) (getD ps i (pos 0)) (getD pes i (pos 0))
 
   numbers : alone .answer .number ≡ a .number
   numbers = sym (ap (λ (b : Result). b .answer .number) e)
 
-  pub joins : {w : Left} (u : Season) → a .number ≡ 0 → u ≡ joined s a → onward (left s cs) (drop i ps) (drop i pes) ≡ w → onward (left u ds) (drop (i + 1) ps) (drop (i + 1) pes) ≡ w
+  pub joins : {w : SeasonResult} (u : Season) → a .number ≡ 0 → u ≡ joined s a → addEach (seasonResult s cs) (drop i ps) (drop i pes) ≡ w → addEach (seasonResult u ds) (drop (i + 1) ps) (drop (i + 1) pes) ≡ w
   joins u z j o =
-      rw (add-one, j) (ap (λ (b : Result). onward (left (joined s (b .answer)) (b .columns)) (drop (suc i) ps) (drop (suc i) pes)) e ∙ sym (goes-on ps pes same (left s cs) i h (numbers ∙ z)) ∙ o)
+      rw (add-one, j) (ap (λ (b : Result). addEach (seasonResult (joined s (b .answer)) (b .columns)) (drop (suc i) ps) (drop (suc i) pes)) e ∙ sym (goes-on ps pes same (seasonResult s cs) i h (numbers ∙ z)) ∙ o)
 
-  pub breaks : {w : Left} (u : Season) → (a .number ≡ 0 → ⊥) → u ≡ stopped s (a .number) → onward (left s cs) (drop i ps) (drop i pes) ≡ w → left u ds ≡ w
+  pub breaks : {w : SeasonResult} (u : Season) → (a .number ≡ 0 → ⊥) → u ≡ stopped s (a .number) → addEach (seasonResult s cs) (drop i ps) (drop i pes) ≡ w → seasonResult u ds ≡ w
   breaks u n j o =
       let m : alone .answer .number ≡ 0 → ⊥ = λ z. n (sym numbers ∙ z) in
       let kept : ds ≡ cs = ap (λ (b : Result). b .columns) e ∙ refused-leaves (s .run) (listed (getD ps i (pos 0))) (listed (getD pes i (pos 0))) cs m in
-      rw (j, kept, ← numbers) (sym (stops ps pes same (left s cs) i h m) ∙ o)
+      rw (j, kept, ← numbers) (sym (stops ps pes same (seasonResult s cs) i h m) ∙ o)
 
   pub good-joined : a .number ≡ 0 → Good (a .run) ds
   good-joined z = subst (λ (b : Result). Good (b .answer .run) (b .columns)) (sym e) (good-next (s .run) (listed (getD ps i (pos 0))) (listed (getD pes i (pos 0))) cs (numbers ∙ z))

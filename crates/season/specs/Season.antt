@@ -12,7 +12,7 @@ use Rattle.runs.specs.declared.Run.{Run}
 use Rattle.drought.specs.Columns.{Columns, long, columnsFit}
 use Rattle.drought.specs.Refusals.{runRefusal}
 use Rattle.drought.specs.Figures.{noFigures}
-use Rattle.drought.specs.Asked.{Result, addWater}
+use Rattle.drought.specs.Calls.{Result, addWater}
 use Rattle.drought.specs.declared.Added.{Added}
 use Rattle.season.specs.declared.Season.{Season}
 
@@ -23,12 +23,12 @@ listed (negsuc zero) = Missing
 listed (negsuc (suc n)) = Whole (negsuc (suc n))
 
 -- what a season leaves: its answer, with the run, and the five columns
-pub record Left : Type 0 where
+pub record SeasonResult : Type 0 where
   pub answer : Season
   pub columns : Columns
 
-abbrev pub left : Season → Columns → Left
-left s cs = record { answer = s; columns = cs }
+abbrev pub seasonResult : Season → Columns → SeasonResult
+seasonResult s cs = record { answer = s; columns = cs }
 
 -- before the first month: "the figures are the last added month's (0 if none)"
 abbrev pub nothing : ℕ → Run → Season
@@ -43,27 +43,27 @@ abbrev pub stopped : Season → ℕ → Season
 stopped s k = record { number = k; added = s .added; settled = s .settled; figures = s .figures; run = s .run }
 
 -- by a number: what follows where it is 0, and otherwise what stops
-abbrev pub onlyIf : ℕ → Left → Left → Left
+abbrev pub onlyIf : ℕ → SeasonResult → SeasonResult → SeasonResult
 onlyIf zero on stop = on
 onlyIf (suc k) on stop = stop
 
 -- the single add of a month to a season so far
-abbrev pub single : Left → ℤ → ℤ → Result
+abbrev pub single : SeasonResult → ℤ → ℤ → Result
 single t p pe = addWater (t .answer .run) (listed p) (listed pe) (t .columns)
 
 -- "add the months in order .. At the first month that a single add refuses, the call stops"
-unfoldable pub onward : Left → List ℤ → List ℤ → Left
-onward t [] pes = t
-onward t (p ∷ ps) [] = t
-onward t (p ∷ ps) (pe ∷ pes) =
+unfoldable pub addEach : SeasonResult → List ℤ → List ℤ → SeasonResult
+addEach t [] pes = t
+addEach t (p ∷ ps) [] = t
+addEach t (p ∷ ps) (pe ∷ pes) =
     let b = single t p pe in
-    onlyIf (b .answer .number) (onward (left (joined (t .answer) (b .answer)) (b .columns)) ps pes) (left (stopped (t .answer) (b .answer .number)) (t .columns))
+    onlyIf (b .answer .number) (addEach (seasonResult (joined (t .answer) (b .answer)) (b .columns)) ps pes) (seasonResult (stopped (t .answer) (b .answer .number)) (t .columns))
 
 -- "1 also covers two lists of unequal length, and 1 and 7 are checked once, before the first month"
 unfoldable pub seasonRefusal : Run → List ℤ → List ℤ → Columns → ℕ
 seasonRefusal r ps pes cs = runRefusal (eqb (length ps) (length pes) && columnsFit cs) (long cs) r
 
 -- ---- ADD A SEASON
-unfoldable pub addSeason : Run → List ℤ → List ℤ → Columns → Left
+unfoldable pub addSeason : Run → List ℤ → List ℤ → Columns → SeasonResult
 addSeason r ps pes cs =
-    onlyIf (seasonRefusal r ps pes cs) (onward (left (nothing 0 r) cs) ps pes) (left (nothing (seasonRefusal r ps pes cs) r) cs)
+    onlyIf (seasonRefusal r ps pes cs) (addEach (seasonResult (nothing 0 r) cs) ps pes) (seasonResult (nothing (seasonRefusal r ps pes cs) r) cs)

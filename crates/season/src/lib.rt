@@ -6,8 +6,8 @@
 use door::Answer;
 use door::Reading;
 use drought::Figures;
-use drought::Moved;
-use drought::Standing;
+use drought::MonthAdded;
+use drought::Progress;
 use runs::Run;
 ghost use mathlib.Core.Path.{_≡_};
 ghost use mathlib.Core.Bool.{_&&_};
@@ -15,10 +15,10 @@ ghost use Prim.Native.Nat.{_+_, _≤_};
 ghost use lib.Dec.{eqb};
 ghost use Rattle.drought.specs.Columns.{columns};
 ghost use Rattle.drought.specs.Ready.{Good};
-ghost use Rattle.drought.specs.Standing.{runOf};
-ghost use Rattle.drought.specs.Asked.{result, addWater};
-ghost use Rattle.season.specs.Season.{listed, left, addSeason};
-ghost use Rattle.season.specs.Going.{mostCount, begun, joinedBy, seasonOf, numberOf, singleOf};
+ghost use Rattle.drought.specs.Progress.{runOf};
+ghost use Rattle.drought.specs.Calls.{result, addWater};
+ghost use Rattle.season.specs.Season.{listed, seasonResult, addSeason};
+ghost use Rattle.season.specs.SoFar.{mostCount, begun, joinedBy, seasonOf, numberOf, singleOf};
 
 // What a season answers: 0 or the refusal that stopped it, how many months were added, how many these settled,
 // the figures of the last one added, and the run.
@@ -32,16 +32,16 @@ pub struct Season {
 }
 
 // A season so far: its months' counts, the last one's figures, and the run without its constants.
-struct Going {
+struct SoFar {
     added: u32,
     settled: u32,
     figures: Figures,
-    standing: Standing,
+    progress: Progress,
 }
 
 // What the single add of a month gives, without the run's constants.
 enum Single {
-    Added(Moved),
+    Added(MonthAdded),
     Refused(u8),
 }
 
@@ -59,7 +59,7 @@ pub fn add_season(
     index: &mut [i32],
     mark: &mut [u8],
 ) -> Season
-    ensures { λ s. ⌜ left s (columns (now (x1 .exit)) (now (x2 .exit)) (now (x3 .exit)) (now (index .exit)) (now (mark .exit))) ≡ addSeason run (now (p .entry)) (now (pe .entry)) (columns (now (x1 .entry)) (now (x2 .entry)) (now (x3 .entry)) (now (index .entry)) (now (mark .entry))) ⌝ }
+    ensures { λ s. ⌜ seasonResult s (columns (now (x1 .exit)) (now (x2 .exit)) (now (x3 .exit)) (now (index .exit)) (now (mark .exit))) ≡ addSeason run (now (p .entry)) (now (pe .entry)) (columns (now (x1 .entry)) (now (x2 .entry)) (now (x3 .entry)) (now (index .entry)) (now (mark .entry))) ⌝ }
 {
     let n = x1.len();
     let columns_fit = drought::lengths_fit(n, x2.len(), x3.len(), index.len(), mark.len());
@@ -71,7 +71,7 @@ pub fn add_season(
     }
     let mut i: usize = 0;
     while i < p.len() {
-        let at = s.standing;
+        let at = s.progress;
         let rain = p[i];
         let demand = pe[i];
         let a = add_listed(at, &run.constants, rain, demand, x1, x2, x3, index, mark);
@@ -95,27 +95,27 @@ fn lists_fit(p: usize, pe: usize, fit: bool) -> bool
 }
 
 // Before the first month.
-fn nothing_added(run: Run) -> Going
+fn nothing_added(run: Run) -> SoFar
     ensures { λ s. ⌜ s ≡ begun run ⌝ }
 {
     let none = drought::refuse(0, run);
     let figures = none.figures;
-    let standing = drought::standing_of(run);
-    Going {
+    let progress = drought::progress_of(run);
+    SoFar {
         added: 0,
         settled: 0,
         figures,
-        standing,
+        progress,
     }
 }
 
 // The season that stands so, ended by this number.
-fn season_of(s: Going, number: u8, run: Run) -> Season
+fn season_of(s: SoFar, number: u8, run: Run) -> Season
     ensures { λ r. ⌜ r ≡ seasonOf s number (run .constants) ⌝ }
 {
     let figures = s.figures;
-    let standing = s.standing;
-    let last = drought::run_of(standing, run);
+    let progress = s.progress;
+    let last = drought::run_of(progress, run);
     Season {
         number,
         added: s.added,
@@ -126,17 +126,17 @@ fn season_of(s: Going, number: u8, run: Run) -> Season
 }
 
 // A month added: its figures and where it leaves the run, and the counts with it.
-fn joined_by(s: Going, m: Moved) -> Going
+fn joined_by(s: SoFar, m: MonthAdded) -> SoFar
     requires { ⌜ (s .added + 1 ≤ mostCount) × (s .settled + m .settled ≤ mostCount) ⌝ }
     ensures { λ r. ⌜ r ≡ joinedBy s m ⌝ }
 {
     let figures = m.figures;
-    let standing = m.standing;
-    Going {
+    let progress = m.progress;
+    SoFar {
         added: s.added + 1,
         settled: s.settled + m.settled,
         figures,
-        standing,
+        progress,
     }
 }
 
@@ -162,7 +162,7 @@ fn reading_of(n: i32) -> Reading
 
 // The single add of a month of the lists, to columns and a run that have been asked for 1 and 7.
 fn add_listed(
-    at: Standing,
+    at: Progress,
     constants: &[i32; 60],
     p: i32,
     pe: i32,

@@ -45,11 +45,11 @@ const IN_FORCE: i32 = 500;
 // A spell is founded from this on, in size.
 const FOUNDS: i32 = 1_000;
 // What a month adds to Z, in the drought's sense, to make U.
-const RELIEF: i64 = 150;
+const U_OFFSET: i64 = 150;
 
 const WEIGHT: i64 = 2_691;
 
-const NORMAL: i64 = 1_500_000;
+const E_OFFSET: i64 = 1_500_000;
 
 // A wet spell's number with its sign turned, a drought's as it is.
 fn turned(wet: bool, n: i64) -> i64
@@ -226,9 +226,9 @@ fn in_force(wet: bool, s: Running, z: i32) -> SpellMonth
 {
     let x3 = turned(wet, s.x3 as i64);
     let was = turned(wet, s.v);
-    let u = turned(wet, z as i64) + RELIEF;
+    let u = turned(wet, z as i64) + U_OFFSET;
     let v = u + was;
-    let e = 0 - WEIGHT * x3 - NORMAL;
+    let e = 0 - WEIGHT * x3 - E_OFFSET;
     if v <= 0 {
         return steady(s.x3, z);
     }

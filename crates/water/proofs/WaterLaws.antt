@@ -11,7 +11,7 @@ use lib.Dec.{ltb}
 use borrow.Author.Tests.{ltb-true, ltb-false}
 use Rattle.exact.proofs.Nearest.{near-mono, near-within}
 use Rattle.water.specs.Layers.{mostCapacity, surfaceHolds, underlyingHolds, SoilFits}
-use Rattle.water.specs.Balance.{underLoss, lossSurface, lossUnderlying, dryMonth, toSurface, toUnderlying, otherMonth, balanceOf}
+use Rattle.water.specs.Balance.{underLoss, lossSurface, lossUnderlying, dryMonth, toSurface, toUnderlying, wetMonth, balanceOf}
 use Rattle.water.specs.Expected.{potentialSurface, potentialUnderlying, potentialsOf}
 use Rattle.water.specs.declared.Soil.{Soil}
 use Rattle.water.specs.declared.Balance.{Balance}
@@ -40,10 +40,10 @@ by-test P true x y f g = f refl
 by-test P false x y f g = g refl
 
 -- what holds of a month with P below PE, and of any other, holds of the month
-pub by-month : (P : Balance → Type 0) (s : Soil) (p pe : ℕ) → (p < pe → P (dryMonth s p pe)) → (pe ≤ p → P (otherMonth s p pe)) → P (balanceOf s p pe)
+pub by-month : (P : Balance → Type 0) (s : Soil) (p pe : ℕ) → (p < pe → P (dryMonth s p pe)) → (pe ≤ p → P (wetMonth s p pe)) → P (balanceOf s p pe)
 unfolding balanceOf
 by-month P s p pe f g =
-    by-test P (ltb p pe) (dryMonth s p pe) (otherMonth s p pe) (λ e. f (ltb-true p pe e)) (λ e. g (ltb-false p pe e))
+    by-test P (ltb p pe) (dryMonth s p pe) (wetMonth s p pe) (λ e. f (ltb-true p pe e)) (λ e. g (ltb-false p pe e))
 
 -- ---- what every month keeps
 pub record Kept (s : Soil) (p pe : ℕ) (b : Balance) : Type 0 where
@@ -83,8 +83,8 @@ to-underlying : (s : Soil) (p pe : ℕ) → SoilFits s → pe ≤ p → (pe + to
 unfolding toUnderlying
 to-underlying s p pe f h = let u = to-surface s p pe f h in omega arith
 
-other-kept : (s : Soil) (p pe : ℕ) → SoilFits s → pe ≤ p → Kept s p pe (otherMonth s p pe)
-unfolding otherMonth
+other-kept : (s : Soil) (p pe : ℕ) → SoilFits s → pe ≤ p → Kept s p pe (wetMonth s p pe)
+unfolding wetMonth
 other-kept s p pe f h =
     let u = to-surface s p pe f h in
     let v = to-underlying s p pe f h in
@@ -134,8 +134,8 @@ dry-potential s p pe h =
     two : {a b c d : ℕ} → a ≤ b → c ≤ d → a + c ≤ b + d
     two g h = omega arith
 
-other-potential : (s : Soil) (p pe : ℕ) → SoilFits s → pe ≤ p → Potential s pe (otherMonth s p pe)
-unfolding otherMonth potentialsOf
+other-potential : (s : Soil) (p pe : ℕ) → SoilFits s → pe ≤ p → Potential s pe (wetMonth s p pe)
+unfolding wetMonth potentialsOf
 other-potential s p pe f h =
     let u = to-surface s p pe f h in
     let v = to-underlying s p pe f h in

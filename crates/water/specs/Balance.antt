@@ -42,8 +42,8 @@ unfoldable pub toUnderlying : Soil → ℕ → ℕ → ℕ
 toUnderlying s p pe = min (p - pe - toSurface s p pe) (underlyingHolds (s .capacity) - s .underlying)
 
 -- "Otherwise: ET = PE, losses 0. .. the rest is RO."
-unfoldable pub otherMonth : Soil → ℕ → ℕ → Balance
-otherMonth s p pe =
+unfoldable pub wetMonth : Soil → ℕ → ℕ → Balance
+wetMonth s p pe =
     record {
       ls = 0;
       lu = 0;
@@ -55,4 +55,4 @@ otherMonth s p pe =
     }
 
 unfoldable pub balanceOf : Soil → ℕ → ℕ → Balance
-balanceOf s p pe = cond (ltb p pe) (dryMonth s p pe) (otherMonth s p pe)
+balanceOf s p pe = cond (ltb p pe) (dryMonth s p pe) (wetMonth s p pe)

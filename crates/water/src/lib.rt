@@ -9,14 +9,14 @@ ghost use lib.IntN.{pos, natAbs};
 ghost use Rattle.door.specs.Readings.{mostReading};
 ghost use Rattle.water.specs.Layers.{surfaceHolds, underlyingHolds, mostCapacity, SoilFits};
 ghost use Rattle.water.specs.Constants.{mostK, ConstantsFit};
-ghost use Rattle.water.specs.Balance.{underLoss, dryMonth, otherMonth, balanceOf};
+ghost use Rattle.water.specs.Balance.{underLoss, dryMonth, wetMonth, balanceOf};
 ghost use Rattle.water.specs.Expected.{potentialsOf, mostN, nOf, zOf, expectedOf, monthOf};
 
 // One, in the ten-thousandths of a constant.
 const ONE: i64 = 10_000;
 
 // One, in the ten-thousandths of K times the ten-thousandths of another constant.
-const ONE_TIMES_ONE: i64 = 100_000_000;
+const Z_DIVISOR: i64 = 100_000_000;
 
 // The soil: its capacity, and what each layer holds.
 #[repr(C)]
@@ -136,10 +136,10 @@ fn dry_month(s: Soil, p: u32, pe: u32) -> Balance
 }
 
 // P at least PE: the excess fills the surface layer, then the underlying one, and the rest runs off.
-fn other_month(s: Soil, p: u32, pe: u32) -> Balance
+fn wet_month(s: Soil, p: u32, pe: u32) -> Balance
     requires { ⌜ SoilFits s ⌝ }
     requires { ⌜ (pe ≤ p) × (p ≤ mostReading) ⌝ }
-    ensures { λ r. ⌜ r ≡ otherMonth s p pe ⌝ }
+    ensures { λ r. ⌜ r ≡ wetMonth s p pe ⌝ }
 {
     let excess = p - pe;
     let first = smaller(excess, surface_holds(s.capacity) - s.surface);
@@ -164,7 +164,7 @@ fn balance_of(s: Soil, p: u32, pe: u32) -> Balance
     if p < pe {
         dry_month(s, p, pe)
     } else {
-        other_month(s, p, pe)
+        wet_month(s, p, pe)
     }
 }
 
@@ -201,7 +201,7 @@ fn z_of(k: u32, p: u32, n: i64) -> i32
     ensures { λ r. ⌜ r ≡ zOf k p n ⌝ }
 {
     let short = ONE * (p as i64) - n;
-    exact::nearest_signed((k as i64) * short, ONE_TIMES_ONE) as i32
+    exact::nearest_signed((k as i64) * short, Z_DIVISOR) as i32
 }
 
 // Expected precipitation, and Z from N: not from the expected precipitation, which is rounded already.

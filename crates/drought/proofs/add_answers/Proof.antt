@@ -8,7 +8,7 @@ use Rattle.door.specs.Outcome.{outcome}
 use Rattle.runs.specs.Runs.{isRun}
 use Rattle.drought.specs.Columns.{Columns, columns, long, columnsFit}
 use Rattle.drought.specs.Refusals.{waterRefusal}
-use Rattle.drought.specs.Asked.{addOutcomes, takenWater}
+use Rattle.drought.specs.Calls.{addOutcomes, takenWater}
 use Rattle.drought.proofs.Refused.{water-passes, refuses, accepts}
 use Rattle.drought.proofs.Readiness.{ready, watered}
 use Rattle.drought.proofs.add_answers.Statement.{statement}
@@ -57,8 +57,8 @@ water-requires c κs = search needs
 water-requires-2 : tie.Need-water-requires-2
 water-requires-2 c κs = search needs
 
-standing-of-requires : tie.Need-standing-of-requires
-standing-of-requires c κs = search needs
+progress-of-requires : tie.Need-progress-of-requires
+progress-of-requires c κs = search needs
 
 add-measured-requires : tie.Need-add-measured-requires
 add-measured-requires c κs =
@@ -67,7 +67,7 @@ add-measured-requires c κs =
     let e = w .before .before in
     let s = e .before .before .before .before .before .before in
     let p = passes e in
-    (rw (o .standing-of .ensures) (ready (s .args .t1) (lent s) (p .0 .0) (p .0 .1) (p .1)), (rw (o .standing-of .ensures) (watered (s .args .t1) (lent s) (p .0 .0) (p .0 .1)), rw (w .before .water .ensures, w .water2 .ensures) (s .pre)))
+    (rw (o .progress-of .ensures) (ready (s .args .t1) (lent s) (p .0 .0) (p .0 .1) (p .1)), (rw (o .progress-of .ensures) (watered (s .args .t1) (lent s) (p .0 .0) (p .0 .1)), rw (w .before .water .ensures, w .water2 .ensures) (s .pre)))
 
 added-of-requires : tie.Need-added-of-requires
 added-of-requires c κs = search needs
@@ -96,7 +96,7 @@ returns-2 c =
     let e = w .before .before in
     let s = e .before .before .before .before .before .before in
     accepts (e .before .water-refusal .result) (asked s) (s .args .t1) (lent s) (takenWater (s .args .t1) (outcome (s .args .p) .water) (outcome (s .args .pe) .water) (lent s)) (number-is (e .before)) _ (e .if1 .left)
-    (rw (c .added-of .ensures) (rw (w .before .water .ensures, w .water2 .ensures, o .standing-of .ensures) at (t .add-measured .ensures)))
+    (rw (c .added-of .ensures) (rw (w .before .water .ensures, w .water2 .ensures, o .progress-of .ensures) at (t .add-measured .ensures)))
 
 pub add-answers-spec : {M : Type 1} → statement M
 add-answers-spec =
@@ -110,7 +110,7 @@ add-answers-spec =
     returns
     water-requires
     water-requires-2
-    standing-of-requires
+    progress-of-requires
     add-measured-requires
     added-of-requires
     same-length

@@ -4,7 +4,7 @@ use borrow.Author.Needs.{needs}
 use Rattle.door.specs.Outcome.{MonthOutcomes, outcome}
 use Rattle.door.specs.Readings.{month}
 use Rattle.door.proofs.Bounds.{inches-most}
-use Rattle.drought.specs.Asked.{addInches}
+use Rattle.drought.specs.Calls.{addInches}
 use Rattle.drought.proofs.add_inches.Statement.{statement}
 use Rattle.drought.proofs.add_inches.Tie as tie
 

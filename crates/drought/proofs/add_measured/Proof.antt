@@ -14,8 +14,8 @@ use Rattle.water.specs.Constants.{ConstantsFit}
 use Rattle.water.proofs.Theorems.{z-acceptable}
 use Rattle.runs.specs.Ranges.{constantsAt}
 use Rattle.runs.proofs.RunLaws.{constants-at-fit}
-use Rattle.drought.specs.Asked.{takenWater, waterOf}
-use Rattle.drought.specs.Standing.{runOf}
+use Rattle.drought.specs.Calls.{takenWater, waterOf}
+use Rattle.drought.specs.Progress.{runOf}
 use Rattle.drought.proofs.add_measured.Statement.{statement}
 use Rattle.drought.proofs.add_measured.Tie as tie
 

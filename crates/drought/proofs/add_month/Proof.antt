@@ -5,7 +5,7 @@ use native.Mathlib.Numerals.{add-one}
 use mir.Facts.{toZ-ofZ}
 use denote.Ref.{now}
 use Rattle.drought.specs.Columns.{columns}
-use Rattle.drought.specs.Standing.{runOf}
+use Rattle.drought.specs.Progress.{runOf}
 use Rattle.drought.proofs.Taken.{taken-is}
 use borrow.Author.Needs.{needs}
 use Rattle.drought.proofs.add_month.Statement.{statement}

@@ -7,7 +7,7 @@ use mir.Facts.{toZ-ofZ}
 use denote.Ref.{now}
 use Rattle.exact.proofs.Held.{held}
 use Rattle.hindsight.specs.Columns.{rowOf}
-use Rattle.drought.specs.Asked.{heldIn}
+use Rattle.drought.specs.Calls.{heldIn}
 use Rattle.drought.specs.Columns.{Columns, columns}
 use Rattle.drought.proofs.Taken.{spelled-is, opens-most, settled-most, Wrote}
 use Rattle.drought.proofs.add_spells.Statement.{statement}

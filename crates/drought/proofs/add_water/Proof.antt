@@ -1,7 +1,7 @@
 -- `drought::add_water` meets its contract: the two readings' answers, and then `add_answers`. Assumes nothing.
 use borrow.Author.Needs.{needs}
 use Rattle.door.proofs.Bounds.{reading-most}
-use Rattle.drought.specs.Asked.{addWater}
+use Rattle.drought.specs.Calls.{addWater}
 use Rattle.drought.proofs.add_water.Statement.{statement}
 use Rattle.drought.proofs.add_water.Tie as tie
 

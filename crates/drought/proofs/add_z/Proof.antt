@@ -10,7 +10,7 @@ use Rattle.exact.specs.Next.{mostZ}
 use Rattle.runs.specs.Runs.{isRun}
 use Rattle.drought.specs.Columns.{Columns, columns, long, columnsFit}
 use Rattle.drought.specs.Refusals.{zRefusal}
-use Rattle.drought.specs.Asked.{addZ, takenZ}
+use Rattle.drought.specs.Calls.{addZ, takenZ}
 use Rattle.drought.proofs.Refused.{z-passes, refuses, accepts}
 use Rattle.drought.proofs.Readiness.{ready}
 use Rattle.drought.proofs.add_z.Statement.{statement}
@@ -49,8 +49,8 @@ returns c =
 no-water-requires : tie.Need-no-water-requires
 no-water-requires c κs = search needs
 
-standing-of-requires : tie.Need-standing-of-requires
-standing-of-requires c κs = search needs
+progress-of-requires : tie.Need-progress-of-requires
+progress-of-requires c κs = search needs
 
 add-month-requires : tie.Need-add-month-requires
 add-month-requires c κs =
@@ -59,7 +59,7 @@ add-month-requires c κs =
     let s = e .before .before .before .before in
     let f = s .fits .z in
     let p = passes e in
-    (rw (o .standing-of .ensures) (ready (s .args .run) (lent s) (p .0 .0) (p .0 .1) (p .1)), simp toZ-ofZ (p .2))
+    (rw (o .progress-of .ensures) (ready (s .args .run) (lent s) (p .0 .0) (p .0 .1) (p .1)), simp toZ-ofZ (p .2))
 
 added-of-requires : tie.Need-added-of-requires
 added-of-requires c κs = search needs
@@ -89,7 +89,7 @@ returns-2 c =
     let s = e .before .before .before .before in
     let f = s .fits .z in
     accepts (e .before .z-refusal .result) _ (s .args .run) (lent s) (takenZ (s .args .run) (s .args .z) (lent s)) (number-is (e .before)) _ (e .if1 .left)
-    (rw (c .added-of .ensures) (rw (w .no-water .ensures, o .standing-of .ensures, toZ-ofZ f) at (t .add-month .ensures (s .args .run .constants))))
+    (rw (c .added-of .ensures) (rw (w .no-water .ensures, o .progress-of .ensures, toZ-ofZ f) at (t .add-month .ensures (s .args .run .constants))))
 
 pub add-z-spec : {M : Type 1} → statement M
 add-z-spec =
@@ -100,7 +100,7 @@ add-z-spec =
     refuse-requires
     returns
     no-water-requires
-    standing-of-requires
+    progress-of-requires
     add-month-requires
     added-of-requires
     same-length

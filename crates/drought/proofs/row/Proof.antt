@@ -11,7 +11,7 @@ use mir.Facts.{toZ-ofZ}
 use denote.Ref.{now}
 use Rattle.drought.specs.Columns.{Columns, columns, long, columnsFit}
 use Rattle.drought.specs.Refusals.{rowRefusal}
-use Rattle.drought.specs.Asked.{rowOfRun, shownWith}
+use Rattle.drought.specs.Calls.{rowOfRun, shownWith}
 use Rattle.drought.proofs.Refused.{row-passes}
 use Rattle.drought.proofs.Readiness.{lengths-are, run-is}
 use Rattle.drought.proofs.row.Statement.{statement}

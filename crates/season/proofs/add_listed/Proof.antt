@@ -11,7 +11,7 @@ use Rattle.door.specs.Readings.{reading}
 use Rattle.door.proofs.Bounds.{reading-most}
 use Rattle.runs.specs.declared.Run.{Run}
 use Rattle.drought.specs.Columns.{Columns, columns, long}
-use Rattle.drought.specs.Standing.{runOf}
+use Rattle.drought.specs.Progress.{runOf}
 use Rattle.drought.specs.Refusals.{orElse, roomRefusal}
 use Rattle.drought.proofs.Refused.{or-first, or-second, room-passes}
 use Rattle.drought.proofs.Readiness.{ready, watered}

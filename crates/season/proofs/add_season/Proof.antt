@@ -19,12 +19,12 @@ use Rattle.drought.specs.Ready.{Good}
 use Rattle.runs.proofs.Outcomes.{first, second}
 use Rattle.drought.proofs.Refused.{run-passes}
 use Rattle.drought.proofs.Readiness.{run-is}
-use Rattle.drought.specs.Asked.{result}
-use Rattle.drought.specs.Standing.{runOf, addedOf}
-use Rattle.season.specs.Season.{Left, left, listed, single, onward, seasonRefusal, addSeason}
-use Rattle.season.specs.Going.{seasonOf, numberOf, singleOf}
+use Rattle.drought.specs.Calls.{result}
+use Rattle.drought.specs.Progress.{runOf, addedOf}
+use Rattle.season.specs.Season.{SeasonResult, seasonResult, listed, single, addEach, seasonRefusal, addSeason}
+use Rattle.season.specs.SoFar.{seasonOf, numberOf, singleOf}
 use Rattle.season.specs.declared.Season.{Season}
-use Rattle.season.specs.declared.Going.{Going}
+use Rattle.season.specs.declared.SoFar.{SoFar}
 use Rattle.season.specs.declared.Single.{Single}
 use Rattle.season.proofs.Steps.{most, SameLengths, lengths-then, on, off, ends, joins, breaks, refused-not, good-joined, counts-joined}
 use Rattle.season.proofs.add_season.Statement.{statement}
@@ -33,10 +33,10 @@ use Rattle.season.proofs.add_season.Tie as tie
 abbrev Inv-loop : tie.InvT-loop
 Inv-loop p pe x1₀ x2₀ x3₀ index₀ mark₀ run n columns-fit fit number s₀ i₀ x1 x2 x3 index mark s i =
     (i ≤ length p)
-    × (onward (left (seasonOf s 0 (run .constants)) (columns x1 x2 x3 index mark)) (drop i p) (drop i pe) ≡ onward (left (seasonOf s₀ 0 (run .constants)) (columns x1₀ x2₀ x3₀ index₀ mark₀)) p pe)
-    × Good (runOf (s .standing) (run .constants)) (columns x1 x2 x3 index mark)
-    × (s .settled + s .standing .opens ≤ s .standing .months)
-    × (s .added ≤ s .standing .months)
+    × (addEach (seasonResult (seasonOf s 0 (run .constants)) (columns x1 x2 x3 index mark)) (drop i p) (drop i pe) ≡ addEach (seasonResult (seasonOf s₀ 0 (run .constants)) (columns x1₀ x2₀ x3₀ index₀ mark₀)) p pe)
+    × Good (runOf (s .progress) (run .constants)) (columns x1 x2 x3 index mark)
+    × (s .settled + s .progress .opens ≤ s .progress .months)
+    × (s .added ≤ s .progress .months)
     × SameLengths (columns x1 x2 x3 index mark) (columns x1₀ x2₀ x3₀ index₀ mark₀)
 
 abbrev μ-loop : tie.MeasureT-loop
@@ -108,10 +108,10 @@ add-listed-requires : tie.Need-add-listed-requires Inv-loop μ-loop
 add-listed-requires c κs = c .before .before .before .before .before .before .before .before .before .before .before .loop .inv .2
 
 -- with nothing refused before the first month, all is what the months make
-whole : (e : tie.Else1 Inv-loop μ-loop) (w : Left)
+whole : (e : tie.Else1 Inv-loop μ-loop) (w : SeasonResult)
     → let q = e .before in
     let s = q .before .before .before .before .before in
-    w ≡ onward (left (seasonOf (q .nothing-added .result) 0 (s .args .t1 .constants)) (lent s)) (now (s .args .p)) (now (s .args .pe)) → w ≡ addSeason (s .args .t1) (now (s .args .p)) (now (s .args .pe)) (lent s)
+    w ≡ addEach (seasonResult (seasonOf (q .nothing-added .result) 0 (s .args .t1 .constants)) (lent s)) (now (s .args .p)) (now (s .args .pe)) → w ≡ addSeason (s .args .t1) (now (s .args .p)) (now (s .args .pe)) (lent s)
 unfolding addSeason
 whole e w h =
     let q = e .before in
@@ -148,7 +148,7 @@ pes a = now (start a .args .pe)
 
 alone : (t : tie.After-add-listed Inv-loop μ-loop)
     → let a = inside t .before in
-    result (singleOf (t .add-listed .result) (before a .run)) (then t) ≡ single (left (before a) (so-far a)) (getD (ps a) (a .loop .i) (pos 0)) (getD (pes a) (a .loop .i) (pos 0))
+    result (singleOf (t .add-listed .result) (before a .run)) (then t) ≡ single (seasonResult (before a) (so-far a)) (getD (ps a) (a .loop .i) (pos 0)) (getD (pes a) (a .loop .i) (pos 0))
 alone t =
     let d = t .before .before .before .before .before .before .before .before in
     let a = inside t .before in
@@ -214,13 +214,13 @@ pass k = k .before .before .before .before .before .before .before .before .befo
 took : (k : tie.After-known-told Inv-loop μ-loop)
     → let t = pass k in
     let a = inside t .before in
-    result (addedOf (k .before .a .given .0 .0) (constants a)) (then t) ≡ single (left (before a) (so-far a)) (getD (ps a) (a .loop .i) (pos 0)) (getD (pes a) (a .loop .i) (pos 0))
+    result (addedOf (k .before .a .given .0 .0) (constants a)) (then t) ≡ single (seasonResult (before a) (so-far a)) (getD (ps a) (a .loop .i) (pos 0)) (getD (pes a) (a .loop .i) (pos 0))
 took k = let t = pass k in sym (ap (λ (x : Single). result (singleOf x (before (inside t .before) .run)) (then t)) (k .before .a .given .1)) ∙ alone t
 
 counts : (k : tie.After-known-told Inv-loop μ-loop)
     → let m = k .before .a .given .0 .0 in
     let s = inside (pass k) .before .loop .s in
-    (m .standing .months ≡ suc (s .standing .months)) × (m .settled + m .standing .opens ≤ suc (s .standing .opens))
+    (m .progress .months ≡ suc (s .progress .months)) × (m .settled + m .progress .opens ≤ suc (s .progress .opens))
 counts k =
     let t = pass k in
     let l = inside t in
@@ -251,7 +251,7 @@ loop-again c =
     let u = c .joined-by .ensures in
     let n = counts k in (
       omega (arith, l .loop-test .taken),
-      joins (ps a) (pes a) e (before a) (so-far a) (a .loop .i) (l .loop-test .taken) m (then t) (took k) (seasonOf (c .joined-by .result) 0 (constants a)) refl (ap (λ (g : Going). seasonOf g 0 (constants a)) u) (a .loop .inv .1),
+      joins (ps a) (pes a) e (before a) (so-far a) (a .loop .i) (l .loop-test .taken) m (then t) (took k) (seasonOf (c .joined-by .result) 0 (constants a)) refl (ap (λ (g : SoFar). seasonOf g 0 (constants a)) u) (a .loop .inv .1),
       rw u (good-joined (ps a) (pes a) e (before a) (so-far a) (a .loop .i) (l .loop-test .taken) m (then t) (took k) refl),
       rw u (omega (arith, a .loop .inv .3, n .0, n .1)),
       rw u (omega (arith, a .loop .inv .4, n .0)),
@@ -280,7 +280,7 @@ returns-3 : tie.Need-returns-3 Inv-loop μ-loop
 returns-3 c =
     let l = c .before in
     let a = l .before in
-    whole (a .before) _ (ap (λ (s : Season). left s (so-far a)) (c .season-of3 .ensures) ∙ sym (ends (ps a) (pes a) (passes (a .before) .0) (left (before a) (so-far a)) (a .loop .i) (l .loop-test .left)) ∙ a .loop .inv .1)
+    whole (a .before) _ (ap (λ (s : Season). seasonResult s (so-far a)) (c .season-of3 .ensures) ∙ sym (ends (ps a) (pes a) (passes (a .before) .0) (seasonResult (before a) (so-far a)) (a .loop .i) (l .loop-test .left)) ∙ a .loop .inv .1)
 
 pub add-season-spec : {M : Type 1} → statement M
 add-season-spec =

@@ -6,11 +6,11 @@ use Rattle.season.proofs.nothing_added.Tie as tie
 refuse-requires : tie.Need-refuse-requires
 refuse-requires c κs = search needs
 
-standing-of-requires : tie.Need-standing-of-requires
-standing-of-requires c κs = search needs
+progress-of-requires : tie.Need-progress-of-requires
+progress-of-requires c κs = search needs
 
 returns : tie.Need-returns
-returns c = rw (c .before .before .refuse .ensures, c .standing-of .ensures)
+returns c = rw (c .before .before .refuse .ensures, c .progress-of .ensures)
 
 pub nothing-added-spec : {M : Type 1} → statement M
-nothing-added-spec = tie.close (tie.spec refuse-requires standing-of-requires returns)
+nothing-added-spec = tie.close (tie.spec refuse-requires progress-of-requires returns)
