@@ -3,7 +3,8 @@ use mathlib.Core.Path.{_≡_, refl}
 use Prim.Native.Nat.{ℕ, _<_}
 use native.Mathlib.Omega.{arith}
 use borrow.Author.Tests.{ne-eqb}
-use Rattle.door.specs.Outcome.{refused, notAcceptable}
+use Rattle.door.specs.Outcome.{refused}
+use Rattle.outline.specs.Refusals.{notAcceptable}
 use Rattle.door.specs.Readings.{reading, whole}
 use Rattle.card.specs.FromC.{readingOfC, missingKind, wholeKind, inchesKind, millimetresKind}
 use Rattle.card.specs.declared.CReading.{CReading}

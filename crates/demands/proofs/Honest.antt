@@ -10,20 +10,20 @@ use lib.IntN.{ℤ, pos, negsuc}
 use lib.Dec.{leb, ltb}
 use lib.Ieee.{Float}
 use Rattle.door.specs.Exact.{within, nearestTo}
-use Rattle.door.specs.Outcome.{accepted, refused, notAcceptable}
+use Rattle.door.specs.Outcome.{accepted, refused}
+use Rattle.outline.specs.Refusals.{notAcceptable, orElse, badZ, full}
 use Rattle.door.specs.Readings.{mostReading, whole, converted, inches, millimetres, reading, month}
 use Rattle.door.specs.declared.Reading.{Reading}
 use Rattle.door.specs.declared.Reading.the-variants.{Whole, Inches, Millimetres, Missing}
-use Rattle.runs.specs.Runs.{zFits}
+use Rattle.outline.specs.Numbers.{zFits}
 use Rattle.runs.specs.Start.{startRefusal}
 use Rattle.runs.specs.declared.Run.{Run}
 use Rattle.runs.proofs.RunLaws.{start-is-run}
 use Rattle.drought.specs.Columns.{Columns, long, columnsFit}
 use Rattle.drought.specs.Ready.{Good}
 use Rattle.drought.proofs.Accepts.{good-passes}
-use Rattle.drought.specs.Refusals.{orElse, badZ, full, runRefusal, roomRefusal, waterRefusal, zRefusal}
-use Rattle.demands.specs.Months.{Ask, water, anomaly, asked, State, after, afterAll}
-use Rattle.demands.specs.Months.{inches as both-inches}
+use Rattle.drought.specs.Refusals.{runRefusal, roomRefusal, waterRefusal, zRefusal}
+use Rattle.demands.specs.Months.{Ask, water, anomaly, asked, State, after, afterAll, inches as both-inches}
 use Rattle.demands.proofs.Took.{took, good-kept}
 use Rattle.demands.specs.Demands.{numberOf, Honest, begun}
 use Rattle.demands.proofs.Shown.{refused-add}

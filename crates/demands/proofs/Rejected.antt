@@ -18,7 +18,8 @@ use Rattle.door.specs.declared.Reading.the-variants.{Missing}
 use Rattle.water.specs.Layers.{surfaceHolds, underlyingHolds}
 use Rattle.spells.specs.Spells.{turn, uOf, vOf, eOf, qOf, endingOf, percentOf, raised, lowered, largerInSize, provisional, steadyMonth, abatingValues, abatingMonth, founded, unfounded, tried, noSpell, endingMonth, inForce, stepOf}
 use Rattle.runs.specs.Ranges.{limitOf, constantFits, constantsFitTo, calendarFits, nextCalendar}
-use Rattle.runs.specs.Runs.{lengthFits, zFits, soilFits, sizesFit, signsFit, vFits, isRun}
+use Rattle.runs.specs.Runs.{soilFits, sizesFit, signsFit, vFits, isRun}
+use Rattle.outline.specs.Numbers.{lengthFits, zFits}
 use Rattle.runs.specs.Start.{freshRun}
 use Rattle.runs.specs.declared.Run.{Run}
 use Rattle.drought.specs.Columns.{Columns, columns, long, lengthsFit, columnsFit}
@@ -26,7 +27,7 @@ use Rattle.drought.specs.Refusals.{runRefusal, roomRefusal, waterRefusal, zRefu
 use Rattle.drought.specs.Calls.{Result, taken, addOutcomes, addWater, addZ, rowOfRun}
 use Rattle.drought.specs.declared.Figures.{Figures}
 use Rattle.drought.specs.declared.Shown.{Shown}
-use Rattle.drought.proofs.Refused.{or-first}
+use Rattle.outline.proofs.Refusals.{or-first}
 
 -- ---- the months that tell
 abbrev minus : ℕ → ℤ

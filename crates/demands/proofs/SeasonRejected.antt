@@ -17,10 +17,12 @@ use Rattle.water.specs.Balance.{underLoss, balanceOf, wetMonth, toSurface, toUn
 use Rattle.water.specs.Expected.{potentialSurface, potentialUnderlying, potentialsOf, nOf, expectedOf, zOf, monthOf}
 use Rattle.spells.specs.Spells.{turn, uOf, vOf, eOf, qOf, endingOf, percentOf, raised, lowered, largerInSize, provisional, steadyMonth, abatingValues, abatingMonth, founded, unfounded, tried, noSpell, endingMonth, inForce, stepOf}
 use Rattle.runs.specs.Ranges.{limitOf, constantFits, constantsFitTo, constantsAt, calendarFits, nextCalendar}
-use Rattle.runs.specs.Runs.{lengthFits, zFits, soilFits, sizesFit, signsFit, vFits, isRun}
+use Rattle.runs.specs.Runs.{soilFits, sizesFit, signsFit, vFits, isRun}
+use Rattle.outline.specs.Numbers.{lengthFits, zFits}
 use Rattle.runs.specs.declared.Run.{Run}
 use Rattle.drought.specs.Columns.{Columns, long, lengthsFit, columnsFit}
-use Rattle.drought.specs.Refusals.{badLists, notARun, runRefusal, roomRefusal, waterRefusal}
+use Rattle.drought.specs.Refusals.{runRefusal, roomRefusal, waterRefusal}
+use Rattle.outline.specs.Refusals.{badLists, notARun}
 use Rattle.drought.specs.Figures.{noFigures}
 use Rattle.drought.specs.Calls.{taken, takenWater, addOutcomes, addWater}
 use Rattle.drought.specs.declared.Figures.{Figures}

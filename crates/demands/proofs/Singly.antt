@@ -9,15 +9,14 @@ use lib.IntN.{ℤ}
 use lib.ListN.{length, take, length-map}
 use borrow.Author.Tests.{lt-ltb}
 use Rattle.hindsight.specs.Rule.{Row}
-use Rattle.hindsight.specs.Adding.{addAll}
-use Rattle.hindsight.specs.Adding.{History}
+use Rattle.hindsight.specs.Adding.{addAll, History}
 use Rattle.hindsight.specs.Columns.{rowsOf}
 use Rattle.hindsight.specs.Months.{nextValues, rowOfZ, rowsOfZ}
 use Rattle.hindsight.proofs.Adding.{series-is-adding}
-use Rattle.runs.specs.Runs.{zFits}
+use Rattle.outline.specs.Numbers.{zFits}
 use Rattle.runs.specs.Start.{startRefusal, freshRun}
 use Rattle.runs.specs.declared.Run.{Run}
-use Rattle.runs.proofs.Outcomes.{first, second}
+use Rattle.outline.proofs.Tests.{first, second}
 use Rattle.runs.proofs.RunLaws.{start-is-run}
 use Rattle.series.specs.Series.{allZFit, seriesRefusal, filled, filledWith, wholeSeries}
 use Rattle.drought.specs.Columns.{Columns, long, columnsFit}

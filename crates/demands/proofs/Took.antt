@@ -6,7 +6,7 @@ use Prim.Native.Nat.{suc, _≤_, _<_}
 use native.Mathlib.Omega.{arith}
 use lib.IntN.{natAbs}
 use lib.ListN.{length, drop, set}
-use Rattle.exact.specs.Next.{mostZ}
+use Rattle.outline.specs.Numbers.{mostZ}
 use Rattle.door.specs.Outcome.{Outcome}
 use Rattle.door.specs.Readings.{mostReading, reading, month}
 use Rattle.door.proofs.Bounds.{reading-most, inches-most}
@@ -26,8 +26,7 @@ use Rattle.drought.proofs.Refused.{z-passes}
 use Rattle.drought.proofs.Readiness.{run-is, lengths-are}
 use Rattle.drought.proofs.Taken.{row-is}
 use Rattle.drought.proofs.Keeps.{wrote-index, wrote-mark}
-use Rattle.drought.proofs.Accepts.{unless-zero, good-taken}
-use Rattle.drought.proofs.Accepts.{took-water as water-took}
+use Rattle.drought.proofs.Accepts.{unless-zero, good-taken, took-water as water-took}
 use Rattle.demands.specs.Months.{Ask, water, inches, anomaly, asked, State, stateOf, after, stationOf, zFor, soilFor, waterFor, stationNext, stationRow}
 
 -- a month that was taken

@@ -11,7 +11,8 @@ use mir.Syntax.{w32}
 use mir.Val.{Fits}
 use borrow.Author.Tests.{leb-true, le-leb}
 use Rattle.door.specs.Exact.{within, nearestTo}
-use Rattle.door.specs.Outcome.{Outcome, accepted, refused, notAcceptable}
+use Rattle.door.specs.Outcome.{Outcome, accepted, refused}
+use Rattle.outline.specs.Refusals.{notAcceptable}
 use Rattle.door.proofs.Range.{at, inside, over, under, widened}
 use Rattle.door.specs.Readings.{converted, whole, mostReading}
 

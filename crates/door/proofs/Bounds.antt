@@ -13,7 +13,8 @@ use borrow.Author.Tests.{leb-true}
 use Rattle.exact.specs.Nearest.{nearestℕ}
 use Rattle.exact.proofs.Nearest.{near-within}
 use Rattle.door.specs.Exact.{within, nearestTo}
-use Rattle.door.specs.Outcome.{Outcome, accepted, refused, notAcceptable}
+use Rattle.door.specs.Outcome.{Outcome, accepted, refused}
+use Rattle.outline.specs.Refusals.{notAcceptable}
 use Rattle.door.specs.Readings.{mostReading, whole, converted, inches, millimetres, reading, month}
 use Rattle.door.specs.declared.Reading.{Reading}
 use Rattle.door.specs.declared.Reading.the-variants.{Whole, Inches, Millimetres, Missing}

@@ -3,7 +3,8 @@
 use mathlib.Core.Path.{_≡_, refl, sym, ap, ap₂, _∙_}
 use mathlib.Core.Bool.{cond}
 use lib.Dec.{eqb}
-use Rattle.door.specs.Outcome.{Outcome, MonthOutcomes, outcome, outcomes, missing}
+use Rattle.door.specs.Outcome.{Outcome, MonthOutcomes, outcome, outcomes}
+use Rattle.outline.specs.Refusals.{missing}
 use Rattle.door.specs.declared.Answer.{Answer}
 use Rattle.door.specs.declared.Answer.the-variants.{Water, NoReading, NotAcceptable}
 use Rattle.door.specs.declared.MonthAnswers.{MonthAnswers}

@@ -1,6 +1,7 @@
 -- An answer in the paper's terms: its number in the table of refusals, and its thousandths of an inch. `outcome` gives both for each case
 -- of the code's enum `Answer`, and no two cases the same (proofs/OneAnswer.antt). Assumes nothing.
 use Prim.Native.Nat.{ℕ}
+use Rattle.outline.specs.Refusals.{missing, notAcceptable}
 use Rattle.door.specs.declared.Answer.{Answer}
 use Rattle.door.specs.declared.Answer.the-variants.{Water, NoReading, NotAcceptable}
 use Rattle.door.specs.declared.MonthAnswers.{MonthAnswers}
@@ -16,14 +17,6 @@ accepted n = record { number = 0; water = n }
 -- "A refusal returns its number with all figures 0"
 abbrev pub refused : ℕ → Outcome
 refused k = record { number = k; water = 0 }
-
--- 8: reading missing
-abbrev pub missing : ℕ
-missing = 8
-
--- 9: reading not acceptable
-abbrev pub notAcceptable : ℕ
-notAcceptable = 9
 
 abbrev pub outcome : Answer → Outcome
 outcome (Water n) = accepted n

@@ -6,7 +6,8 @@ use lib.IntN.{ℤ, pos, negsuc}
 use lib.Dec.{leb}
 use lib.Ieee.{Float}
 use Rattle.door.specs.Exact.{within, nearestTo}
-use Rattle.door.specs.Outcome.{Outcome, MonthOutcomes, accepted, refused, missing, notAcceptable}
+use Rattle.door.specs.Outcome.{Outcome, MonthOutcomes, accepted, refused}
+use Rattle.outline.specs.Refusals.{missing, notAcceptable}
 use Rattle.door.specs.declared.Reading.{Reading}
 use Rattle.door.specs.declared.Reading.the-variants.{Whole, Inches, Millimetres, Missing}
 use Rattle.door.specs.declared.MonthInches.{MonthInches}

@@ -8,22 +8,21 @@ use native.Mathlib.Omega.{arith}
 use lib.IntN.{ℤ, natAbs}
 use lib.Seq.{length-take-le}
 use lib.ListN.{length, drop, length-append, length-drop, length-take, length-replicate, length-set}
-use Rattle.exact.specs.Next.{mostZ}
+use Rattle.outline.specs.Numbers.{mostZ, mostU, mostMonths}
 use Rattle.water.specs.Layers.{SoilFits}
 use Rattle.water.specs.declared.Soil.{Soil}
-use Rattle.spells.specs.Values.{mostU, FitsWithin}
+use Rattle.spells.specs.Values.{FitsWithin}
 use Rattle.spells.specs.Spells.{stepOf}
 use Rattle.spells.specs.declared.With.{With}
 use Rattle.spells.specs.declared.Decision.{Decision}
 use Rattle.spells.specs.declared.Decision.the-variants.{Nothing, Decides}
 use Rattle.spells.proofs.Theorems.{values-kept}
 use Rattle.hindsight.specs.Rule.{X, Row}
-use Rattle.hindsight.specs.Adding.{settledAll, addAs, addMonth}
-use Rattle.hindsight.specs.Adding.{History}
+use Rattle.hindsight.specs.Adding.{settledAll, addAs, addMonth, History}
 use Rattle.hindsight.specs.Months.{rowFor}
 use Rattle.hindsight.specs.Columns.{xAt}
 use Rattle.hindsight.proofs.Adding.{length-xs}
-use Rattle.runs.specs.Runs.{isRun, mostMonths}
+use Rattle.runs.specs.Runs.{isRun}
 use Rattle.runs.specs.Ranges.{nextCalendar}
 use Rattle.runs.specs.RunFits.{RunFits}
 use Rattle.runs.specs.declared.Run.{Run}

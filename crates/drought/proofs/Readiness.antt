@@ -5,7 +5,8 @@ use Prim.Native.Nat.{ℕ, _≤_, _<_}
 use lib.Dec.{leb, eqb}
 use lib.ListN.{length}
 use borrow.Author.Tests.{eqb-true, leb-true}
-use Rattle.runs.specs.Runs.{mostMonths, lengthFits, isRun}
+use Rattle.runs.specs.Runs.{isRun}
+use Rattle.outline.specs.Numbers.{mostMonths, lengthFits}
 use Rattle.runs.specs.RunFits.{RunFits}
 use Rattle.runs.specs.declared.Run.{Run}
 use Rattle.runs.proofs.RunLaws.{run-fits, values-fit}

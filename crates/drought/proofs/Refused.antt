@@ -6,11 +6,12 @@ use native.Mathlib.Omega.{arith}
 use lib.IntN.{ℤ, natAbs}
 use lib.Dec.{ltb}
 use borrow.Author.Tests.{ltb-true, leb-true}
-use Rattle.exact.specs.Next.{mostZ}
-use Rattle.runs.specs.Runs.{isRun, zFits}
+use Rattle.outline.specs.Numbers.{mostZ, zFits}
+use Rattle.runs.specs.Runs.{isRun}
 use Rattle.runs.specs.declared.Run.{Run}
 use Rattle.drought.specs.Columns.{Columns}
-use Rattle.drought.specs.Refusals.{orElse, badLists, notARun, noSuchRow, badZ, runRefusal, roomRefusal, waterRefusal, zRefusal, rowRefusal}
+use Rattle.drought.specs.Refusals.{runRefusal, roomRefusal, waterRefusal, zRefusal, rowRefusal}
+use Rattle.outline.specs.Refusals.{orElse, badLists, notARun, noSuchRow, badZ}
 use Rattle.drought.specs.Calls.{Result, result, refusal, unless}
 use Rattle.drought.specs.declared.Added.{Added}
 

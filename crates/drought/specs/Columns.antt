@@ -6,7 +6,7 @@ use mathlib.Core.List.{List}
 use lib.IntN.{ℤ}
 use lib.Dec.{eqb}
 use lib.ListN.{length}
-use Rattle.runs.specs.Runs.{lengthFits}
+use Rattle.outline.specs.Numbers.{lengthFits}
 
 pub record Columns : Type 0 where
   pub x1 : List ℤ

@@ -7,7 +7,8 @@ use Rattle.water.specs.Layers.{SoilFits}
 use Rattle.spells.specs.Values.{ValuesFit}
 use Rattle.spells.specs.declared.Running.{Running}
 use Rattle.runs.specs.Ranges.{constantsFit, calendarFits}
-use Rattle.runs.specs.Runs.{mostMonths, isRun}
+use Rattle.runs.specs.Runs.{isRun}
+use Rattle.outline.specs.Numbers.{mostMonths}
 use Rattle.runs.specs.declared.Run.{Run}
 use Rattle.drought.specs.Columns.{Columns, long, columnsFit}
 

@@ -5,7 +5,8 @@ use Prim.Native.Nat.{ℕ, zero, suc}
 use mathlib.Core.Bool.{Bool, cond}
 use lib.IntN.{ℤ}
 use lib.Dec.{ltb}
-use Rattle.runs.specs.Runs.{isRun, zFits}
+use Rattle.runs.specs.Runs.{isRun}
+use Rattle.outline.specs.Numbers.{zFits}
 use Rattle.runs.specs.declared.Run.{Run}
 
 -- 1: the five columns, or the three lists of a whole series, not all of one length, or length 0 or above 2,400

@@ -16,7 +16,7 @@ use water::Soil;
 ghost use mathlib.Core.Path.{_≡_};
 ghost use Prim.Native.Nat.{_≤_};
 ghost use lib.IntN.{natAbs};
-ghost use Rattle.exact.specs.Next.{mostZ};
+ghost use Rattle.outline.specs.Numbers.{mostZ};
 ghost use Rattle.door.specs.Outcome.{outcome};
 ghost use Rattle.door.specs.Readings.{reading, mostReading};
 ghost use Rattle.runs.specs.Start.{startOf};

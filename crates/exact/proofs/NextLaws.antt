@@ -6,7 +6,8 @@ use native.Mathlib.Omega.{arith}
 use lib.IntN.{ℤ, pos, negℤ, natAbs, _+ℤ_, _*ℤ_}
 use lib.Signed.{_≤ℤ_}
 use Rattle.exact.specs.Nearest.{nearest}
-use Rattle.exact.specs.Next.{nextOf, weight, mostX, mostZ}
+use Rattle.exact.specs.Next.{nextOf}
+use Rattle.outline.specs.Numbers.{weight, mostX, mostZ}
 use Rattle.exact.proofs.Nearest.{nearest-within, nearest-mono, nearest-neg}
 use Rattle.exact.proofs.Z.{zs, zs-abs, is-Z}
 

@@ -2,19 +2,15 @@
 //
 // These functions serve the crates above. What a user of the index calls stands in the crates above
 // this one.
-
+use outline::NEXT_DIVISOR;
+use outline::WEIGHT_OF_X;
+use outline::WEIGHT_OF_Z;
 ghost use mathlib.Core.Path.{_≡_};
 ghost use Prim.Native.Nat.{ℕ, _≤_};
 ghost use lib.IntN.{pos, natAbs};
 ghost use Rattle.exact.specs.Nearest.{nearestℕ, nearest, clip};
-ghost use Rattle.exact.specs.Next.{nextOf, mostX, mostZ};
-
-// The weights of one step of an index: (2691 x + 1000 Z) / 3000.
-const OF_X: i64 = 2691;
-
-const OF_Z: i64 = 1000;
-
-const OVER: i64 = 3000;
+ghost use Rattle.exact.specs.Next.{nextOf};
+ghost use Rattle.outline.specs.Numbers.{mostX, mostZ};
 
 // The whole number nearest to n / d, halves up, and 0 where d is 0.
 pub fn nearest_unsigned(n: u64, d: u64) -> u64
@@ -53,5 +49,5 @@ pub fn next(x: i32, z: i32) -> i32
 {
     let a = x as i64;
     let b = z as i64;
-    nearest_signed(OF_X * a + OF_Z * b, OVER) as i32
+    nearest_signed(WEIGHT_OF_X * a + WEIGHT_OF_Z * b, NEXT_DIVISOR) as i32
 }

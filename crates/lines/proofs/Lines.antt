@@ -7,10 +7,11 @@ use Prim.Native.Nat.{ℕ}
 use native.Mathlib.Omega.{arith}
 use lib.Dec.{leb, eqb}
 use borrow.Author.Tests.{leb-true, leb-false, eqb-true}
-use Rattle.exact.specs.Next.{mostZ}
+use Rattle.outline.specs.Numbers.{mostZ}
 use Rattle.text.specs.Bytes.{minusSign, isDigit, allDigits, andDigit, negative, body, natural}
 use Rattle.text.proofs.Digits.{digit-range}
-use Rattle.lines.specs.Line.{Judged, refused, notANumber, oneOrMore, wellFormed, signed, value, ranged, judged}
+use Rattle.lines.specs.Line.{Judged, refused, oneOrMore, wellFormed, signed, value, ranged, judged}
+use Rattle.outline.specs.Refusals.{notANumber}
 use Rattle.lines.specs.Reading.{begun, held, opens, withDigit, withMinus, spoilt, fed, finished}
 use Rattle.lines.specs.declared.Line.{Line}
 use Rattle.lines.proofs.Sizes.{held-in, held-out, held-digit, ranged-in, ranged-out}

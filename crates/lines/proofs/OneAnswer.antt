@@ -3,13 +3,14 @@
 use mathlib.Core.Path.{_≡_, refl, sym, ap, _∙_}
 use mathlib.Core.Bool.{cond}
 use lib.Dec.{eqb}
-use Rattle.lines.specs.Line.{Judged, outOfRange}
+use Rattle.lines.specs.Line.{Judged}
+use Rattle.outline.specs.Refusals.{badZ}
 use Rattle.lines.specs.Reading.{readOf}
 use Rattle.lines.specs.declared.Read.{Read}
 use Rattle.lines.specs.declared.Read.the-variants.{Z, OutOfRange, NotANumber}
 
 abbrev from : Judged → Read
-from j = cond (eqb (j .number) 0) (Z (j .z)) (cond (eqb (j .number) outOfRange) OutOfRange NotANumber)
+from j = cond (eqb (j .number) 0) (Z (j .z)) (cond (eqb (j .number) badZ) OutOfRange NotANumber)
 
 from-read : (a : Read) → from (readOf a) ≡ a
 from-read (Z v) = refl

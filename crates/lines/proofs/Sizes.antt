@@ -7,11 +7,11 @@ use native.Mathlib.Omega.{arith}
 use lib.IntN.{natAbs}
 use lib.Dec.{leb}
 use borrow.Author.Tests.{leb-true, leb-false, le-leb, lt-leb}
-use Rattle.exact.specs.Next.{mostZ}
+use Rattle.outline.specs.Numbers.{mostZ, zFits}
 use Rattle.exact.proofs.Z.{abs-minus}
-use Rattle.runs.specs.Runs.{zFits}
 use Rattle.text.specs.Bytes.{andDigit}
-use Rattle.lines.specs.Line.{signed, ranged, accepted, refused, outOfRange}
+use Rattle.lines.specs.Line.{signed, ranged, accepted, refused}
+use Rattle.outline.specs.Refusals.{badZ}
 use Rattle.lines.specs.Reading.{held}
 
 -- ---- a size as it is kept
@@ -43,6 +43,6 @@ pub ranged-in : (m : Bool) (n : ℕ) → n ≤ mostZ → ranged (signed m n) ≡
 unfolding ranged zFits
 ranged-in m n h = rw (signed-size m n, le-leb n mostZ h)
 
-pub ranged-out : (m : Bool) (n : ℕ) → mostZ < n → ranged (signed m n) ≡ refused outOfRange
+pub ranged-out : (m : Bool) (n : ℕ) → mostZ < n → ranged (signed m n) ≡ refused badZ
 unfolding ranged zFits
 ranged-out m n h = rw (signed-size m n, lt-leb n mostZ h)

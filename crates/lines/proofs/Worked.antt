@@ -4,7 +4,7 @@ use mathlib.Core.Path.{_≡_, refl}
 use mathlib.Core.List.{List, [], _∷_}
 use Prim.Native.Nat.{ℕ}
 use lib.IntN.{pos, negsuc}
-use Rattle.runs.specs.Runs.{zFits}
+use Rattle.outline.specs.Numbers.{zFits}
 use Rattle.text.specs.Bytes.{isDigit, allDigits, negative, body, natural}
 use Rattle.lines.specs.Line.{Judged, accepted, refused, oneOrMore, wellFormed, signed, value, ranged, judged}
 

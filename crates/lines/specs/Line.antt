@@ -5,8 +5,9 @@ use Prim.Native.Nat.{ℕ}
 use mathlib.Core.Bool.{Bool, true, false, cond, _&&_}
 use mathlib.Core.List.{List, [], _∷_}
 use lib.IntN.{ℤ, pos, negℤ}
+use Rattle.outline.specs.Refusals.{badZ, notANumber}
 use Rattle.text.specs.Bytes.{allDigits, negative, body, natural}
-use Rattle.runs.specs.Runs.{zFits}
+use Rattle.outline.specs.Numbers.{zFits}
 
 -- ---- "an optional minus and one or more digits"
 unfoldable pub oneOrMore : List ℕ → Bool
@@ -36,17 +37,9 @@ accepted v = record { number = 0; z = v }
 abbrev pub refused : ℕ → Judged
 refused k = record { number = k; z = pos 0 }
 
--- 12: Z outside its range
-abbrev pub outOfRange : ℕ
-outOfRange = 12
-
--- 13: a line is not a whole number
-abbrev pub notANumber : ℕ
-notANumber = 13
-
 -- a number of which the line is well formed
 unfoldable pub ranged : ℤ → Judged
-ranged v = cond (zFits v) (accepted v) (refused outOfRange)
+ranged v = cond (zFits v) (accepted v) (refused badZ)
 
 unfoldable pub judged : List ℕ → Judged
 judged line = cond (wellFormed line) (ranged (value line)) (refused notANumber)

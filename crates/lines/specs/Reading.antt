@@ -4,9 +4,10 @@
 use Prim.Native.Nat.{ℕ, _+_}
 use mathlib.Core.Bool.{Bool, true, false, cond, not, _&&_, _||_}
 use lib.Dec.{leb, eqb}
-use Rattle.exact.specs.Next.{mostZ}
+use Rattle.outline.specs.Numbers.{mostZ}
 use Rattle.text.specs.Bytes.{minusSign, isDigit, andDigit}
-use Rattle.lines.specs.Line.{Judged, accepted, refused, outOfRange, notANumber, signed}
+use Rattle.lines.specs.Line.{Judged, accepted, refused, signed}
+use Rattle.outline.specs.Refusals.{badZ, notANumber}
 use Rattle.lines.specs.declared.Line.{Line}
 use Rattle.lines.specs.declared.Read.{Read}
 use Rattle.lines.specs.declared.Read.the-variants.{Z, OutOfRange, NotANumber}
@@ -37,11 +38,11 @@ fed l b = cond (isDigit b) (withDigit l b) (cond (opens l b) (withMinus l) (spoi
 unfoldable pub finished : Line → Judged
 finished l =
     cond (not (l .spoiled) && l .digits)
-    (cond (leb (l .size) mostZ) (accepted (signed (l .minus) (l .size))) (refused outOfRange))
+    (cond (leb (l .size) mostZ) (accepted (signed (l .minus) (l .size))) (refused badZ))
     (refused notANumber)
 
 -- an answer in the paper's terms
 abbrev pub readOf : Read → Judged
 readOf (Z v) = accepted v
-readOf OutOfRange = refused outOfRange
+readOf OutOfRange = refused badZ
 readOf NotANumber = refused notANumber

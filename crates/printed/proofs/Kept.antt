@@ -8,11 +8,11 @@ use lib.Signed.{_≤ℤ_, _<ℤ_}
 use mir.Syntax.{w32}
 use mir.Val.{SFits, toZ, ofZ}
 use mir.Facts.{toZ-ofZ}
-use Rattle.exact.specs.Next.{mostX, mostZ}
+use Rattle.outline.specs.Numbers.{mostX, mostZ, mostU}
 use Rattle.exact.proofs.Z.{Z, zs, is-Z, Z-pos}
 use Rattle.spells.specs.declared.Running.{Running}
 use Rattle.spells.specs.declared.SpellMonth.{SpellMonth}
-use Rattle.spells.specs.Values.{mostU, mostV, FitsWithin, ValuesFit}
+use Rattle.spells.specs.Values.{mostV, FitsWithin, ValuesFit}
 use Rattle.spells.specs.Spells.{stepOf}
 use Rattle.spells.proofs.Theorems.{values-kept}
 

@@ -3,7 +3,7 @@ use super::amounts;
 use spells::Running;
 use spells::SpellMonth;
 ghost use Prim.Native.Nat.{_≤_, _<_};
-ghost use Rattle.exact.specs.Next.{mostX};
+ghost use Rattle.outline.specs.Numbers.{mostX};
 ghost use Rattle.spells.specs.Values.{FitsWithin};
 
 // What the months came to. A month that the series does not reach holds 0.

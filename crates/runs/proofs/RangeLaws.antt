@@ -14,9 +14,10 @@ use lib.ListN.{getD}
 use lib.Signed.{leZ, _≤ℤ_}
 use Rattle.exact.proofs.Z.{zs, zs-abs, is-Z, le-yes}
 use Rattle.water.specs.Layers.{leastCapacity, mostCapacity, surfaceHolds, underlyingHolds}
-use Rattle.runs.specs.Ranges.{manyOfAMonth, lastMonth, limitOf, constantFits, fiveFit, constantsFitTo, calendarFits}
+use Rattle.runs.specs.Ranges.{limitOf, constantFits, fiveFit, constantsFitTo, calendarFits}
+use Rattle.outline.specs.Numbers.{manyOfAMonth, lastMonth}
 use Rattle.runs.specs.Start.{upTo, capacityFits, storagesFit, monthFits}
-use Rattle.runs.proofs.Outcomes.{first, second, both}
+use Rattle.outline.proofs.Tests.{first, second, both}
 
 -- ---- the calendar
 pub calendar-is : (m : ℕ) → calendarFits m ≡ true → (1 ≤ m) × (m ≤ lastMonth)

@@ -11,19 +11,20 @@ use lib.Dec.{leb}
 use lib.IntN.{ℤ, pos, natAbs}
 use lib.ListN.{getD}
 use lib.Signed.{leZ, ltZ, _<ℤ_}
-use Rattle.exact.specs.Next.{mostX}
+use Rattle.outline.specs.Numbers.{mostX, manyConstants, manyOfAMonth, lastMonth, mostMonths}
 use Rattle.exact.proofs.Z.{le-yes, le-no, lt-yes}
 use Rattle.water.specs.Layers.{leastCapacity, mostCapacity, surfaceHolds, underlyingHolds, SoilFits}
 use Rattle.water.specs.Constants.{ConstantsFit}
 use Rattle.water.specs.declared.Soil.{Soil}
 use Rattle.spells.specs.Values.{ValuesFit}
-use Rattle.runs.specs.Ranges.{manyConstants, manyOfAMonth, limitOf, constantsFit, placeOf, constantsAt, lastMonth, calendarFits, nextCalendar}
-use Rattle.runs.specs.Runs.{mostMonths, soilFits, sizesFit, signsFit, vFits, isRun}
+use Rattle.runs.specs.Ranges.{limitOf, constantsFit, placeOf, constantsAt, calendarFits, nextCalendar}
+use Rattle.runs.specs.Runs.{soilFits, sizesFit, signsFit, vFits, isRun}
 use Rattle.runs.specs.RunFits.{RunFits}
 use Rattle.runs.specs.Start.{startRefusal, freshRun, startOf}
 use Rattle.runs.specs.declared.Run.{Run}
 use Rattle.runs.specs.declared.Started.{Started}
-use Rattle.runs.proofs.Outcomes.{first, second, both, le-is, le-not, lt-is, natural}
+use Rattle.runs.proofs.Outcomes.{le-is, le-not, lt-is, natural}
+use Rattle.outline.proofs.Tests.{first, second, both}
 use Rattle.runs.proofs.RangeLaws.{calendar-is, is-calendar, capacity-is, surface-is, underlying-is, month-is, each-fits, constant-is}
 use Rattle.runs.proofs.StartLaws.{start-fits}
 

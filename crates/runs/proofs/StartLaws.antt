@@ -3,14 +3,16 @@
 use mathlib.Core.Path.{_≡_, refl, sym}
 use mathlib.Core.Bool.{Bool, true, false, cond}
 use mathlib.Core.List.{List}
-use Prim.Native.Nat.{ℕ, zero, suc}
+use Prim.Native.Nat.{ℕ, suc}
 use native.Mathlib.Omega.{arith}
 use borrow.Author.Tests.{eq-eqb, ne-eqb, eqb-true}
 use lib.Dec.{eqb}
 use lib.IntN.{ℤ}
 use lib.ListN.{length}
-use Rattle.runs.specs.Ranges.{manyConstants, constantsFit}
-use Rattle.runs.specs.Start.{capacityFits, storagesFit, monthFits, startRefusal, zeroRun, freshRun, startedWith, startOf}
+use Rattle.runs.specs.Ranges.{constantsFit}
+use Rattle.outline.specs.Numbers.{manyConstants}
+use Rattle.runs.specs.Start.{capacityFits, storagesFit, monthFits, startRefusal, zeroRun, freshRun, started, startOf}
+use Rattle.outline.proofs.Refusals.{is-refused}
 
 -- a start of which nothing is out of range
 pub record StartFits (cs : List ℤ) (c ss su m : ℤ) : Type 0 where
@@ -75,11 +77,7 @@ module _ (cs : List ℤ) (c ss su m : ℤ) where
   -- a refused start answers with its number and a run of all zeros
   pub refused-start : (n : ℕ) → n ≡ startRefusal cs c ss su m → (n ≡ 0 → ⊥) → startOf cs c ss su m ≡ record { number = n; run = zeroRun }
   unfolding startOf
-  refused-start n e h = rw (sym e) (other n h)
-    where
-      other : (n : ℕ) → (n ≡ 0 → ⊥) → startedWith n (freshRun cs c ss su m) ≡ record { number = n; run = zeroRun }
-      other zero h = absurd (h refl)
-      other (suc k) h = refl
+  refused-start n e h = rw (sym e) (is-refused n (started 0 (freshRun cs c ss su m)) (started n zeroRun) h)
 
   -- any other with 0 and the fresh run
   pub begun : startRefusal cs c ss su m ≡ 0 → startOf cs c ss su m ≡ record { number = 0; run = freshRun cs c ss su m }

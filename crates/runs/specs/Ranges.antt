@@ -6,15 +6,9 @@ use lib.IntN.{ℤ, pos, natAbs}
 use lib.Signed.{leZ}
 use lib.Dec.{leb}
 use lib.ListN.{getD}
+use Rattle.outline.specs.Numbers.{manyConstants, manyOfAMonth, lastMonth}
 use Rattle.water.specs.Constants.{mostShare, mostGamma, mostK}
 use Rattle.water.specs.declared.Constants.{Constants}
-
--- "Sixty constants, January first, each month in the order alpha, beta, gamma, delta, K."
-abbrev pub manyConstants : ℕ
-manyConstants = 60
-
-abbrev pub manyOfAMonth : ℕ
-manyOfAMonth = 5
 
 -- the most of a month's five constants in turn
 unfoldable pub limitOf : ℕ → ℕ
@@ -55,9 +49,6 @@ constantsAt l month =
     }
 
 -- "calendar month not 1 to 12": not so
-abbrev pub lastMonth : ℕ
-lastMonth = 12
-
 unfoldable pub calendarFits : ℕ → Bool
 calendarFits m = leb 1 m && leb m lastMonth
 

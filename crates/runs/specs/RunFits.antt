@@ -5,11 +5,10 @@ use mathlib.Core.Bool.{true}
 use Prim.Native.Nat.{ℕ, _*_, _≤_}
 use lib.IntN.{pos, natAbs}
 use lib.Signed.{_≤ℤ_, _<ℤ_}
-use Rattle.exact.specs.Next.{mostX}
+use Rattle.outline.specs.Numbers.{mostX, mostU, lastMonth}
 use Rattle.water.specs.Layers.{SoilFits}
 use Rattle.water.specs.Constants.{ConstantsFit}
-use Rattle.spells.specs.Values.{mostU}
-use Rattle.runs.specs.Ranges.{constantsFit, constantsAt, lastMonth}
+use Rattle.runs.specs.Ranges.{constantsFit, constantsAt}
 use Rattle.runs.specs.declared.Run.{Run}
 
 -- a run, for columns of this length

@@ -4,25 +4,12 @@ use mathlib.Core.Bool.{Bool, _&&_, _||_}
 use lib.IntN.{ℤ, pos, natAbs}
 use lib.Signed.{leZ, ltZ}
 use lib.Dec.{leb}
-use Rattle.exact.specs.Next.{mostX, mostZ}
+use Rattle.outline.specs.Numbers.{mostX, mostZ, mostU}
 use Rattle.water.specs.Layers.{leastCapacity, mostCapacity, surfaceHolds, underlyingHolds}
 use Rattle.water.specs.declared.Soil.{Soil}
-use Rattle.spells.specs.Values.{mostU}
 use Rattle.spells.specs.declared.Running.{Running}
 use Rattle.runs.specs.Ranges.{constantsFit, calendarFits}
 use Rattle.runs.specs.declared.Run.{Run}
-
--- "A run holds 0 to 2,400 months": the longest that lent lists may be
-abbrev pub mostMonths : ℕ
-mostMonths = 2400
-
--- a length that lent lists may have: not "length 0 or above 2,400"
-unfoldable pub lengthFits : ℕ → Bool
-lengthFits n = leb 1 n && leb n mostMonths
-
--- "Z given directly: -4,000,000 to 4,000,000."
-unfoldable pub zFits : ℤ → Bool
-zFits z = leb (natAbs z) mostZ
 
 -- "capacity or storages out of range": not so
 unfoldable pub soilFits : Soil → Bool

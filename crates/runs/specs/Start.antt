@@ -6,9 +6,11 @@ use lib.IntN.{ℤ, pos, natAbs}
 use lib.Signed.{leZ}
 use lib.Dec.{eqb}
 use lib.ListN.{length, replicate}
+use Rattle.outline.specs.Refusals.{notSixty, badConstant, badCapacity, badStorage, badMonth, unlessRefused}
 use Rattle.water.specs.Layers.{leastCapacity, mostCapacity, surfaceHolds, underlyingHolds}
 use Rattle.spells.specs.Values.{fresh}
-use Rattle.runs.specs.Ranges.{manyConstants, constantsFit, lastMonth}
+use Rattle.runs.specs.Ranges.{constantsFit}
+use Rattle.outline.specs.Numbers.{manyConstants, lastMonth}
 use Rattle.runs.specs.declared.Run.{Run}
 use Rattle.runs.specs.declared.Started.{Started}
 
@@ -32,8 +34,8 @@ monthFits m = leZ (pos 1) m && leZ m (pos lastMonth)
 unfoldable pub startRefusal : List ℤ → ℤ → ℤ → ℤ → ℤ → ℕ
 startRefusal constants c ss su m =
     cond (eqb (length constants) manyConstants)
-    (cond (constantsFit constants) (cond (capacityFits c) (cond (storagesFit c ss su) (cond (monthFits m) 0 6) 5) 4) 3)
-    2
+    (cond (constantsFit constants) (cond (capacityFits c) (cond (storagesFit c ss su) (cond (monthFits m) 0 badMonth) badStorage) badCapacity) badConstant)
+    notSixty
 
 -- "A refusal returns its number .. (a refused start: all zeros)"
 abbrev pub zeroRun : Run
@@ -59,9 +61,10 @@ freshRun constants c ss su m =
       constants = constants;
     }
 
-abbrev pub startedWith : ℕ → Run → Started
-startedWith zero r = record { number = 0; run = r }
-startedWith (suc k) r = record { number = suc k; run = zeroRun }
+abbrev pub started : ℕ → Run → Started
+started k r = record { number = k; run = r }
 
 unfoldable pub startOf : List ℤ → ℤ → ℤ → ℤ → ℤ → Started
-startOf constants c ss su m = startedWith (startRefusal constants c ss su m) (freshRun constants c ss su m)
+startOf constants c ss su m =
+    let k = startRefusal constants c ss su m in
+    unlessRefused k (started 0 (freshRun constants c ss su m)) (started k zeroRun)

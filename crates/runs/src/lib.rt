@@ -1,6 +1,18 @@
 // A run: what it holds, when it is one, and how it starts.
 //
 // The functions that take a `requires` are for the crate above, which refuses first.
+use outline::BAD_CAPACITY;
+use outline::BAD_CONSTANT;
+use outline::BAD_MONTH;
+use outline::BAD_STORAGE;
+use outline::LAST_MONTH;
+use outline::MANY_CONSTANTS;
+use outline::MANY_OF_A_MONTH;
+use outline::MOST_MONTHS;
+use outline::MOST_U;
+use outline::MOST_X;
+use outline::MOST_Z;
+use outline::NOT_SIXTY;
 use spells::Running;
 use water::Constants;
 use water::Soil;
@@ -11,8 +23,9 @@ ghost use lib.IntN.{pos, natAbs};
 ghost use lib.Signed.{_≤ℤ_, leZ};
 ghost use lib.Dec.{leb};
 ghost use lib.ListN.{length};
-ghost use Rattle.runs.specs.Ranges.{manyConstants, manyOfAMonth, limitOf, constantFits, fiveFit, constantsFit, constantsAt, calendarFits, nextCalendar};
-ghost use Rattle.runs.specs.Runs.{lengthFits, zFits, soilFits, sizesFit, signsFit, vFits, isRun};
+ghost use Rattle.runs.specs.Ranges.{limitOf, constantFits, fiveFit, constantsFit, constantsAt, calendarFits, nextCalendar};
+ghost use Rattle.outline.specs.Numbers.{manyConstants, manyOfAMonth, lengthFits, zFits};
+ghost use Rattle.runs.specs.Runs.{soilFits, sizesFit, signsFit, vFits, isRun};
 ghost use Rattle.runs.specs.Start.{capacityFits, storagesFit, monthFits, startRefusal, zeroRun, startOf};
 
 // A run, handed in and back by value.
@@ -35,13 +48,6 @@ pub struct Started {
     pub run: Run,
 }
 
-const LAST_MONTH: u32 = 12;
-
-// Sixty constants, five to a calendar month.
-const MANY_CONSTANTS: usize = 60;
-
-const MANY_OF_A_MONTH: usize = 5;
-
 // The most of alpha, beta and delta, of gamma, and of K.
 const MOST_SHARE: u32 = 10_000;
 
@@ -52,11 +58,6 @@ const MOST_K: u32 = 100_000;
 const LEAST_CAPACITY: u32 = 1_000;
 
 const MOST_CAPACITY: u32 = 30_000;
-
-// The most of an X in size, and of what a month can add to V.
-const MOST_X: i64 = 13_000_000;
-
-const MOST_U: i64 = 4_000_150;
 
 // From the least to the most, both let in.
 fn between(least: u32, n: u32, most: u32) -> bool
@@ -289,21 +290,21 @@ fn start_refusal(constants: &[i32], c: i32, ss: i32, su: i32, m: i32) -> u8
     ensures { λ r. ⌜ r ≡ startRefusal (now (constants .entry)) c ss su m ⌝ }
 {
     if constants.len() != MANY_CONSTANTS {
-        return 2;
+        return NOT_SIXTY;
     }
     let constants_in = constants_fit(constants);
     let capacity_in = capacity_fits(c);
     if !constants_in {
-        return 3;
+        return BAD_CONSTANT;
     }
     if !capacity_in {
-        return 4;
+        return BAD_CAPACITY;
     }
     if !storages_fit(c, ss, su) {
-        return 5;
+        return BAD_STORAGE;
     }
     if !month_fits(m) {
-        return 6;
+        return BAD_MONTH;
     }
     0
 }
@@ -378,11 +379,6 @@ pub fn start(constants: &[i32], capacity: i32, surface: i32, underlying: i32, mo
     };
     Started { number: 0, run }
 }
-
-// The longest that lent lists may be.
-const MOST_MONTHS: usize = 2_400;
-
-const MOST_Z: i32 = 4_000_000;
 
 // A length that lent lists may have.
 pub fn length_fits(n: usize) -> bool

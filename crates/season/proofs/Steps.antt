@@ -21,10 +21,11 @@ use Rattle.door.specs.declared.Reading.the-variants.{Whole, Missing}
 use Rattle.door.proofs.Bounds.{reading-most}
 use Rattle.spells.specs.Spells.{stepOf}
 use Rattle.hindsight.specs.Months.{rowFor}
-use Rattle.runs.specs.Runs.{mostMonths}
+use Rattle.outline.specs.Numbers.{mostMonths}
 use Rattle.runs.specs.declared.Run.{Run}
 use Rattle.drought.specs.Columns.{Columns, long, columnsFit}
-use Rattle.drought.specs.Refusals.{orElse, runRefusal, roomRefusal, waterRefusal}
+use Rattle.drought.specs.Refusals.{runRefusal, roomRefusal, waterRefusal}
+use Rattle.outline.specs.Refusals.{orElse}
 use Rattle.drought.specs.Ready.{Good}
 use Rattle.drought.specs.Figures.{waterFigures}
 use Rattle.drought.specs.Calls.{Result, result, refusal, taken, takenWater, soilAfter, waterOf, heldBy, unless, addOutcomes, addWater}
@@ -32,7 +33,8 @@ use Rattle.drought.specs.declared.Added.{Added}
 use Rattle.drought.proofs.Taken.{counts-most}
 use Rattle.drought.proofs.Accepts.{good-passes, took-water, good-taken}
 use Rattle.drought.proofs.Readiness.{lengths-are, run-is}
-use Rattle.drought.proofs.Refused.{or-second, refuses, accepts}
+use Rattle.drought.proofs.Refused.{refuses, accepts}
+use Rattle.outline.proofs.Refusals.{or-second}
 use Rattle.season.specs.declared.Season.{Season}
 use Rattle.season.specs.Season.{SeasonResult, seasonResult, listed, joined, stopped, onlyIf, single, addEach}
 

@@ -11,8 +11,7 @@ use lib.IntN.{ℤ, pos, natAbs}
 use lib.ListN.{length, getD, drop}
 use lib.Seq.{drop-cons}
 use borrow.Author.Tests.{leb-true, le-leb}
-use Rattle.exact.specs.Next.{mostZ}
-use Rattle.runs.specs.Runs.{zFits}
+use Rattle.outline.specs.Numbers.{mostZ, zFits}
 use Rattle.series.specs.Series.{allZFit}
 
 -- ---- the scan

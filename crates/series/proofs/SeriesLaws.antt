@@ -11,13 +11,14 @@ use lib.IntN.{ℤ}
 use lib.ListN.{length}
 use lib.Dec.{eqb, leb}
 use borrow.Author.Tests.{eqb-true, eq-eqb, leb-true, le-leb}
-use Rattle.runs.specs.Runs.{mostMonths, lengthFits}
+use Rattle.outline.specs.Numbers.{mostMonths, lengthFits}
 use Rattle.hindsight.specs.Rule.{forwardIndexes, forwardMarks}
 use Rattle.hindsight.specs.Adding.{addAll}
 use Rattle.hindsight.specs.Months.{rowsOfZ}
 use Rattle.hindsight.proofs.Adding.{series-is-adding}
 use Rattle.series.specs.Series.{allZFit, listsFit, seriesRefusal, Filled, filled, filledWith, wholeSeries}
-use Rattle.series.proofs.EachZ.{both, EachFits, each-fits, all-fit}
+use Rattle.series.proofs.EachZ.{EachFits, each-fits, all-fit}
+use Rattle.outline.proofs.Tests.{each}
 
 -- ---- the promise has one outcome
 

@@ -7,7 +7,8 @@ use mathlib.Core.List.{List, [], _∷_}
 use lib.IntN.{ℤ}
 use lib.Dec.{eqb}
 use lib.ListN.{length}
-use Rattle.runs.specs.Runs.{lengthFits, zFits}
+use Rattle.outline.specs.Refusals.{badLists, badZ, unlessRefused}
+use Rattle.outline.specs.Numbers.{lengthFits, zFits}
 use Rattle.hindsight.specs.Rule.{Row, forwardIndexes, forwardMarks}
 use Rattle.hindsight.specs.Months.{rowsOfZ}
 
@@ -22,7 +23,7 @@ listsFit z index mark = eqb index z && eqb mark z && lengthFits z
 
 -- "Whole series: 1, 12."
 unfoldable pub seriesRefusal : List ℤ → ℕ → ℕ → ℕ
-seriesRefusal z index mark = cond (listsFit (length z) index mark) (cond (allZFit z) 0 12) 1
+seriesRefusal z index mark = cond (listsFit (length z) index mark) (cond (allZFit z) 0 badZ) badLists
 
 -- its number, and what the two lists then hold
 pub record Filled : Type 0 where
@@ -34,9 +35,7 @@ abbrev pub filled : ℕ → List ℤ → List ℕ → Filled
 filled k index mark = record { number = k; index = index; mark = mark }
 
 -- a refusal writes nothing lent
-abbrev pub filledWith : ℕ → List Row → List ℤ → List ℕ → Filled
-filledWith zero rows index mark = filled 0 (forwardIndexes rows) (forwardMarks rows)
-filledWith (suc k) rows index mark = filled (suc k) index mark
-
 unfoldable pub wholeSeries : List ℤ → List ℤ → List ℕ → Filled
-wholeSeries z index mark = filledWith (seriesRefusal z (length index) (length mark)) (rowsOfZ z) index mark
+wholeSeries z index mark =
+    let k = seriesRefusal z (length index) (length mark) in
+    unlessRefused k (filled 0 (forwardIndexes (rowsOfZ z)) (forwardMarks (rowsOfZ z))) (filled k index mark)

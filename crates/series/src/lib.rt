@@ -4,7 +4,7 @@ ghost use mathlib.Core.Path.{_≡_};
 ghost use mathlib.Core.Bool.{true};
 ghost use Prim.Native.Nat.{_≤_};
 ghost use lib.ListN.{length};
-ghost use Rattle.runs.specs.Runs.{mostMonths};
+ghost use Rattle.outline.specs.Numbers.{mostMonths};
 ghost use Rattle.hindsight.specs.Rule.{forwardIndexes, forwardMarks};
 ghost use Rattle.hindsight.specs.Months.{rowsOfZ};
 ghost use Rattle.series.specs.Series.{allZFit, listsFit, seriesRefusal, filled, wholeSeries};

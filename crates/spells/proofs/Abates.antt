@@ -7,12 +7,12 @@ use native.Mathlib.Omega.{arith}
 use lib.IntN.{ℤ, pos, negsuc, negℤ, natAbs, _+ℤ_, _-ℤ_, _*ℤ_}
 use lib.Signed.{_≤ℤ_, _<ℤ_, leZ}
 use Rattle.exact.specs.Nearest.{nearest}
-use Rattle.exact.specs.Next.{nextOf, weight, mostZ}
+use Rattle.exact.specs.Next.{nextOf}
+use Rattle.outline.specs.Numbers.{weight, mostZ, mostU}
 use Rattle.exact.proofs.Nearest.{nearest-near}
 use Rattle.exact.proofs.NextLaws.{next-odd}
 use Rattle.exact.proofs.Z.{zs, is-Z, le-no}
 use Rattle.spells.specs.declared.Running.{Running}
-use Rattle.spells.specs.Values.{mostU}
 use Rattle.spells.specs.Spells.{steady, ended, abating, turn, uOf, vOf, eOf, qOf, endingOf}
 use Rattle.spells.specs.Months.{endingIn}
 

@@ -9,7 +9,8 @@ use lib.Dec.{leb, ltb, ltb→lt, leb→le}
 use lib.IntN.{ℤ, pos, negsuc, negℤ, natAbs, _-ℤ_, _*ℤ_}
 use lib.Signed.{_≤ℤ_, _<ℤ_, leZ, ltZ}
 use Rattle.exact.specs.Nearest.{clip}
-use Rattle.exact.specs.Next.{nextOf, mostX, mostZ}
+use Rattle.exact.specs.Next.{nextOf}
+use Rattle.outline.specs.Numbers.{mostX, mostZ}
 use Rattle.exact.proofs.Z.{zs, zs-abs, is-Z, le-yes}
 use Rattle.exact.proofs.NextLaws.{next-within}
 use Rattle.spells.specs.Values.{SidesFit}

@@ -10,7 +10,8 @@ use lib.Dec.{leb}
 use lib.IntN.{ℤ, pos, negsuc, negℤ, natAbs, negℤ-negℤ}
 use lib.Signed.{_≤ℤ_, _<ℤ_, <ℤ-irrefl}
 use Rattle.exact.specs.Nearest.{nearest, nearestℕ}
-use Rattle.exact.specs.Next.{nextOf, mostX}
+use Rattle.exact.specs.Next.{nextOf}
+use Rattle.outline.specs.Numbers.{mostX}
 use Rattle.exact.proofs.NextLaws.{next-odd}
 use Rattle.exact.proofs.Z.{Z, zs, zs-abs, is-Z, Z-pos, Z-minus}
 use Rattle.spells.specs.declared.Running.{Running}

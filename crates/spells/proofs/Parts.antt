@@ -6,11 +6,12 @@ use mathlib.Core.Bool.{Bool}
 use Prim.Native.Nat.{ℕ, _+_, _≤_}
 use native.Mathlib.Omega.{arith}
 use lib.IntN.{ℤ, pos, natAbs}
-use Rattle.exact.specs.Next.{nextOf, mostX, mostZ}
+use Rattle.exact.specs.Next.{nextOf}
+use Rattle.outline.specs.Numbers.{mostX, mostZ, mostU}
 use Rattle.exact.proofs.NextLaws.{next-within}
 use Rattle.spells.specs.declared.Running.{Running}
 use Rattle.spells.specs.declared.SpellMonth.{SpellMonth}
-use Rattle.spells.specs.Values.{mostU, SidesFit, FitsWithin}
+use Rattle.spells.specs.Values.{SidesFit, FitsWithin}
 use Rattle.spells.specs.Spells.{Ending, steady, ended, abating, turn, vOf, percentOf, provisional, steadyMonth, abatingValues, abatingMonth, founded, unfounded, tried, noSpell, endingMonth, stepOf}
 use Rattle.spells.specs.Months.{InForce, NoneInForce, endingIn, SpellIs, spell-is, x1Of, x2Of, Shows}
 use Rattle.spells.proofs.Choices.{sides-kept, larger-within, turn-size, provisional-x3}

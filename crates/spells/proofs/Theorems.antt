@@ -9,14 +9,15 @@ use native.Mathlib.Nat.{le-refl}
 use native.Mathlib.Omega.{arith}
 use lib.IntN.{ℤ, pos, negℤ, natAbs, _*ℤ_}
 use lib.Signed.{_≤ℤ_, _<ℤ_}
-use Rattle.exact.specs.Next.{nextOf, mostX, mostZ}
+use Rattle.exact.specs.Next.{nextOf}
+use Rattle.outline.specs.Numbers.{mostX, mostZ, mostU}
 use Rattle.exact.proofs.Z.{zs, is-Z}
 use Rattle.spells.specs.declared.Running.{Running}
 use Rattle.spells.specs.declared.With.the-variants.{X1, X2, X3}
 use Rattle.spells.specs.declared.Decision.{Decision}
 use Rattle.spells.specs.declared.Decision.the-variants.{Nothing, Decides}
 use Rattle.spells.specs.declared.SpellMonth.{SpellMonth}
-use Rattle.spells.specs.Values.{mostU, mostV, FitsWithin, ValuesFit}
+use Rattle.spells.specs.Values.{mostV, FitsWithin, ValuesFit}
 use Rattle.spells.specs.Spells.{Ending, steady, ended, abating, turn, vOf, qOf, steadyMonth, abatingValues, abatingMonth, noSpell, endingMonth, stepOf}
 use Rattle.spells.specs.Months.{InForce, endingIn, SpellIs, spell-is, x1Of, x2Of, Shows}
 use Rattle.spells.proofs.Cases.{by-month, step-ending}

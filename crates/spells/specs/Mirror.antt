@@ -3,6 +3,7 @@
 use mathlib.Core.Path.{_≡_}
 use lib.IntN.{ℤ, pos, negℤ, natAbs}
 use lib.Signed.{_≤ℤ_, _<ℤ_}
+use Rattle.outline.specs.Numbers.{foundsFrom}
 use Rattle.spells.specs.declared.Running.{Running}
 use Rattle.spells.specs.declared.With.{With}
 use Rattle.spells.specs.declared.With.the-variants.{X1, X2, X3}
@@ -32,8 +33,8 @@ mirrorMonth m =
 -- (a) "X1 at least 1,000: .. Else X2 at most -1,000": both could found a spell, and X1 is tried first
 pub record BothFound (s : Running) (z : ℤ) : Type 0 where
   pub found-none : NoSpell s z
-  pub found-x1 : pos 1000 ≤ℤ x1Of s z
-  pub found-x2 : x2Of s z ≤ℤ negℤ (pos 1000)
+  pub found-x1 : pos foundsFrom ≤ℤ x1Of s z
+  pub found-x2 : x2Of s z ≤ℤ negℤ (pos foundsFrom)
 
 -- (b) "Else X1 = 0: decides with X2": both are 0
 pub record BothZero (s : Running) (z : ℤ) : Type 0 where
@@ -45,5 +46,5 @@ pub record BothZero (s : Running) (z : ℤ) : Type 0 where
 pub record Tied (s : Running) (z : ℤ) : Type 0 where
   pub tied-none : NoSpell s z
   pub tied-some : x1Of s z ≡ pos 0 → ⊥
-  pub tied-low : x1Of s z <ℤ pos 1000
+  pub tied-low : x1Of s z <ℤ pos foundsFrom
   pub tied-size : natAbs (x1Of s z) ≡ natAbs (x2Of s z)

@@ -5,6 +5,7 @@ use mathlib.Core.Bool.{Bool}
 use mathlib.Core.Logic.{_⊎_}
 use lib.IntN.{ℤ, pos, negℤ}
 use lib.Signed.{_≤ℤ_, _<ℤ_}
+use Rattle.outline.specs.Numbers.{foundsFrom, inForceBeyond}
 use Rattle.exact.specs.Next.{nextOf}
 use Rattle.spells.specs.declared.Running.{Running}
 use Rattle.spells.specs.declared.With.the-variants.{X1, X2, X3}
@@ -15,11 +16,11 @@ use Rattle.spells.specs.Spells.{Ending, ended, turn, endingOf, raised, l
 
 -- "A drought is in force if last month's X3 is below -500, a wet spell if above 500"
 abbrev pub InForce : Bool → Running → Type 0
-InForce wet s = turn wet (s .x3) <ℤ negℤ (pos 500)
+InForce wet s = turn wet (s .x3) <ℤ negℤ (pos inForceBeyond)
 
 -- "Otherwise there is none"
 abbrev pub NoneInForce : Running → Type 0
-NoneInForce s = (negℤ (pos 500) ≤ℤ s .x3) × (s .x3 ≤ℤ pos 500)
+NoneInForce s = (negℤ (pos inForceBeyond) ≤ℤ s .x3) × (s .x3 ≤ℤ pos inForceBeyond)
 
 -- what the rules make of a spell, a drought or where `wet` a wet spell
 abbrev pub endingIn : Bool → Running → ℤ → Ending
@@ -58,11 +59,11 @@ abbrev pub Shows : Decision → SpellMonth → Type 0
 Shows (Decides X3) m = (m .index ≡ m .after .x3) × Zero (m .after .x1) × Zero (m .after .x2)
 -- "X1 at least 1,000: ..", or "X2 = 0: decides with X1"
 Shows (Decides X1) m =
-    (Founds m × pos 1000 ≤ℤ m .after .x3)
+    (Founds m × pos foundsFrom ≤ℤ m .after .x3)
     ⊎ ((m .index ≡ m .after .x1) × Zero (m .after .x3) × (Zero (m .after .x1) → ⊥) × Zero (m .after .x2))
 -- "X2 at most -1,000: ..", or "X1 = 0: decides with X2"
 Shows (Decides X2) m =
-    (Founds m × m .after .x3 ≤ℤ negℤ (pos 1000))
+    (Founds m × m .after .x3 ≤ℤ negℤ (pos foundsFrom))
     ⊎ ((m .index ≡ m .after .x2) × Zero (m .after .x3) × Zero (m .after .x1))
 -- "nothing is decided": a spell abates, or neither X1 nor X2 is 0
 Shows Nothing m =

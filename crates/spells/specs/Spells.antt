@@ -6,7 +6,8 @@ use lib.IntN.{ℤ, pos, negℤ, natAbs, _+ℤ_, _-ℤ_, _*ℤ_}
 use lib.Signed.{leZ, ltZ}
 use lib.Dec.{leb}
 use Rattle.exact.specs.Nearest.{nearest, clip}
-use Rattle.exact.specs.Next.{nextOf, weight}
+use Rattle.exact.specs.Next.{nextOf}
+use Rattle.outline.specs.Numbers.{weight, weightOfZ, inForceBeyond, foundsFrom, uOffset, eOffset}
 use Rattle.spells.specs.declared.Running.{Running}
 use Rattle.spells.specs.declared.With.the-variants.{X1, X2, X3}
 use Rattle.spells.specs.declared.Decision.{Decision}
@@ -22,7 +23,7 @@ turn true n = negℤ n
 
 -- "Drought: U = Z + 150,
 unfoldable pub uOf : ℤ → ℤ
-uOf z = z +ℤ pos 150
+uOf z = z +ℤ pos uOffset
 
 -- V = U + previous V,
 unfoldable pub vOf : ℤ → ℤ → ℤ
@@ -30,11 +31,11 @@ vOf v z = uOf z +ℤ v
 
 -- E = -2691 X3 - 1,500,000,
 unfoldable pub eOf : ℤ → ℤ
-eOf x3 = negℤ (pos weight *ℤ x3) -ℤ pos 1500000
+eOf x3 = negℤ (pos weight *ℤ x3) -ℤ pos eOffset
 
 -- Q = E + 1000 x previous V."
 unfoldable pub qOf : ℤ → ℤ → ℤ
-qOf x3 v = eOf x3 +ℤ pos 1000 *ℤ v
+qOf x3 v = eOf x3 +ℤ pos weightOfZ *ℤ v
 
 -- what becomes of a spell in force
 pub data Ending : Type 0 where
@@ -44,7 +45,7 @@ pub data Ending : Type 0 where
 
 -- "V at most 0: steady." "V above 0 and 1000 U at least E: ended." "Otherwise abating"
 unfoldable pub endingOf : ℤ → ℤ → ℤ → Ending
-endingOf x3 v z = cond (leZ (vOf v z) (pos 0)) steady (cond (leZ (eOf x3) (pos 1000 *ℤ uOf z)) ended abating)
+endingOf x3 v z = cond (leZ (vOf v z) (pos 0)) steady (cond (leZ (eOf x3) (pos weightOfZ *ℤ uOf z)) ended abating)
 
 -- "Percent is nearest to 100,000 V / Q, held within 1 to 99."
 unfoldable pub percentOf : ℤ → ℤ → ℕ
@@ -111,8 +112,8 @@ unfounded x1 x2 d index percent =
 -- Else X1 = 0: decides with X2. Else X2 = 0: decides with X1. Else nothing is decided."
 unfoldable pub tried : ℤ → ℤ → ℕ → SpellMonth
 tried x1 x2 percent =
-    cond (leZ (pos 1000) x1) (founded x1 (Decides X1) percent)
-    (cond (leZ x2 (negℤ (pos 1000))) (founded x2 (Decides X2) percent)
+    cond (leZ (pos foundsFrom) x1) (founded x1 (Decides X1) percent)
+    (cond (leZ x2 (negℤ (pos foundsFrom))) (founded x2 (Decides X2) percent)
     (cond (isZero x1) (unfounded x1 x2 (Decides X2) x2 percent)
     (cond (isZero x2) (unfounded x1 x2 (Decides X1) x1 percent)
     (unfounded x1 x2 Nothing (largerInSize x1 x2) percent))))
@@ -134,4 +135,4 @@ inForce wet s z = endingMonth (endingOf (turn wet (s .x3)) (turn wet (s .v)) (tu
 
 -- "A drought is in force if last month's X3 is below -500, a wet spell if above 500. Otherwise there is none, and X3 and V are read as 0."
 unfoldable pub stepOf : Running → ℤ → SpellMonth
-stepOf s z = cond (ltZ (s .x3) (negℤ (pos 500))) (inForce false s z) (cond (ltZ (pos 500) (s .x3)) (inForce true s z) (noSpell s z 0))
+stepOf s z = cond (ltZ (s .x3) (negℤ (pos inForceBeyond))) (inForce false s z) (cond (ltZ (pos inForceBeyond) (s .x3)) (inForce true s z) (noSpell s z 0))

@@ -2,12 +2,8 @@
 use Prim.Native.Nat.{ℕ, _≤_}
 use lib.IntN.{ℤ, pos, natAbs}
 use lib.Signed.{_≤ℤ_, _<ℤ_}
-use Rattle.exact.specs.Next.{mostX}
+use Rattle.outline.specs.Numbers.{mostX}
 use Rattle.spells.specs.declared.Running.{Running}
-
--- "V beyond 4,000,150 x months in size": what one month can add to V, |Z| + 150
-abbrev pub mostU : ℕ
-mostU = 4000150
 
 -- V's room in the arithmetic: a million months of it, far more than a run holds
 abbrev pub mostV : ℕ

@@ -2,11 +2,17 @@
 //
 // `step` is for the crates above, which hold the running values and Z in range before they call. A wet spell
 // is a drought with the signs turned, so a drought's rules are all that stands here.
-
+use outline::E_OFFSET;
+use outline::FOUNDS;
+use outline::IN_FORCE;
+use outline::U_OFFSET;
+use outline::WEIGHT_OF_X;
+use outline::WEIGHT_OF_Z;
 ghost use mathlib.Core.Path.{_≡_};
 ghost use Prim.Native.Nat.{_*_, _≤_};
 ghost use lib.IntN.{natAbs};
-ghost use Rattle.exact.specs.Next.{nextOf, mostX, mostZ};
+ghost use Rattle.exact.specs.Next.{nextOf};
+ghost use Rattle.outline.specs.Numbers.{mostX, mostZ};
 ghost use Rattle.spells.specs.Values.{mostV, SidesFit, ValuesFit};
 ghost use Rattle.spells.specs.Spells.{turn, percentOf, raised, lowered, largerInSize, provisional, steadyMonth, abatingMonth, founded, unfounded, tried, noSpell, inForce, stepOf};
 
@@ -39,17 +45,6 @@ pub struct SpellMonth {
     pub decision: Decision,
     pub index: i32,
 }
-
-// A spell is in force beyond this, in size.
-const IN_FORCE: i32 = 500;
-// A spell is founded from this on, in size.
-const FOUNDS: i32 = 1_000;
-// What a month adds to Z, in the drought's sense, to make U.
-const U_OFFSET: i64 = 150;
-
-const WEIGHT: i64 = 2_691;
-
-const E_OFFSET: i64 = 1_500_000;
 
 // A wet spell's number with its sign turned, a drought's as it is.
 fn turned(wet: bool, n: i64) -> i64
@@ -228,14 +223,14 @@ fn in_force(wet: bool, s: Running, z: i32) -> SpellMonth
     let was = turned(wet, s.v);
     let u = turned(wet, z as i64) + U_OFFSET;
     let v = u + was;
-    let e = 0 - WEIGHT * x3 - E_OFFSET;
+    let e = 0 - WEIGHT_OF_X * x3 - E_OFFSET;
     if v <= 0 {
         return steady(s.x3, z);
     }
-    if 1_000 * u >= e {
+    if WEIGHT_OF_Z * u >= e {
         return no_spell(s, z, 100);
     }
-    let q = e + 1_000 * was;
+    let q = e + WEIGHT_OF_Z * was;
     let percent = percent_of(v, q);
     let kept = turned(wet, v);
     abating(s, kept, z, percent)

@@ -8,7 +8,7 @@ use Prim.Native.Nat.{ℕ, _+_, _*_, _≤_}
 use native.Mathlib.Omega.{arith}
 use lib.IntN.{pos, negℤ, natAbs}
 use lib.Signed.{_≤ℤ_}
-use Rattle.exact.specs.Next.{mostZ}
+use Rattle.outline.specs.Numbers.{mostZ}
 use Rattle.door.specs.Readings.{mostReading}
 use Rattle.water.specs.Layers.{mostCapacity, surfaceHolds, underlyingHolds, SoilFits}
 use Rattle.water.specs.Constants.{ConstantsFit}

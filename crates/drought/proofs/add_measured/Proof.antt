@@ -8,7 +8,7 @@ use mir.Syntax.{w32}
 use mir.Val.{SFits}
 use mir.Facts.{toZ-ofZ}
 use denote.Ref.{now}
-use Rattle.exact.specs.Next.{mostZ}
+use Rattle.outline.specs.Numbers.{mostZ}
 use Rattle.exact.proofs.Held.{held}
 use Rattle.water.specs.Constants.{ConstantsFit}
 use Rattle.water.proofs.Theorems.{z-acceptable}

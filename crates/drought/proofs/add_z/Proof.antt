@@ -6,7 +6,7 @@ use lib.IntN.{natAbs}
 use mathlib.Core.Bool.{true}
 use mir.Facts.{toZ-ofZ}
 use denote.Ref.{now}
-use Rattle.exact.specs.Next.{mostZ}
+use Rattle.outline.specs.Numbers.{mostZ}
 use Rattle.runs.specs.Runs.{isRun}
 use Rattle.drought.specs.Columns.{Columns, columns, long, columnsFit}
 use Rattle.drought.specs.Refusals.{zRefusal}

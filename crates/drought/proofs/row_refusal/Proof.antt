@@ -3,7 +3,7 @@ use borrow.Author.Needs.{needs}
 use mathlib.Core.Path.{sym}
 use borrow.Author.Tests.{lt-ltb, le-ltb}
 use Rattle.drought.specs.Refusals.{rowRefusal}
-use Rattle.drought.proofs.Refused.{or-first, or-second}
+use Rattle.outline.proofs.Refusals.{or-first, or-second}
 use Rattle.drought.proofs.row_refusal.Statement.{statement}
 use Rattle.drought.proofs.row_refusal.Tie as tie
 

@@ -1,7 +1,7 @@
 -- `drought::run_refusal`: 1, then 7, then 0, each way by its tests. Assumes nothing.
 use borrow.Author.Needs.{needs}
 use mathlib.Core.Path.{refl}
-use Rattle.runs.proofs.Outcomes.{fails, passes}
+use Rattle.outline.proofs.Tests.{fails, passes}
 use Rattle.drought.specs.Refusals.{runRefusal}
 use Rattle.drought.proofs.run_refusal.Statement.{statement}
 use Rattle.drought.proofs.run_refusal.Tie as tie

@@ -2,7 +2,7 @@
 use borrow.Author.Needs.{needs}
 use mathlib.Core.Path.{sym, _∙_}
 use Rattle.drought.specs.Refusals.{waterRefusal}
-use Rattle.drought.proofs.Refused.{or-first, or-second}
+use Rattle.outline.proofs.Refusals.{or-first, or-second}
 use Rattle.drought.proofs.water_refusal.Statement.{statement}
 use Rattle.drought.proofs.water_refusal.Tie as tie
 

@@ -2,9 +2,9 @@
 use borrow.Author.Needs.{needs}
 use mathlib.Core.Path.{sym, _∙_}
 use mir.Facts.{toZ-ofZ}
-use Rattle.runs.proofs.Outcomes.{fails, passes}
+use Rattle.outline.proofs.Tests.{fails, passes}
 use Rattle.drought.specs.Refusals.{zRefusal}
-use Rattle.drought.proofs.Refused.{or-first, or-second}
+use Rattle.outline.proofs.Refusals.{or-first, or-second}
 use Rattle.drought.proofs.z_refusal.Statement.{statement}
 use Rattle.drought.proofs.z_refusal.Tie as tie
 

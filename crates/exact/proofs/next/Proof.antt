@@ -6,7 +6,8 @@ use native.Mathlib.Omega.{arith}
 use lib.IntN.{ℤ, pos, natAbs, _+ℤ_, _*ℤ_}
 use mir.Syntax.{w64}
 use mir.Val.{SFits}
-use Rattle.exact.specs.Next.{nextOf, weight, mostX, mostZ}
+use Rattle.exact.specs.Next.{nextOf}
+use Rattle.outline.specs.Numbers.{weight, mostX, mostZ}
 use Rattle.exact.proofs.Z.{zs, is-Z}
 use Rattle.exact.proofs.Held.{held}
 use Rattle.exact.proofs.NextLaws.{next-within}

@@ -9,7 +9,7 @@ use mir.Syntax.{w32}
 use mir.Val.{SFits, toZ}
 use mir.Facts.{toZ-ofZ, toZ-pos}
 use borrow.Author.Tests.{le-leb, lt-leb, not-true, not-false}
-use Rattle.exact.specs.Next.{mostZ}
+use Rattle.outline.specs.Numbers.{mostZ}
 use Rattle.exact.proofs.Z.{Z, zs, is-Z, Z-pos}
 use Rattle.lines.specs.Line.{accepted, signed}
 use Rattle.lines.specs.Reading.{finished}

@@ -10,7 +10,8 @@ use mir.Syntax.{w32}
 use mir.Val.{Fits, SFits, toZ, ofZ}
 use mir.Facts.{toZ-ofZ}
 use Rattle.exact.proofs.Held.{held}
-use Rattle.runs.specs.Ranges.{manyConstants, lastMonth, placeOf, constantsAt}
+use Rattle.runs.specs.Ranges.{placeOf, constantsAt}
+use Rattle.outline.specs.Numbers.{manyConstants, lastMonth}
 use Rattle.runs.proofs.Outcomes.{countable}
 use Rattle.runs.proofs.RangeLaws.{calendar-is, each-fits, constant-is}
 use Rattle.runs.proofs.constants_at.Statement.{statement}

@@ -4,8 +4,9 @@ use mathlib.Core.Path.{_≡_, sym}
 use mathlib.Core.Bool.{true}
 use Prim.Native.Nat.{_-_, _%_, _≤_}
 use native.Mathlib.Omega.{arith}
-use Rattle.runs.specs.Ranges.{manyConstants, manyOfAMonth, constantsFitTo}
-use Rattle.runs.proofs.Outcomes.{fails, passes}
+use Rattle.runs.specs.Ranges.{constantsFitTo}
+use Rattle.outline.specs.Numbers.{manyConstants, manyOfAMonth}
+use Rattle.outline.proofs.Tests.{fails, passes}
 use Rattle.runs.proofs.RangeLaws.{fits-none, five-more, five-spoil}
 use Rattle.runs.proofs.constants_fit.Statement.{statement}
 use Rattle.runs.proofs.constants_fit.Tie as tie

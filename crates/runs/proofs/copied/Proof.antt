@@ -12,7 +12,7 @@ use mir.Syntax.{w32}
 use mir.Val.{SFits}
 use mir.Facts.{toZ-ofZ}
 use Rattle.exact.proofs.Held.{held}
-use Rattle.runs.specs.Ranges.{manyConstants}
+use Rattle.outline.specs.Numbers.{manyConstants}
 use Rattle.runs.proofs.copied.Statement.{statement}
 use Rattle.runs.proofs.copied.Tie as tie
 

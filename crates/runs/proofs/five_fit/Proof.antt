@@ -1,7 +1,7 @@
 -- `runs::five_fit` meets its contract: the month's five places in turn. Assumes nothing.
 use borrow.Author.Needs.{needs}
 use Rattle.runs.specs.Ranges.{fiveFit}
-use Rattle.runs.proofs.Outcomes.{fails, passes}
+use Rattle.outline.proofs.Tests.{fails, passes}
 use Rattle.runs.proofs.five_fit.Statement.{statement}
 use Rattle.runs.proofs.five_fit.Tie as tie
 

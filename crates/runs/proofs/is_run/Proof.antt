@@ -10,7 +10,7 @@ use lib.Dec.{leb}
 use Rattle.runs.specs.Ranges.{constantsFit, calendarFits}
 use Rattle.runs.specs.Runs.{soilFits, sizesFit, isRun}
 use Rattle.runs.specs.declared.Run.{Run}
-use Rattle.runs.proofs.Outcomes.{fails, passes, both}
+use Rattle.outline.proofs.Tests.{fails, passes, both}
 use Rattle.runs.proofs.is_run.Statement.{statement}
 use Rattle.runs.proofs.is_run.Tie as tie
 

@@ -1,6 +1,6 @@
 -- `runs::length_fits`: each way by its tests. Assumes nothing.
 use borrow.Author.Tests.{le-leb, lt-leb}
-use Rattle.runs.specs.Runs.{lengthFits}
+use Rattle.outline.specs.Numbers.{lengthFits}
 use Rattle.runs.proofs.length_fits.Statement.{statement}
 use Rattle.runs.proofs.length_fits.Tie as tie
 

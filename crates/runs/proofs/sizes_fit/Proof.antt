@@ -6,10 +6,10 @@ use mir.Syntax.{w32}
 use mir.Val.{SFits}
 use mir.Facts.{toZ-ofZ}
 use borrow.Author.Needs.{needs}
-use Rattle.exact.specs.Next.{mostX}
+use Rattle.outline.specs.Numbers.{mostX}
 use Rattle.exact.proofs.Held.{held, wide}
 use Rattle.runs.specs.Runs.{sizesFit}
-use Rattle.runs.proofs.Outcomes.{fails, passes}
+use Rattle.outline.proofs.Tests.{fails, passes}
 use Rattle.runs.proofs.sizes_fit.Statement.{statement}
 use Rattle.runs.proofs.sizes_fit.Tie as tie
 

@@ -3,7 +3,7 @@ use borrow.Author.Needs.{needs}
 use borrow.Author.Tests.{lt-leb, le-leb}
 use Rattle.water.specs.Layers.{surfaceHolds}
 use Rattle.runs.specs.Runs.{soilFits}
-use Rattle.runs.proofs.Outcomes.{fails, passes}
+use Rattle.outline.proofs.Tests.{fails, passes}
 use Rattle.runs.proofs.soil_fits.Statement.{statement}
 use Rattle.runs.proofs.soil_fits.Tie as tie
 

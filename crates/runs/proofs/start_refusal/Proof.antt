@@ -4,7 +4,7 @@ use mir.Facts.{toZ-ofZ}
 use borrow.Author.Needs.{needs}
 use denote.Ref.{now}
 use Rattle.runs.specs.Start.{capacityFits, storagesFit, monthFits}
-use Rattle.runs.proofs.Outcomes.{fails, passes}
+use Rattle.outline.proofs.Tests.{fails, passes}
 use Rattle.runs.proofs.StartLaws.{refused-2, refused-3, refused-4, refused-5, refused-6, not-refused}
 use Rattle.runs.proofs.start_refusal.Statement.{statement}
 use Rattle.runs.proofs.start_refusal.Tie as tie

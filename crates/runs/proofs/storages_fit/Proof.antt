@@ -5,7 +5,8 @@ use mir.Facts.{toZ-ofZ}
 use borrow.Author.Needs.{needs}
 use Rattle.water.specs.Layers.{surfaceHolds, underlyingHolds}
 use Rattle.runs.specs.Start.{upTo, storagesFit}
-use Rattle.runs.proofs.Outcomes.{fails, passes, countable}
+use Rattle.runs.proofs.Outcomes.{countable}
+use Rattle.outline.proofs.Tests.{fails, passes}
 use Rattle.runs.proofs.RangeLaws.{capacity-is}
 use Rattle.runs.proofs.storages_fit.Statement.{statement}
 use Rattle.runs.proofs.storages_fit.Tie as tie

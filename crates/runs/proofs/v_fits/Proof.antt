@@ -7,7 +7,7 @@ use mir.Val.{Fits, SFits}
 use mir.Facts.{toZ-ofZ}
 use borrow.Author.Needs.{needs}
 use Rattle.exact.proofs.Held.{held, unsigned}
-use Rattle.spells.specs.Values.{mostU}
+use Rattle.outline.specs.Numbers.{mostU}
 use Rattle.runs.specs.Runs.{vFits}
 use Rattle.runs.proofs.Outcomes.{natural}
 use Rattle.runs.proofs.v_fits.Statement.{statement}

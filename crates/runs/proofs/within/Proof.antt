@@ -12,7 +12,7 @@ use mir.Val.{SFits}
 use mir.Facts.{toZ-ofZ}
 use Rattle.exact.proofs.Z.{zs, zs-abs, is-Z}
 use Rattle.exact.proofs.Held.{held}
-use Rattle.runs.proofs.Outcomes.{alike}
+use Rattle.outline.proofs.Tests.{alike}
 use Rattle.runs.proofs.within.Statement.{statement}
 use Rattle.runs.proofs.within.Tie as tie
 

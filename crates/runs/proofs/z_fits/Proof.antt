@@ -9,9 +9,8 @@ use lib.Signed.{ltZ, leZ}
 use lib.Dec.{leb}
 use mir.Facts.{toZ-ofZ}
 use borrow.Author.Tests.{le-leb, lt-leb}
-use Rattle.exact.specs.Next.{mostZ}
+use Rattle.outline.specs.Numbers.{mostZ, zFits}
 use Rattle.exact.proofs.Z.{zs-abs, is-Z}
-use Rattle.runs.specs.Runs.{zFits}
 use Rattle.runs.proofs.z_fits.Statement.{statement}
 use Rattle.runs.proofs.z_fits.Tie as tie
 

@@ -12,8 +12,10 @@ use Rattle.door.proofs.Bounds.{reading-most}
 use Rattle.runs.specs.declared.Run.{Run}
 use Rattle.drought.specs.Columns.{Columns, columns, long}
 use Rattle.drought.specs.Progress.{runOf}
-use Rattle.drought.specs.Refusals.{orElse, roomRefusal}
-use Rattle.drought.proofs.Refused.{or-first, or-second, room-passes}
+use Rattle.drought.specs.Refusals.{roomRefusal}
+use Rattle.outline.specs.Refusals.{orElse}
+use Rattle.drought.proofs.Refused.{room-passes}
+use Rattle.outline.proofs.Refusals.{or-first, or-second}
 use Rattle.drought.proofs.Readiness.{ready, watered}
 use Rattle.season.specs.Season.{listed}
 use Rattle.season.proofs.Steps.{not-water, refused-as, accepted-as}

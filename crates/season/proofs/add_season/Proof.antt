@@ -16,7 +16,7 @@ use mir.Facts.{toZ-ofZ}
 use denote.Ref.{now}
 use Rattle.drought.specs.Columns.{Columns, columns, long, columnsFit}
 use Rattle.drought.specs.Ready.{Good}
-use Rattle.runs.proofs.Outcomes.{first, second}
+use Rattle.outline.proofs.Tests.{first, second}
 use Rattle.drought.proofs.Refused.{run-passes}
 use Rattle.drought.proofs.Readiness.{run-is}
 use Rattle.drought.specs.Calls.{result}

@@ -9,10 +9,10 @@ use lib.Signed.{leZ}
 use mir.Syntax.{w32, w64}
 use mir.Val.{SFits, toZ, ofZ}
 use mir.Facts.{toZ-ofZ}
-use Rattle.exact.specs.Next.{weight, mostX, mostZ}
+use Rattle.outline.specs.Numbers.{weight, mostX, mostZ, mostU}
 use Rattle.exact.proofs.Z.{zs, is-Z, fits-within, within-mul}
 use Rattle.exact.proofs.Held.{held}
-use Rattle.spells.specs.Values.{mostU, mostV}
+use Rattle.spells.specs.Values.{mostV}
 use Rattle.spells.specs.Spells.{turn, uOf, vOf, eOf, qOf, Ending, endingOf, steady, ended, abating, percentOf, endingMonth, inForce}
 use Rattle.spells.proofs.Choices.{turned-size, abating-is, ending-steady, ending-ended, ending-abating}
 use Rattle.spells.proofs.in_force.Statement.{statement}

@@ -5,7 +5,7 @@ use lib.IntN.{ℤ, pos, natAbs, _-ℤ_}
 use mir.Syntax.{w32}
 use mir.Val.{SFits}
 use mir.Facts.{toZ-ofZ}
-use Rattle.exact.specs.Next.{mostX}
+use Rattle.outline.specs.Numbers.{mostX}
 use Rattle.exact.proofs.Z.{zs, is-Z}
 use Rattle.exact.proofs.Held.{held}
 use Rattle.spells.proofs.Choices.{larger-first, larger-second}

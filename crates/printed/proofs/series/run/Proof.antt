@@ -4,7 +4,8 @@ use Prim.Native.Nat.{_≤_, _*_, _-_}
 use lib.ListN.{length, length-set}
 use mir.Syntax.{w32}
 use mir.Val.{toZ, ofZ}
-use Rattle.spells.specs.Values.{mostU, FitsWithin}
+use Rattle.spells.specs.Values.{FitsWithin}
+use Rattle.outline.specs.Numbers.{mostU}
 use native.Mathlib.Omega.{arith}
 use Rattle.exact.proofs.Held.{held}
 use Rattle.printed.proofs.Kept.{taken, bounded, kept}
