@@ -1,104 +1,23 @@
--- Document 01, "What can be asked": what each call answers, the run that it hands back and what every lent list then holds. A reading,
--- a start and the whole series are said in the crates that they stand in. Assumes nothing.
-use Prim.Native.Nat.{ℕ, zero, suc}
-use mathlib.Core.List.{_++_}
+-- Document 01, "What can be asked": what each call on a run answers, the run that it hands back and what every lent list then holds. A month
+-- that is added and a refused one are said in the crate `adding` (`takenWater`, `takenZ`, `refusal`); a reading, a start and the whole series
+-- in the crates that they stand in. Assumes nothing.
+use Prim.Native.Nat.{ℕ}
 use lib.IntN.{ℤ, pos}
-use lib.ListN.{drop, set, getD}
+use lib.ListN.{getD}
+use Rattle.outline.specs.Refusals.{unlessRefused}
 use Rattle.door.specs.Outcome.{Outcome}
 use Rattle.door.specs.Readings.{reading, month}
 use Rattle.door.specs.declared.Reading.{Reading}
 use Rattle.door.specs.declared.MonthInches.{MonthInches}
-use Rattle.water.specs.Expected.{monthOf}
-use Rattle.water.specs.declared.Soil.{Soil}
-use Rattle.water.specs.declared.Month.{Month}
-use Rattle.spells.specs.Spells.{stepOf}
-use Rattle.spells.specs.declared.SpellMonth.{SpellMonth}
-use Rattle.hindsight.specs.Adding.{addMonth, settledCount}
-use Rattle.hindsight.specs.Adding.{History}
-use Rattle.hindsight.specs.Columns.{runFrom}
-use Rattle.hindsight.specs.Months.{rowFor}
-use Rattle.runs.specs.Ranges.{constantsAt, nextCalendar}
 use Rattle.runs.specs.declared.Run.{Run}
-use Rattle.drought.specs.Columns.{Columns, columns, long, columnsFit}
-use Rattle.drought.specs.Refusals.{waterRefusal, zRefusal, rowRefusal}
-use Rattle.drought.specs.Figures.{waterFigures, noWater, figuresOf, noFigures}
-use Rattle.drought.specs.declared.WaterFigures.{WaterFigures}
-use Rattle.drought.specs.declared.Added.{Added}
+use Rattle.refusals.specs.Columns.{Columns}
+use Rattle.refusals.specs.Refusals.{waterRefusal, zRefusal, rowRefusal}
+use Rattle.adding.specs.Taken.{Result, answered, takenZ, takenWater}
 use Rattle.drought.specs.declared.Shown.{Shown}
-
--- what an add leaves: its answer, with the run, and the five columns
-pub record Result : Type 0 where
-  pub answer : Added
-  pub columns : Columns
-
-abbrev pub result : Added → Columns → Result
-result a cs = record { answer = a; columns = cs }
-
--- "A refusal returns its number with all figures 0 and the run given .. and writes nothing lent."
-abbrev pub refusal : ℕ → Run → Added
-refusal k r = record { number = k; settled = 0; figures = noFigures; run = r }
-
--- the run that the columns hold, of so many months and so many open ones, as hindsight has it
-abbrev pub heldIn : ℕ → ℕ → Columns → History
-heldIn months opens cs = runFrom (cs .x1) (cs .x2) (cs .x3) (cs .index) (cs .mark) months opens
-
-abbrev pub heldBy : Run → Columns → History
-heldBy r cs = heldIn (r .months) (r .opens) cs
-
--- "An add writes the new month's place in the five columns, and index and mark of the open months it settles, and nothing else."
-abbrev pub written : Columns → ℕ → SpellMonth → History → Columns
-written cs at s after =
-    columns (set (cs .x1) at (s .after .x1)) (set (cs .x2) at (s .after .x2)) (set (cs .x3) at (s .after .x3)) (after .index ++ drop (suc at) (cs .index))
-    (after .mark ++ drop (suc at) (cs .mark))
-
--- the run with the month added: "the calendar moves on"
-abbrev pub runAfter : Run → Soil → SpellMonth → History → Run
-runAfter r soil s after =
-    record {
-      months = suc (r .months);
-      opens = after .opens;
-      calendar = nextCalendar (r .calendar);
-      soil = soil;
-      values = s .after;
-      constants = r .constants;
-    }
-
--- a month that is added: the storages at its end, its water, its Z
-unfoldable pub taken : Run → Soil → WaterFigures → ℤ → Columns → Result
-taken r soil w z cs =
-    result
-    (record {
-      number = 0;
-      settled = settledCount (heldBy r cs) (rowFor (stepOf (r .values) z));
-      figures = figuresOf w z (stepOf (r .values) z);
-      run = runAfter r soil (stepOf (r .values) z) (addMonth (heldBy r cs) (rowFor (stepOf (r .values) z)));
-    })
-    (written cs (r .months) (stepOf (r .values) z) (addMonth (heldBy r cs) (rowFor (stepOf (r .values) z))))
-
--- "an added Z (storage stays, the calendar moves on)"
-abbrev pub takenZ : Run → ℤ → Columns → Result
-takenZ r z cs = taken r (r .soil) noWater z cs
-
--- the storages at the end of a month of water
-abbrev pub soilAfter : Soil → Month → Soil
-soilAfter s m = record { capacity = s .capacity; surface = m .surface; underlying = m .underlying }
-
--- the run's month of water
-abbrev pub waterOf : Run → ℕ → ℕ → Month
-waterOf r p pe = monthOf (r .soil) p pe (constantsAt (r .constants) (r .calendar))
-
-unfoldable pub takenWater : Run → ℕ → ℕ → Columns → Result
-takenWater r p pe cs =
-    taken r (soilAfter (r .soil) (waterOf r p pe)) (waterFigures p pe (waterOf r p pe)) (waterOf r p pe .z) cs
-
--- what a number lets through: the refusal, or where it is 0 the result
-abbrev pub unless : ℕ → Run → Columns → Result → Result
-unless zero r cs done = done
-unless (suc k) r cs done = result (refusal (suc k) r) cs
 
 -- ---- ADD A MONTH OF WATER, by what its two readings answer
 unfoldable pub addOutcomes : Run → Outcome → Outcome → Columns → Result
-addOutcomes r p pe cs = unless (waterRefusal (columnsFit cs) (long cs) r (p .number) (pe .number)) r cs (takenWater r (p .water) (pe .water) cs)
+addOutcomes r p pe cs = answered (waterRefusal r (p .number) (pe .number) cs) r cs (takenWater r (p .water) (pe .water) cs)
 
 -- two readings
 unfoldable pub addWater : Run → Reading → Reading → Columns → Result
@@ -110,11 +29,11 @@ addInches r q cs = addOutcomes r (month q .p) (month q .pe) cs
 
 -- ---- ADD A Z
 unfoldable pub addZ : Run → ℤ → Columns → Result
-addZ r z cs = unless (zRefusal (columnsFit cs) (long cs) r z) r cs (takenZ r z cs)
+addZ r z cs = answered (zRefusal r z cs) r cs (takenZ r z cs)
 
 -- ---- SHOW A MONTH'S ROW: "what the five columns hold there"
-abbrev pub shownWith : ℕ → ℕ → Columns → Shown
-shownWith zero i cs =
+abbrev pub shown : ℕ → Columns → Shown
+shown i cs =
     record {
       number = 0;
       x1 = getD (cs .x1) i (pos 0);
@@ -123,7 +42,9 @@ shownWith zero i cs =
       index = getD (cs .index) i (pos 0);
       mark = getD (cs .mark) i 0;
     }
-shownWith (suc k) i cs = record { number = suc k; x1 = pos 0; x2 = pos 0; x3 = pos 0; index = pos 0; mark = 0 }
+
+abbrev pub notShown : ℕ → Shown
+notShown k = record { number = k; x1 = pos 0; x2 = pos 0; x3 = pos 0; index = pos 0; mark = 0 }
 
 unfoldable pub rowOfRun : Run → ℕ → Columns → Shown
-rowOfRun r i cs = shownWith (rowRefusal (columnsFit cs) (long cs) r i) i cs
+rowOfRun r i cs = let k = rowRefusal r i cs in unlessRefused k (shown i cs) (notShown k)

@@ -1,0 +1,45 @@
+-- Document 01: "The figures are P, PE, Ls, Lu, ET, R, RO, PR, PRO, PL, CAFEC, Z, percent, X1, X2, X3, index and mark; for an added Z all
+-- those before Z are 0." Assumes nothing.
+use Prim.Native.Nat.{ℕ}
+use lib.IntN.{ℤ, pos}
+use Rattle.water.specs.declared.Month.{Month}
+use Rattle.spells.specs.declared.SpellMonth.{SpellMonth}
+use Rattle.hindsight.specs.Months.{markFor}
+use Rattle.adding.specs.declared.WaterFigures.{WaterFigures}
+use Rattle.adding.specs.declared.Figures.{Figures}
+
+abbrev pub waterFigures : ℕ → ℕ → Month → WaterFigures
+waterFigures p pe m =
+    record {
+      p = p;
+      pe = pe;
+      ls = m .ls;
+      lu = m .lu;
+      et = m .et;
+      r = m .r;
+      ro = m .ro;
+      pr = m .pr;
+      pro = m .pro;
+      pl = m .pl;
+      cafec = m .cafec;
+    }
+
+abbrev pub noWater : WaterFigures
+noWater = record { p = 0; pe = 0; ls = 0; lu = 0; et = 0; r = 0; ro = 0; pr = 0; pro = 0; pl = 0; cafec = pos 0 }
+
+abbrev pub figuresOf : WaterFigures → ℤ → SpellMonth → Figures
+figuresOf w z s =
+    record {
+      water = w;
+      z = z;
+      percent = s .percent;
+      x1 = s .after .x1;
+      x2 = s .after .x2;
+      x3 = s .after .x3;
+      index = s .index;
+      mark = markFor (s .decision);
+    }
+
+-- "A refusal returns its number with all figures 0"
+abbrev pub noFigures : Figures
+noFigures = record { water = noWater; z = pos 0; percent = 0; x1 = pos 0; x2 = pos 0; x3 = pos 0; index = pos 0; mark = 0 }

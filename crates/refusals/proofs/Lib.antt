@@ -1,0 +1,2 @@
+-- What a number of 0 says.
+pub mod Refused

@@ -1,0 +1,146 @@
+-- What an add hands back is a run again, and the columns that it leaves fit again: so no sequence of calls on columns that nobody else writes
+-- is ever refused 1 or 7. Assumes nothing.
+use mathlib.Core.Path.{_≡_, refl, ap}
+use mathlib.Core.Bool.{true}
+use mathlib.Core.List.{List, [], _∷_, _++_}
+use Prim.Native.Nat.{ℕ, suc, _+_, _-_, _*_, _≤_, _<_}
+use native.Mathlib.Omega.{arith}
+use lib.IntN.{ℤ, natAbs}
+use lib.Seq.{length-take-le}
+use lib.ListN.{length, drop, length-append, length-drop, length-take, length-replicate, length-set}
+use Rattle.outline.specs.Numbers.{mostZ, mostU, mostMonths}
+use Rattle.water.specs.Layers.{SoilFits}
+use Rattle.water.specs.declared.Soil.{Soil}
+use Rattle.spells.specs.Values.{FitsWithin}
+use Rattle.spells.specs.Spells.{stepOf}
+use Rattle.spells.specs.declared.With.{With}
+use Rattle.spells.specs.declared.Decision.{Decision}
+use Rattle.spells.specs.declared.Decision.the-variants.{Nothing, Decides}
+use Rattle.spells.proofs.Theorems.{values-kept}
+use Rattle.hindsight.specs.Rule.{X, Row}
+use Rattle.hindsight.specs.Adding.{settledAll, addAs, addMonth, History}
+use Rattle.hindsight.specs.Months.{rowFor}
+use Rattle.hindsight.specs.Columns.{xAt}
+use Rattle.hindsight.proofs.Adding.{length-xs}
+use Rattle.runs.specs.Runs.{isRun}
+use Rattle.runs.specs.Ranges.{nextCalendar}
+use Rattle.runs.specs.RunFits.{RunFits}
+use Rattle.runs.specs.declared.Run.{Run}
+use Rattle.runs.proofs.RunLaws.{fits-run, calendar-next, constants-at-fit}
+use Rattle.runs.proofs.RangeLaws.{calendar-is}
+use Rattle.refusals.specs.Columns.{Columns, long, columnsFit}
+use Rattle.adding.specs.Taken.{heldBy, runAfter, taken}
+use Rattle.adding.specs.declared.WaterFigures.{WaterFigures}
+use Rattle.adding.proofs.Taken.{opens-most}
+use Rattle.refusals.specs.Good.{Good}
+use Rattle.refusals.proofs.Refused.{columns-are}
+use Rattle.adding.proofs.Readiness.{run-is}
+
+-- ---- the columns keep their length
+settled-long : (w : With) (l : List X) → length (settledAll w l) ≡ length l
+settled-long w [] = refl
+settled-long w (m ∷ l) = ap suc (settled-long w l)
+
+module _ (run : History) (r : Row) (n : ℕ) (past : length (run .past) ≡ n) (opens : run .opens ≤ n) where
+  index-long : (d : Decision) → length (run .index) ≡ n → length (addAs d run r .index) ≡ suc n
+  index-long Nothing i = omega (arith, length-append (run .index) (r .shown ∷ []))
+  index-long (Decides w) i =
+      simp (length-append, settled-long, length-drop, length-take) (omega arith)
+
+  mark-long : (d : Decision) → length (run .mark) ≡ n → length (addAs d run r .mark) ≡ suc n
+  mark-long Nothing i = omega (arith, length-append (run .mark) (1 ∷ []))
+  mark-long (Decides w) i = simp (length-append, length-replicate, length-take) (omega arith)
+
+-- ---- a month that is added to a run on columns that fit
+module _ (r : Run) (cs : Columns) (g : Good r cs) (room : r .months < long cs) where
+  lengths : (length (cs .x2) ≡ long cs) × (length (cs .x3) ≡ long cs) × (length (cs .index) ≡ long cs) × (length (cs .mark) ≡ long cs) × (long cs ≤ mostMonths)
+  lengths = columns-are cs (g .fit)
+
+  run-fits : RunFits (long cs) r
+  run-fits = run-is r cs g
+
+  held-past : length (heldBy r cs .past) ≡ r .months
+  held-past = length-xs (xAt (cs .x1) (cs .x2) (cs .x3)) 0 (r .months)
+
+  held-index : length (heldBy r cs .index) ≡ r .months
+  held-index = let l = lengths in length-take-le (r .months) (cs .index) (omega arith)
+
+  held-mark : length (heldBy r cs .mark) ≡ r .months
+  held-mark = let l = lengths in length-take-le (r .months) (cs .mark) (omega arith)
+
+  module _ (row : Row) where
+    pub wrote-index : length (addMonth (heldBy r cs) row .index ++ drop (suc (r .months)) (cs .index)) ≡ long cs
+    wrote-index =
+        let l = lengths in
+        let a = index-long (heldBy r cs) row (r .months) held-past (run-fits .opens) (row .decision) held-index in
+        omega (arith, length-append (addMonth (heldBy r cs) row .index) (drop (suc (r .months)) (cs .index)), length-drop (suc (r .months)) (cs .index))
+
+    pub wrote-mark : length (addMonth (heldBy r cs) row .mark ++ drop (suc (r .months)) (cs .mark)) ≡ long cs
+    wrote-mark =
+        let l = lengths in
+        let a = mark-long (heldBy r cs) row (r .months) held-past (run-fits .opens) (row .decision) held-mark in
+        omega (arith, length-append (addMonth (heldBy r cs) row .mark) (drop (suc (r .months)) (cs .mark)), length-drop (suc (r .months)) (cs .mark))
+
+  module _ (soil : Soil) (sf : SoilFits soil) (w : WaterFigures) (z : ℤ) (hz : natAbs z ≤ mostZ) where
+    abbrev left : Columns
+    left = taken r soil w z cs .columns
+
+    -- each column is as long as it was
+    pub long-kept : long left ≡ long cs
+    unfolding taken
+    long-kept = length-set (cs .x1) (r .months) (stepOf (r .values) z .after .x1)
+
+    columns-kept : columnsFit left ≡ true
+    unfolding taken
+    columns-kept =
+        rw (length-set (cs .x1) (r .months) (stepOf (r .values) z .after .x1), length-set (cs .x2) (r .months) (stepOf (r .values) z .after .x2), length-set (cs .x3) (r .months) (stepOf (r .values) z .after .x3), wrote-index (rowFor (stepOf (r .values) z)), wrote-mark (rowFor (stepOf (r .values) z)), lengths .0, lengths .1)
+        (rw (lengths .0, lengths .1, lengths .2, lengths .3) at (g .fit))
+
+    -- the running values, with V's room a month more
+    before-fits : FitsWithin (mostU * r .months) (r .values)
+    before-fits =
+        let f = run-fits in
+        record {
+          x1-size = f .x1-size;
+          x2-size = f .x2-size;
+          x3-size = f .x3-size;
+          v-size = f .v-size;
+          x1-sign = f .x1-sign;
+          x2-sign = f .x2-sign;
+          v-above = f .v-above;
+          v-below = f .v-below;
+        }
+
+    after-fits : RunFits (long cs) (runAfter r soil (stepOf (r .values) z) (addMonth (heldBy r cs) (rowFor (stepOf (r .values) z))))
+    after-fits =
+        let f = run-fits in
+        let v = values-kept (r .values) z (mostU * r .months) before-fits hz in
+        let o = opens-most (heldBy r cs) (rowFor (stepOf (r .values) z)) in
+        let c = calendar-is (nextCalendar (r .calendar)) (calendar-next (r .calendar)) in
+        record {
+          months = room;
+          opens = omega (arith, f .opens);
+          soil = sf;
+          first-month = c .0;
+          last-month = c .1;
+          constants = f .constants;
+          month-constants = constants-at-fit (r .constants) (nextCalendar (r .calendar)) (f .constants) (calendar-next (r .calendar));
+          x1-size = v .x1-size;
+          x2-size = v .x2-size;
+          x3-size = v .x3-size;
+          v-size = omega (arith, v .v-size);
+          x1-sign = v .x1-sign;
+          x2-sign = v .x2-sign;
+          v-above = v .v-above;
+          v-below = v .v-below;
+        }
+
+    -- the run that is handed back is a run, for the columns that are left
+    run-kept : isRun (long left) (taken r soil w z cs .answer .run) ≡ true
+    unfolding taken
+    run-kept =
+        rw (length-set (cs .x1) (r .months) (stepOf (r .values) z .after .x1))
+        (fits-run (long cs) (runAfter r soil (stepOf (r .values) z) (addMonth (heldBy r cs) (rowFor (stepOf (r .values) z)))) after-fits)
+
+    pub good-taken : Good (taken r soil w z cs .answer .run) left
+    good-taken = record { fit = columns-kept; run = run-kept }

@@ -1,0 +1,1 @@
+-- Nothing of its own: the laws in proofs/ are of the definitions of `adding` and `drought`.
