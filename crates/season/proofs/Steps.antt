@@ -1,91 +1,37 @@
 -- A season month by month: what is still to come takes what has been added to where all months take what was there at first, and the run and
 -- the columns stay good. Assumes nothing.
-use mathlib.Core.Logic.{inl, inr}
 use mathlib.Core.Path.{_≡_, refl, sym, ap, ap₂, _∙_, subst}
-use mathlib.Core.List.{List, [], _∷_}
+use mathlib.Core.List.{List}
 use Prim.Native.Nat.{ℕ, zero, suc, _+_, _≤_, _<_}
 use native.Mathlib.Numerals.{add-one}
 use native.Mathlib.Omega.{arith}
-use lib.IntN.{ℤ, pos, negsuc}
+use lib.IntN.{ℤ, pos}
 use lib.ListN.{length, drop, getD, drop-of-length-le}
 use lib.Seq.{drop-cons}
-use Rattle.door.specs.Outcome.{outcome}
+use Rattle.outline.specs.Numbers.{mostMonths}
+use Rattle.outline.specs.Refusals.{unlessRefused}
+use Rattle.outline.proofs.Refusals.{is-done, is-refused}
 use Rattle.door.specs.Readings.{reading}
-use Rattle.door.specs.declared.Answer.{Answer}
-use Rattle.door.specs.declared.Answer.the-variants.{Water, NoReading, NotAcceptable}
-use Rattle.door.proofs.Answer.{the-type}
-use denote.Enum.Declared.{tagOf}
-use types.Run.{OneOf}
 use Rattle.door.specs.declared.Reading.{Reading}
-use Rattle.door.specs.declared.Reading.the-variants.{Whole, Missing}
 use Rattle.door.proofs.Bounds.{reading-most}
 use Rattle.spells.specs.Spells.{stepOf}
 use Rattle.hindsight.specs.Months.{rowFor}
-use Rattle.outline.specs.Numbers.{mostMonths}
 use Rattle.runs.specs.declared.Run.{Run}
-use Rattle.drought.specs.Columns.{Columns, long, columnsFit}
-use Rattle.drought.specs.Refusals.{runRefusal, roomRefusal, waterRefusal}
-use Rattle.outline.specs.Refusals.{orElse}
-use Rattle.drought.specs.Ready.{Good}
-use Rattle.drought.specs.Figures.{waterFigures}
-use Rattle.drought.specs.Calls.{Result, result, refusal, taken, takenWater, soilAfter, waterOf, heldBy, unless, addOutcomes, addWater}
-use Rattle.drought.specs.declared.Added.{Added}
-use Rattle.drought.proofs.Taken.{counts-most}
-use Rattle.drought.proofs.Accepts.{good-passes, took-water, good-taken}
-use Rattle.drought.proofs.Readiness.{lengths-are, run-is}
-use Rattle.drought.proofs.Refused.{refuses, accepts}
-use Rattle.outline.proofs.Refusals.{or-second}
+use Rattle.refusals.specs.Columns.{Columns, long}
+use Rattle.refusals.specs.Good.{Good}
+use Rattle.refusals.specs.Refusals.{waterRefusal}
+use Rattle.refusals.proofs.Refused.{columns-are}
+use Rattle.adding.specs.Figures.{waterFigures}
+use Rattle.adding.specs.Taken.{Result, result, refusal, taken, takenWater, soilAfter, waterOf, heldBy, answered}
+use Rattle.adding.specs.declared.Added.{Added}
+use Rattle.adding.proofs.Taken.{counts-most}
+use Rattle.adding.proofs.Readiness.{run-is}
+use Rattle.drought.specs.Calls.{addOutcomes, addWater}
+use Rattle.run_laws.proofs.Keeps.{good-taken}
+use Rattle.run_laws.proofs.Accepts.{took-water}
+use Rattle.season_month.specs.Listed.{listed}
 use Rattle.season.specs.declared.Season.{Season}
-use Rattle.season.specs.Season.{SeasonResult, seasonResult, listed, joined, stopped, onlyIf, single, addEach}
-
--- ---- a list's -1
-pub listed-missing : (n : ℤ) → n ≡ negsuc 0 → listed n ≡ Missing
-unfolding listed
-listed-missing n e = ap listed e
-
-pub listed-whole : (n : ℤ) → (n ≡ negsuc 0 → ⊥) → listed n ≡ Whole n
-unfolding listed
-listed-whole (pos n) h = refl
-listed-whole (negsuc zero) h = absurd (h refl)
-listed-whole (negsuc (suc n)) h = refl
-
--- ---- by a number
-pub on : (k : ℕ) (a b : SeasonResult) → k ≡ 0 → onlyIf k a b ≡ a
-on k a b e = ap (λ (n : ℕ). onlyIf n a b) e
-
-pub off : (k : ℕ) (a b : SeasonResult) → (k ≡ 0 → ⊥) → onlyIf k a b ≡ b
-off zero a b h = absurd (h refl)
-off (suc k) a b h = refl
-
--- ---- the single add, where 1 and 7 have been asked for
--- an answer that is not water has a refusal's number
-pub not-water : (a : Answer) → OneOf (1 ∷ 2 ∷ []) (tagOf the-type a) → outcome a .number ≡ 0 → ⊥
-not-water (Water n) t e = elim t [ inl h ↦ omega arith | inr h ↦ omega arith ]
-not-water NoReading t e = omega arith
-not-water NotAcceptable t e = omega arith
-
-module _ (r : Run) (p pe : Reading) (cs : Columns) (g : Good r cs) where
-  -- what is then asked: "precipitation 8 or 9, PE 8 or 9, 10"
-  abbrev pub number : ℕ
-  number = orElse (reading p .number) (orElse (reading pe .number) (roomRefusal (long cs) (r .months)))
-
-  abbrev all : ℕ
-  all = waterRefusal (columnsFit cs) (long cs) r (reading p .number) (reading pe .number)
-
-  number-is : number ≡ all
-  unfolding waterRefusal
-  number-is = sym (or-second (runRefusal (columnsFit cs) (long cs) r) number (good-passes r cs g))
-
-  abbrev pub done : Result
-  done = takenWater r (reading p .water) (reading pe .water) cs
-
-  pub refused-as : (k : ℕ) → k ≡ number → (k ≡ 0 → ⊥) → (a : Added) → a ≡ refusal k r → result a cs ≡ addWater r p pe cs
-  unfolding addWater addOutcomes
-  refused-as k e h a f = refuses k all r cs done (e ∙ number-is) a h f
-
-  pub accepted-as : number ≡ 0 → (b : Result) → b ≡ done → b ≡ addWater r p pe cs
-  unfolding addWater addOutcomes
-  accepted-as z b f = accepts number all r cs done number-is b z f
+use Rattle.season.specs.Season.{SeasonResult, seasonResult, joined, stopped, single, addEach}
 
 -- ---- what an accepted month leaves
 module _ (r : Run) (p pe : Reading) (cs : Columns) (h : addWater r p pe cs .answer .number ≡ 0) where
@@ -116,12 +62,12 @@ refused-not r p pe cs ds k e z =
 -- a refused month leaves the columns as they were
 pub refused-leaves : (r : Run) (p pe : Reading) (cs : Columns) → (addWater r p pe cs .answer .number ≡ 0 → ⊥) → addWater r p pe cs .columns ≡ cs
 unfolding addWater addOutcomes takenWater taken
-refused-leaves r p pe cs h = go (waterRefusal (columnsFit cs) (long cs) r (reading p .number) (reading pe .number)) h
+refused-leaves r p pe cs h = go (waterRefusal r (reading p .number) (reading pe .number) cs) h
   where
     done : Result
     done = takenWater r (reading p .water) (reading pe .water) cs
 
-    go : (k : ℕ) → (unless k r cs done .answer .number ≡ 0 → ⊥) → unless k r cs done .columns ≡ cs
+    go : (k : ℕ) → (answered k r cs done .answer .number ≡ 0 → ⊥) → answered k r cs done .columns ≡ cs
     go zero h = absurd (h refl)
     go (suc k) h = refl
 
@@ -139,15 +85,15 @@ module _ (ps pes : List ℤ) (same : length ps ≡ length pes) (t : SeasonResult
   abbrev stop : SeasonResult
   stop = seasonResult (stopped (t .answer) (month .answer .number)) (t .columns)
 
-  begins : i < length ps → addEach t (drop i ps) (drop i pes) ≡ onlyIf (month .answer .number) (rest next) stop
+  begins : i < length ps → addEach t (drop i ps) (drop i pes) ≡ unlessRefused (month .answer .number) (rest next) stop
   unfolding addEach
   begins h = ap₂ (addEach t) (drop-cons ps i (pos 0) h) (drop-cons pes i (pos 0) (omega arith))
 
   pub goes-on : i < length ps → month .answer .number ≡ 0 → addEach t (drop i ps) (drop i pes) ≡ rest next
-  goes-on h z = begins h ∙ on (month .answer .number) (rest next) stop z
+  goes-on h z = begins h ∙ is-done (month .answer .number) (rest next) stop z
 
   pub stops : i < length ps → (month .answer .number ≡ 0 → ⊥) → addEach t (drop i ps) (drop i pes) ≡ stop
-  stops h n = begins h ∙ off (month .answer .number) (rest next) stop n
+  stops h n = begins h ∙ is-refused (month .answer .number) (rest next) stop n
 
   pub ends : length ps ≤ i → addEach t (drop i ps) (drop i pes) ≡ t
   unfolding addEach
@@ -156,8 +102,8 @@ module _ (ps pes : List ℤ) (same : length ps ≡ length pes) (t : SeasonResult
 -- a run on columns that fit holds few months
 pub most : (r : Run) (cs : Columns) → Good r cs → r .months ≤ mostMonths
 most r cs g =
-    let l = lengths-are (long cs) (length (cs .x2)) (length (cs .x3)) (length (cs .index)) (length (cs .mark)) (g .fit) in
-    omega (arith, l .4, run-is r cs (g .fit) (g .run) .months)
+    let l = columns-are cs (g .fit) in
+    omega (arith, l .4, run-is r cs g .months)
 
 -- ---- the columns keep their lengths
 abbrev pub SameLengths : Columns → Columns → Type 0

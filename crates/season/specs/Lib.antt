@@ -1,3 +1,3 @@
--- What the contracts of `season` cite: document 02, E2 (Season), and what the code holds between months (Going).
+-- What the contracts of `season` cite: document 02, E2 (Season), and what the code holds between months (SoFar).
 pub mod Season
 pub mod SoFar

@@ -1,26 +1,21 @@
 -- Document 02, E2, "A season in one call": what the call answers, the run that it hands back and what every lent list then holds. Each month
 -- is the single add's, `addWater` of the crate `drought`, on the run and the columns that the month before left. Assumes nothing.
-use Prim.Native.Nat.{ℕ, zero, suc, _+_}
-use mathlib.Core.Bool.{_&&_}
+use Prim.Native.Nat.{ℕ, _+_}
+use mathlib.Core.Bool.{cond}
 use mathlib.Core.List.{List, [], _∷_}
-use lib.IntN.{ℤ, pos, negsuc}
+use lib.IntN.{ℤ}
 use lib.Dec.{eqb}
 use lib.ListN.{length}
-use Rattle.door.specs.declared.Reading.{Reading}
-use Rattle.door.specs.declared.Reading.the-variants.{Whole, Missing}
+use Rattle.outline.specs.Refusals.{badLists, orElse, unlessRefused}
 use Rattle.runs.specs.declared.Run.{Run}
-use Rattle.drought.specs.Columns.{Columns, long, columnsFit}
-use Rattle.drought.specs.Refusals.{runRefusal}
-use Rattle.drought.specs.Figures.{noFigures}
-use Rattle.drought.specs.Calls.{Result, addWater}
-use Rattle.drought.specs.declared.Added.{Added}
+use Rattle.refusals.specs.Columns.{Columns}
+use Rattle.refusals.specs.Refusals.{runRefusal}
+use Rattle.adding.specs.Figures.{noFigures}
+use Rattle.adding.specs.Taken.{Result}
+use Rattle.adding.specs.declared.Added.{Added}
+use Rattle.drought.specs.Calls.{addWater}
+use Rattle.season_month.specs.Listed.{listed}
 use Rattle.season.specs.declared.Season.{Season}
-
--- "two lists in whole thousandths, precipitation and PE, with -1 for missing"
-unfoldable pub listed : ℤ → Reading
-listed (pos n) = Whole (pos n)
-listed (negsuc zero) = Missing
-listed (negsuc (suc n)) = Whole (negsuc (suc n))
 
 -- what a season leaves: its answer, with the run, and the five columns
 pub record SeasonResult : Type 0 where
@@ -42,11 +37,6 @@ joined s a = record { number = 0; added = s .added + 1; settled = s .settled + a
 abbrev pub stopped : Season → ℕ → Season
 stopped s k = record { number = k; added = s .added; settled = s .settled; figures = s .figures; run = s .run }
 
--- by a number: what follows where it is 0, and otherwise what stops
-abbrev pub onlyIf : ℕ → SeasonResult → SeasonResult → SeasonResult
-onlyIf zero on stop = on
-onlyIf (suc k) on stop = stop
-
 -- the single add of a month to a season so far
 abbrev pub single : SeasonResult → ℤ → ℤ → Result
 single t p pe = addWater (t .answer .run) (listed p) (listed pe) (t .columns)
@@ -57,13 +47,13 @@ addEach t [] pes = t
 addEach t (p ∷ ps) [] = t
 addEach t (p ∷ ps) (pe ∷ pes) =
     let b = single t p pe in
-    onlyIf (b .answer .number) (addEach (seasonResult (joined (t .answer) (b .answer)) (b .columns)) ps pes) (seasonResult (stopped (t .answer) (b .answer .number)) (t .columns))
+    unlessRefused (b .answer .number) (addEach (seasonResult (joined (t .answer) (b .answer)) (b .columns)) ps pes) (seasonResult (stopped (t .answer) (b .answer .number)) (t .columns))
 
 -- "1 also covers two lists of unequal length, and 1 and 7 are checked once, before the first month"
 unfoldable pub seasonRefusal : Run → List ℤ → List ℤ → Columns → ℕ
-seasonRefusal r ps pes cs = runRefusal (eqb (length ps) (length pes) && columnsFit cs) (long cs) r
+seasonRefusal r ps pes cs = orElse (cond (eqb (length ps) (length pes)) 0 badLists) (runRefusal r cs)
 
 -- ---- ADD A SEASON
 unfoldable pub addSeason : Run → List ℤ → List ℤ → Columns → SeasonResult
 addSeason r ps pes cs =
-    onlyIf (seasonRefusal r ps pes cs) (addEach (seasonResult (nothing 0 r) cs) ps pes) (seasonResult (nothing (seasonRefusal r ps pes cs) r) cs)
+    unlessRefused (seasonRefusal r ps pes cs) (addEach (seasonResult (nothing 0 r) cs) ps pes) (seasonResult (nothing (seasonRefusal r ps pes cs) r) cs)

@@ -1,19 +1,14 @@
--- A season so far and what the single add of a month gives, both without the run's constants, which no month changes: put together with them
--- they are the `Season` of Season.antt and the answer of the single add. Assumes nothing.
+-- A season so far, without the run's constants, which no month changes: put together with them it is the `Season` of Season.antt. A proof's
+-- vocabulary, which contracts cite. Assumes nothing.
 use mathlib.Core.List.{List}
 use Prim.Native.Nat.{ℕ, _+_}
 use lib.IntN.{ℤ}
 use Rattle.runs.specs.declared.Run.{Run}
-use Rattle.drought.specs.Figures.{noFigures}
-use Rattle.drought.specs.Progress.{progressOf, runOf, addedOf}
-use Rattle.drought.specs.Calls.{refusal}
-use Rattle.drought.specs.declared.Added.{Added}
-use Rattle.drought.specs.declared.MonthAdded.{MonthAdded}
+use Rattle.adding.specs.Figures.{noFigures}
+use Rattle.adding.specs.Progress.{progressOf, runOf}
+use Rattle.adding.specs.declared.MonthAdded.{MonthAdded}
 use Rattle.season.specs.declared.Season.{Season}
 use Rattle.season.specs.declared.SoFar.{SoFar}
-use Rattle.season.specs.declared.Single.{Single}
-use Rattle.season.specs.declared.Single.the-variants
-use Rattle.season.specs.declared.Single.the-variants.{Refused}
 
 -- the most that a count holds
 abbrev pub mostCount : ℕ
@@ -27,13 +22,3 @@ joinedBy s m = record { added = s .added + 1; settled = s .settled + m .settled;
 
 abbrev pub seasonOf : SoFar → ℕ → List ℤ → Season
 seasonOf s number k = record { number = number; added = s .added; settled = s .settled; figures = s .figures; run = runOf (s .progress) k }
-
--- 0, or the refusal
-abbrev pub numberOf : Single → ℕ
-numberOf (the-variants.Added m) = 0
-numberOf (Refused number) = number
-
--- the single add's answer, to the run given
-abbrev pub singleOf : Single → Run → Added
-singleOf (the-variants.Added m) r = addedOf m (r .constants)
-singleOf (Refused number) r = refusal number r

@@ -1,7 +1,6 @@
--- `season::add_listed` meets its contract: each reading is refused or its water taken, and then it refuses for want of room or adds. Assumes
+-- `season_month::add_listed` meets its contract: each reading is refused or its water taken, and then it refuses for want of room or adds. Assumes
 -- nothing.
 use mathlib.Core.Path.{_≡_, refl, sym, ap, _∙_}
-use mathlib.Core.Bool.{true}
 use Prim.Native.Nat.{_<_}
 use borrow.Author.Needs.{needs}
 use mir.Facts.{toZ-ofZ}
@@ -10,17 +9,17 @@ use Rattle.door.specs.Outcome.{Outcome, outcome, accepted}
 use Rattle.door.specs.Readings.{reading}
 use Rattle.door.proofs.Bounds.{reading-most}
 use Rattle.runs.specs.declared.Run.{Run}
-use Rattle.drought.specs.Columns.{Columns, columns, long}
-use Rattle.drought.specs.Progress.{runOf}
-use Rattle.drought.specs.Refusals.{roomRefusal}
+use Rattle.refusals.specs.Columns.{Columns, columns, long}
+use Rattle.adding.specs.Progress.{runOf}
+use Rattle.refusals.specs.Refusals.{roomRefusal}
 use Rattle.outline.specs.Refusals.{orElse}
-use Rattle.drought.proofs.Refused.{room-passes}
+use Rattle.refusals.proofs.Refused.{room-passes}
 use Rattle.outline.proofs.Refusals.{or-first, or-second}
-use Rattle.drought.proofs.Readiness.{ready, watered}
-use Rattle.season.specs.Season.{listed}
-use Rattle.season.proofs.Steps.{not-water, refused-as, accepted-as}
-use Rattle.season.proofs.add_listed.Statement.{statement}
-use Rattle.season.proofs.add_listed.Tie as tie
+use Rattle.adding.proofs.Readiness.{ready, watered}
+use Rattle.season_month.specs.Listed.{listed}
+use Rattle.season_month.proofs.Months.{not-water, refused-as, accepted-as}
+use Rattle.season_month.proofs.add_listed.Statement.{statement}
+use Rattle.season_month.proofs.add_listed.Tie as tie
 
 abbrev lent : tie.Start → Columns
 lent s = let a = s .args in columns (now (a .x1)) (now (a .x2)) (now (a .x3)) (now (a .index)) (now (a .mark))
@@ -117,10 +116,10 @@ add-measured-requires c κs =
     let k = e .before .before in
     let s = k .before .before .before .before .before .before .before .before .before .before .before in
     let g = s .pre in
-    let m : given s .months < long (lent s) = room-passes true (long (lent s)) (given s) (sym (e .before .room-refusal .ensures) ∙ e .if1 .left) in
+    let m : given s .months < long (lent s) = room-passes (long (lent s)) (given s .months) (sym (e .before .room-refusal .ensures) ∙ e .if1 .left) in
     let p = ap (λ (o : Outcome). o .water) (first-water (k .before .before .before .before .before .before)) in
     let q = ap (λ (o : Outcome). o .water) (second-water (k .before)) in
-    (ready (given s) (lent s) (g .fit) (g .run) m, (watered (given s) (lent s) (g .fit) (g .run), (rw p at (reading-most (listed (s .args .p))), rw q at (reading-most (listed (s .args .pe))))))
+    (ready (given s) (lent s) g m, (watered (given s) (lent s) g, (rw p at (reading-most (listed (s .args .p))), rw q at (reading-most (listed (s .args .pe))))))
 
 same-length : tie.Need-same-length
 same-length c = search needs

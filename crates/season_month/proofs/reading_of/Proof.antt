@@ -1,13 +1,13 @@
--- `season::reading_of` meets its contract. Assumes nothing.
+-- `season_month::reading_of` meets its contract. Assumes nothing.
 use mathlib.Core.Path.{sym, ap}
 use lib.IntN.{negsuc}
 use mir.Syntax.{w32}
 use mir.Val.{ofZ}
 use mir.Facts.{toZ-ofZ, sfits-lit}
 use Rattle.exact.proofs.Held.{same-bits}
-use Rattle.season.proofs.Steps.{listed-missing, listed-whole}
-use Rattle.season.proofs.reading_of.Statement.{statement}
-use Rattle.season.proofs.reading_of.Tie as tie
+use Rattle.season_month.proofs.Months.{listed-missing, listed-whole}
+use Rattle.season_month.proofs.reading_of.Statement.{statement}
+use Rattle.season_month.proofs.reading_of.Tie as tie
 
 returns : tie.Need-returns
 returns c = sym (listed-missing _ (same-bits {y = negsuc 0} (c .before .fits .n) (sfits-lit tt) (c .if1 .taken)))

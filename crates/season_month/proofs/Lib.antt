@@ -1,0 +1,2 @@
+-- A month of the lists as a single add.
+pub mod Months
