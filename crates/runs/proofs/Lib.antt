@@ -1,5 +1,2 @@
--- What the proofs share (Outcomes, RangeLaws), the refusals of a start (StartLaws), and the theorems about a run (RunLaws).
-pub mod Outcomes
-pub mod RangeLaws
-pub mod StartLaws
+-- The theorems about a run.
 pub mod RunLaws

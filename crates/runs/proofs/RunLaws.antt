@@ -1,71 +1,26 @@
--- The theorems about a run. What is tested is what is said: `isRun` holds exactly where `RunFits` does (`run-fits`, `fits-run`), so the
--- crates below may be asked (`values-fit`, `constants-at-fit`). A start that is not refused gives a run (`start-is-run`), the calendar goes
--- round the twelve months, and the promise of `start` allows one answer. Each chain of tests is taken apart once. Assumes nothing.
-use mathlib.Core.Path.{_≡_, refl, sym, _∙_}
+-- The theorems about a run. What is tested is what is said: `isRun` holds exactly where `RunFits` does (`run-fits`, `fits-run`), so that a
+-- month of spells may be asked (`values-fit`). Each chain of tests is taken apart once. Assumes nothing.
+use mathlib.Core.Path.{_≡_, refl}
 use mathlib.Core.Bool.{Bool, true, false, _&&_, _||_}
-use mathlib.Core.List.{List}
-use Prim.Native.Nat.{ℕ, _+_, _%_, _≤_, _<_}
+use Prim.Native.Nat.{ℕ, _≤_}
 use native.Mathlib.Omega.{arith}
 use borrow.Author.Tests.{leb-true, le-leb}
 use lib.Dec.{leb}
 use lib.IntN.{ℤ, pos, natAbs}
-use lib.ListN.{getD}
 use lib.Signed.{leZ, ltZ, _<ℤ_}
-use Rattle.outline.specs.Numbers.{mostX, manyConstants, manyOfAMonth, lastMonth, mostMonths}
+use Rattle.outline.specs.Numbers.{mostX, mostMonths}
+use Rattle.outline.proofs.Tests.{first, second, both}
 use Rattle.exact.proofs.Z.{le-yes, le-no, lt-yes}
+use Rattle.exact.proofs.Orders.{le-is, le-not, lt-is}
 use Rattle.water.specs.Layers.{leastCapacity, mostCapacity, surfaceHolds, underlyingHolds, SoilFits}
-use Rattle.water.specs.Constants.{ConstantsFit}
 use Rattle.water.specs.declared.Soil.{Soil}
 use Rattle.spells.specs.Values.{ValuesFit}
-use Rattle.runs.specs.Ranges.{limitOf, constantsFit, placeOf, constantsAt, calendarFits, nextCalendar}
+use Rattle.ranges.specs.Ranges.{constantsFit, calendarFits}
+use Rattle.ranges.proofs.RangeLaws.{calendar-is, is-calendar}
+use Rattle.calendar.proofs.CalendarLaws.{constants-at-fit}
 use Rattle.runs.specs.Runs.{soilFits, sizesFit, signsFit, vFits, isRun}
 use Rattle.runs.specs.RunFits.{RunFits}
-use Rattle.runs.specs.Start.{startRefusal, freshRun, startOf}
 use Rattle.runs.specs.declared.Run.{Run}
-use Rattle.runs.specs.declared.Started.{Started}
-use Rattle.runs.proofs.Outcomes.{le-is, le-not, lt-is, natural}
-use Rattle.outline.proofs.Tests.{first, second, both}
-use Rattle.runs.proofs.RangeLaws.{calendar-is, is-calendar, capacity-is, surface-is, underlying-is, month-is, each-fits, constant-is}
-use Rattle.runs.proofs.StartLaws.{start-fits}
-
--- ---- the calendar
--- the month after any is one of the twelve
-pub calendar-next : (m : ℕ) → calendarFits (nextCalendar m) ≡ true
-unfolding nextCalendar
-calendar-next m = is-calendar (nextCalendar m) (omega arith) (omega arith)
-
--- the next number,
-pub calendar-steps : (m : ℕ) → m < lastMonth → nextCalendar m ≡ m + 1
-unfolding nextCalendar
-calendar-steps m h = omega arith
-
--- and January after December
-pub calendar-turns : nextCalendar lastMonth ≡ 1
-unfolding nextCalendar
-calendar-turns = refl
-
--- ---- the constants
--- the constant at a place of a calendar month
-module _ (l : List ℤ) (m : ℕ) (f : constantsFit l ≡ true) (c : calendarFits m ≡ true) where
-  place-below : (j : ℕ) → j < manyOfAMonth → placeOf m + j < manyConstants
-  place-below j h = let k = calendar-is m c in omega arith
-
-  at-place : (j : ℕ) → j < manyOfAMonth → natAbs (getD l (placeOf m + j) (pos 0)) ≤ limitOf j
-  at-place j h =
-      let r : (placeOf m + j) % manyOfAMonth ≡ j = omega arith in
-      rw r at (constant-is l (placeOf m + j) (each-fits l (placeOf m + j) manyConstants (place-below j h) f) .1)
-
-  -- where the sixty are in range, so are the five of any calendar month
-  pub constants-at-fit : ConstantsFit (constantsAt l m)
-  unfolding constantsAt limitOf
-  constants-at-fit =
-      record {
-        alpha = let z : placeOf m + 0 ≡ placeOf m = omega arith in rw z at (at-place 0 (omega arith));
-        beta = at-place 1 (omega arith);
-        gamma = at-place 2 (omega arith);
-        delta = at-place 3 (omega arith);
-        weight = at-place 4 (omega arith);
-      }
 
 -- ---- chains of three, four and eight tests
 three : (a b c : Bool) → (a && b && c) ≡ true → (a ≡ true) × (b ≡ true) × (c ≡ true)
@@ -175,37 +130,3 @@ module _ (long : ℕ) (r : Run) where
         v-above = f .v-above;
         v-below = f .v-below;
       }
-
--- ---- a start
-module _ (cs : List ℤ) (c ss su m : ℤ) where
-  -- the run of a start that is not refused, as facts
-  pub fresh-fits : startRefusal cs c ss su m ≡ 0 → (long : ℕ) → RunFits long (freshRun cs c ss su m)
-  fresh-fits h long =
-      let f = start-fits cs c ss su m h in
-      let k = capacity-is c (f .capacity) in
-      let n = month-is m (f .month) in
-      record {
-        months = omega arith;
-        opens = omega arith;
-        soil = record { least = k .1; most = k .2; surface = surface-is c ss su (f .storages) .2; underlying = underlying-is c ss su (f .storages) .2 };
-        first-month = n .1;
-        last-month = n .2;
-        constants = f .constants;
-        month-constants = constants-at-fit cs (natAbs m) (f .constants) (is-calendar (natAbs m) (n .1) (n .2));
-        x1-size = omega arith;
-        x2-size = omega arith;
-        x3-size = omega arith;
-        v-size = omega arith;
-        x1-sign = natural 0;
-        x2-sign = natural 0;
-        v-above = λ g. absurd (g .lt);
-        v-below = λ g. absurd (g .lt);
-      }
-
-  -- a start that is not refused gives a run, for columns of any length
-  pub start-is-run : startRefusal cs c ss su m ≡ 0 → (long : ℕ) → isRun long (freshRun cs c ss su m) ≡ true
-  start-is-run h long = fits-run long (freshRun cs c ss su m) (fresh-fits h long)
-
-  -- any two answers that the promise of `start` allows are the same
-  pub one-start : (a b : Started) → a ≡ startOf cs c ss su m → b ≡ startOf cs c ss su m → a ≡ b
-  one-start a b p q = p ∙ sym q

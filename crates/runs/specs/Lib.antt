@@ -1,5 +1,3 @@
--- What the contracts of `runs` cite: the ranges (Ranges), what a run is (Runs), the same as facts (RunFits) and a start (Start).
-pub mod Ranges
+-- What the contracts of `runs` cite: what a run is (Runs), and the same as facts, for proofs (RunFits).
 pub mod Runs
 pub mod RunFits
-pub mod Start

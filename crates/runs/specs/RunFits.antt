@@ -1,5 +1,5 @@
--- A run as facts: what `isRun` tests, each as an order or a record of the crates below, for the contracts that take a run. The two say the
--- same (proofs/RunLaws.antt, `run-fits` and `fits-run`). Assumes nothing.
+-- A proof's vocabulary: a run as facts, what `isRun` tests, each as an order or a record of the crates below. The two say the same
+-- (proofs/RunLaws.antt, `run-fits` and `fits-run`). Assumes nothing.
 use mathlib.Core.Path.{_≡_}
 use mathlib.Core.Bool.{true}
 use Prim.Native.Nat.{ℕ, _*_, _≤_}
@@ -8,7 +8,8 @@ use lib.Signed.{_≤ℤ_, _<ℤ_}
 use Rattle.outline.specs.Numbers.{mostX, mostU, lastMonth}
 use Rattle.water.specs.Layers.{SoilFits}
 use Rattle.water.specs.Constants.{ConstantsFit}
-use Rattle.runs.specs.Ranges.{constantsFit, constantsAt}
+use Rattle.ranges.specs.Ranges.{constantsFit}
+use Rattle.calendar.specs.Calendar.{constantsAt}
 use Rattle.runs.specs.declared.Run.{Run}
 
 -- a run, for columns of this length

@@ -8,7 +8,7 @@ use Rattle.outline.specs.Numbers.{mostX, mostZ, mostU}
 use Rattle.water.specs.Layers.{leastCapacity, mostCapacity, surfaceHolds, underlyingHolds}
 use Rattle.water.specs.declared.Soil.{Soil}
 use Rattle.spells.specs.declared.Running.{Running}
-use Rattle.runs.specs.Ranges.{constantsFit, calendarFits}
+use Rattle.ranges.specs.Ranges.{constantsFit, calendarFits}
 use Rattle.runs.specs.declared.Run.{Run}
 
 -- "capacity or storages out of range": not so

@@ -10,8 +10,8 @@ use native.Mathlib.Omega.{arith}
 use lib.IntN.{ℤ, pos, natAbs}
 use lib.ListN.{length, getD, drop}
 use lib.Seq.{drop-cons}
-use borrow.Author.Tests.{leb-true, le-leb}
 use Rattle.outline.specs.Numbers.{mostZ, zFits}
+use Rattle.outline.proofs.Tests.{each, z-within, within-z}
 use Rattle.series.specs.Series.{allZFit}
 
 -- ---- the scan
@@ -40,26 +40,14 @@ scan-all z i h e = sym (e ∙ rw (drop-out z i h) refl)
 
 -- ---- each Z
 
-z-within : (z : ℤ) → zFits z ≡ true → natAbs z ≤ mostZ
-unfolding zFits
-z-within z e = leb-true (natAbs z) mostZ e
-
-within-z : (z : ℤ) → natAbs z ≤ mostZ → zFits z ≡ true
-unfolding zFits
-within-z z h = le-leb (natAbs z) mostZ h
-
-pub both : (a b : Bool) → (a && b) ≡ true → (a ≡ true) × (b ≡ true)
-both true b e = (refl, e)
-both false b e = let no : _≡_ {A = ℕ} 0 1 = cc in absurd (omega arith)
-
 -- every Z of the list is in its range
 abbrev pub EachFits : List ℤ → Type 0
 EachFits z = (i : ℕ) → i < length z → natAbs (getD z i (pos 0)) ≤ mostZ
 
 pub each-fits : (z : List ℤ) → allZFit z ≡ true → EachFits z
 each-fits [] e i h = absurd (omega arith)
-each-fits (x ∷ z) e zero h = z-within x (both (zFits x) (allZFit z) e .0)
-each-fits (x ∷ z) e (suc i) h = each-fits z (both (zFits x) (allZFit z) e .1) i (omega arith)
+each-fits (x ∷ z) e zero h = z-within x (each (zFits x) (allZFit z) e .0)
+each-fits (x ∷ z) e (suc i) h = each-fits z (each (zFits x) (allZFit z) e .1) i (omega arith)
 
 pub all-fit : (z : List ℤ) → EachFits z → allZFit z ≡ true
 all-fit [] h = refl

@@ -12,11 +12,12 @@ use lib.ListN.{length}
 use lib.Dec.{eqb, leb}
 use borrow.Author.Tests.{eqb-true, eq-eqb, leb-true, le-leb}
 use Rattle.outline.specs.Numbers.{mostMonths, lengthFits}
+use Rattle.outline.specs.Refusals.{unlessRefused}
 use Rattle.hindsight.specs.Rule.{forwardIndexes, forwardMarks}
 use Rattle.hindsight.specs.Adding.{addAll}
 use Rattle.hindsight.specs.Months.{rowsOfZ}
 use Rattle.hindsight.proofs.Adding.{series-is-adding}
-use Rattle.series.specs.Series.{allZFit, listsFit, seriesRefusal, Filled, filled, filledWith, wholeSeries}
+use Rattle.series.specs.Series.{allZFit, listsFit, seriesRefusal, Filled, filled, wholeSeries}
 use Rattle.series.proofs.EachZ.{EachFits, each-fits, all-fit}
 use Rattle.outline.proofs.Tests.{each}
 
@@ -51,7 +52,7 @@ module _ (z index : List ℤ) (mark : List ℕ) (r : ℕ) (i : List ℤ) (m : Li
   unfolding wholeSeries
   number-of = ap (λ (f : Filled). f .number) p ∙ of (seriesRefusal z (length index) (length mark))
     where
-      of : (k : ℕ) → filledWith k (rowsOfZ z) index mark .number ≡ k
+      of : (k : ℕ) → unlessRefused k (filled 0 (forwardIndexes (rowsOfZ z)) (forwardMarks (rowsOfZ z))) (filled k index mark) .number ≡ k
       of zero = refl
       of (suc k) = refl
 
@@ -79,9 +80,9 @@ pub record ListsFit (z index mark : ℕ) : Type 0 where
 lists-true : (z index mark : ℕ) → listsFit z index mark ≡ true → ListsFit z index mark
 unfolding listsFit lengthFits
 lists-true z index mark e =
-    let p = both (eqb index z && eqb mark z) (leb 1 z && leb z mostMonths) e in
-    let q = both (eqb index z) (eqb mark z) (p .0) in
-    let l = both (leb 1 z) (leb z mostMonths) (p .1) in
+    let p = each (eqb index z && eqb mark z) (leb 1 z && leb z mostMonths) e in
+    let q = each (eqb index z) (eqb mark z) (p .0) in
+    let l = each (leb 1 z) (leb z mostMonths) (p .1) in
     record {
       index-long = eqb-true index z (q .0);
       mark-long = eqb-true mark z (q .1);

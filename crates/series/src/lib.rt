@@ -1,4 +1,7 @@
 // The whole series: a list of Z in, indexes and marks out.
+use outline::BAD_LISTS;
+use outline::BAD_Z;
+use outline::MOST_MONTHS;
 use spells::Running;
 ghost use mathlib.Core.Path.{_≡_};
 ghost use mathlib.Core.Bool.{true};
@@ -9,21 +12,13 @@ ghost use Rattle.hindsight.specs.Rule.{forwardIndexes, forwardMarks};
 ghost use Rattle.hindsight.specs.Months.{rowsOfZ};
 ghost use Rattle.series.specs.Series.{allZFit, listsFit, seriesRefusal, filled, wholeSeries};
 
-// The longest that lent lists may be: so many months are held while the scans look forward.
-const MOST_MONTHS: usize = 2_400;
-
-// Refusals.
-const BAD_LISTS: u8 = 1;
-
-const BAD_Z: u8 = 12;
-
 fn all_z_fit(z: &[i32]) -> bool
     ensures { λ r. ⌜ r ≡ allZFit (now (z .entry)) ⌝ }
 {
     let mut i = 0;
     while i < z.len() {
         let t = z[i];
-        if !runs::z_fits(t) {
+        if !ranges::z_fits(t) {
             return false;
         }
         i += 1;
@@ -40,7 +35,7 @@ fn lists_fit(z: usize, index: usize, mark: usize) -> bool
     if mark != z {
         return false;
     }
-    runs::length_fits(z)
+    ranges::length_fits(z)
 }
 
 // Decided here, in the paper's order: 1, 12.
@@ -56,7 +51,8 @@ fn series_refusal(z: &[i32], index: usize, mark: usize) -> u8
     0
 }
 
-// Steps through the Z from a fresh run's values, and looks forward from every month.
+// Steps through the Z from a fresh run's values, and looks forward from every month. So many months as a list may have are held
+// while the scans look forward.
 fn fill(z: &[i32], index: &mut [i32], mark: &mut [u8])
     requires { ⌜ (length (now z) ≤ mostMonths) × (length (now index) ≡ length (now z)) × (length (now mark) ≡ length (now z)) ⌝ }
     requires { ⌜ allZFit (now z) ≡ true ⌝ }

@@ -7,7 +7,7 @@ use native.Mathlib.Omega.{arith}
 use borrow.Author.Needs.{needs}
 use borrow.Author.Tests.{le-leb, lt-leb}
 use lib.Dec.{leb}
-use Rattle.runs.specs.Ranges.{constantsFit, calendarFits}
+use Rattle.ranges.specs.Ranges.{constantsFit, calendarFits}
 use Rattle.runs.specs.Runs.{soilFits, sizesFit, isRun}
 use Rattle.runs.specs.declared.Run.{Run}
 use Rattle.outline.proofs.Tests.{fails, passes, both}

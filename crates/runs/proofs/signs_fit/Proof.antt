@@ -9,7 +9,7 @@ use mir.Facts.{toZ-ofZ}
 use Rattle.exact.proofs.Held.{held}
 use Rattle.spells.specs.declared.Running.{Running}
 use Rattle.runs.specs.Runs.{signsFit}
-use Rattle.runs.proofs.Outcomes.{le-is, le-not, lt-le}
+use Rattle.exact.proofs.Orders.{le-is, le-not, lt-le}
 use Rattle.runs.proofs.signs_fit.Statement.{statement}
 use Rattle.runs.proofs.signs_fit.Tie as tie
 

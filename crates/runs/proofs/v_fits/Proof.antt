@@ -9,7 +9,7 @@ use borrow.Author.Needs.{needs}
 use Rattle.exact.proofs.Held.{held, unsigned}
 use Rattle.outline.specs.Numbers.{mostU}
 use Rattle.runs.specs.Runs.{vFits}
-use Rattle.runs.proofs.Outcomes.{natural}
+use Rattle.exact.proofs.Orders.{natural}
 use Rattle.runs.proofs.v_fits.Statement.{statement}
 use Rattle.runs.proofs.v_fits.Tie as tie
 

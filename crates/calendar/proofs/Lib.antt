@@ -1,0 +1,2 @@
+-- The laws of the calendar.
+pub mod CalendarLaws

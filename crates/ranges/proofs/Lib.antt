@@ -1,0 +1,2 @@
+-- What the ranges say, place by place.
+pub mod RangeLaws

@@ -1,0 +1,2 @@
+-- What the contracts of `starts` cite: a start.
+pub mod Start
