@@ -3,7 +3,7 @@ use Prim.Native.Nat.{_<_}
 use Rattle.runs.specs.RunFits.{RunFits}
 use Rattle.runs.specs.declared.Run.{Run}
 use Rattle.runs.proofs.RunLaws.{run-fits, values-fit}
-use Rattle.runs.proofs.RangeLaws.{is-calendar}
+use Rattle.ranges.proofs.RangeLaws.{is-calendar}
 use Rattle.refusals.specs.Columns.{Columns, long}
 use Rattle.refusals.specs.Good.{Good}
 use Rattle.refusals.proofs.Refused.{columns-are}

@@ -13,13 +13,12 @@ use Rattle.spells.specs.declared.Decision.the-variants.{Nothing, Decides}
 use Rattle.spells.specs.declared.Running.{Running}
 use Rattle.spells.specs.declared.SpellMonth.{SpellMonth}
 use Rattle.hindsight.specs.Rule.{Row}
-use Rattle.hindsight.specs.Adding.{addAs, addMonth, settledAs, settledCount}
-use Rattle.hindsight.specs.Adding.{History}
+use Rattle.hindsight.specs.Adding.{addAs, addMonth, settledAs, settledCount, History}
 use Rattle.hindsight.specs.Columns.{rowOf, Adds}
 use Rattle.spells.specs.Decisions.{decisionNumber}
 use Rattle.hindsight.specs.Months.{rowFor}
 use Rattle.hindsight.proofs.Numbers.{number-is}
-use Rattle.runs.specs.Ranges.{nextCalendar}
+use Rattle.calendar.specs.Calendar.{nextCalendar}
 use Rattle.runs.specs.declared.Run.{Run}
 use Rattle.refusals.specs.Columns.{Columns, columns}
 use Rattle.adding.specs.Figures.{figuresOf}

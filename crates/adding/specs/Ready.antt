@@ -7,7 +7,7 @@ use lib.ListN.{length}
 use Rattle.water.specs.Layers.{SoilFits}
 use Rattle.spells.specs.Values.{ValuesFit}
 use Rattle.spells.specs.declared.Running.{Running}
-use Rattle.runs.specs.Ranges.{constantsFit, calendarFits}
+use Rattle.ranges.specs.Ranges.{constantsFit, calendarFits}
 use Rattle.outline.specs.Numbers.{mostMonths}
 use Rattle.runs.specs.declared.Run.{Run}
 use Rattle.refusals.specs.Columns.{Columns, long, columnsFit}

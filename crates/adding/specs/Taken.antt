@@ -13,7 +13,7 @@ use Rattle.spells.specs.declared.SpellMonth.{SpellMonth}
 use Rattle.hindsight.specs.Adding.{History, addMonth, settledCount}
 use Rattle.hindsight.specs.Columns.{runFrom}
 use Rattle.hindsight.specs.Months.{rowFor}
-use Rattle.runs.specs.Ranges.{constantsAt, nextCalendar}
+use Rattle.calendar.specs.Calendar.{constantsAt, nextCalendar}
 use Rattle.runs.specs.declared.Run.{Run}
 use Rattle.refusals.specs.Columns.{Columns, columns}
 use Rattle.adding.specs.Figures.{waterFigures, noWater, figuresOf, noFigures}

@@ -109,7 +109,7 @@ pub fn add_measured(
     ensures { λ t. ⌜ result (addedOf t (now (constants .entry))) (columns (now (x1 .exit)) (now (x2 .exit)) (now (x3 .exit)) (now (index .exit)) (now (mark .exit))) ≡ takenWater (runOf at (now (constants .entry))) p pe (columns (now (x1 .entry)) (now (x2 .entry)) (now (x3 .entry)) (now (index .entry)) (now (mark .entry))) ⌝ }
 {
     let soil = at.soil;
-    let k = runs::constants_at(constants, at.calendar);
+    let k = calendar::constants_at(constants, at.calendar);
     let m = water::month_of(soil, p, pe, k);
     let water = water_figures(p, pe, m);
     let left = Soil {
@@ -172,7 +172,7 @@ pub fn add_month(
     let progress = Progress {
         months: at.months + 1,
         opens: s.opens,
-        calendar: runs::next_calendar(at.calendar),
+        calendar: calendar::next_calendar(at.calendar),
         soil,
         values: moved,
     };

@@ -4,7 +4,7 @@ use mathlib.Core.List.{List}
 use Prim.Native.Nat.{ℕ}
 use lib.IntN.{ℤ}
 use lib.ListN.{length}
-use Rattle.runs.specs.Start.{startRefusal}
+use Rattle.starts.specs.Start.{startRefusal}
 use Rattle.series.specs.Series.{seriesRefusal, wholeSeries}
 use Rattle.series.proofs.SeriesLaws.{number-of, refused-writes-nothing}
 use Rattle.drought.specs.Columns.{Columns}

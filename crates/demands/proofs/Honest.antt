@@ -16,9 +16,9 @@ use Rattle.door.specs.Readings.{mostReading, whole, converted, inches, millimet
 use Rattle.door.specs.declared.Reading.{Reading}
 use Rattle.door.specs.declared.Reading.the-variants.{Whole, Inches, Millimetres, Missing}
 use Rattle.outline.specs.Numbers.{zFits}
-use Rattle.runs.specs.Start.{startRefusal}
+use Rattle.starts.specs.Start.{startRefusal}
 use Rattle.runs.specs.declared.Run.{Run}
-use Rattle.runs.proofs.RunLaws.{start-is-run}
+use Rattle.starts.proofs.Theorems.{start-is-run}
 use Rattle.drought.specs.Columns.{Columns, long, columnsFit}
 use Rattle.drought.specs.Ready.{Good}
 use Rattle.drought.proofs.Accepts.{good-passes}

@@ -17,10 +17,11 @@ use Rattle.door.specs.declared.Reading.{Reading}
 use Rattle.door.specs.declared.Reading.the-variants.{Missing}
 use Rattle.water.specs.Layers.{surfaceHolds, underlyingHolds}
 use Rattle.spells.specs.Spells.{turn, uOf, vOf, eOf, qOf, endingOf, percentOf, raised, lowered, largerInSize, provisional, steadyMonth, abatingValues, abatingMonth, founded, unfounded, tried, noSpell, endingMonth, inForce, stepOf}
-use Rattle.runs.specs.Ranges.{limitOf, constantFits, constantsFitTo, calendarFits, nextCalendar}
+use Rattle.ranges.specs.Ranges.{limitOf, constantFits, constantsFitTo, calendarFits}
+use Rattle.calendar.specs.Calendar.{nextCalendar}
 use Rattle.runs.specs.Runs.{soilFits, sizesFit, signsFit, vFits, isRun}
 use Rattle.outline.specs.Numbers.{lengthFits, zFits}
-use Rattle.runs.specs.Start.{freshRun}
+use Rattle.starts.specs.Start.{freshRun}
 use Rattle.runs.specs.declared.Run.{Run}
 use Rattle.drought.specs.Columns.{Columns, columns, long, lengthsFit, columnsFit}
 use Rattle.drought.specs.Refusals.{runRefusal, roomRefusal, waterRefusal, zRefusal, rowRefusal}

@@ -16,7 +16,8 @@ use Rattle.water.specs.Layers.{surfaceHolds, underlyingHolds}
 use Rattle.water.specs.Balance.{underLoss, balanceOf, wetMonth, toSurface, toUnderlying}
 use Rattle.water.specs.Expected.{potentialSurface, potentialUnderlying, potentialsOf, nOf, expectedOf, zOf, monthOf}
 use Rattle.spells.specs.Spells.{turn, uOf, vOf, eOf, qOf, endingOf, percentOf, raised, lowered, largerInSize, provisional, steadyMonth, abatingValues, abatingMonth, founded, unfounded, tried, noSpell, endingMonth, inForce, stepOf}
-use Rattle.runs.specs.Ranges.{limitOf, constantFits, constantsFitTo, constantsAt, calendarFits, nextCalendar}
+use Rattle.ranges.specs.Ranges.{limitOf, constantFits, constantsFitTo, calendarFits}
+use Rattle.calendar.specs.Calendar.{constantsAt, nextCalendar}
 use Rattle.runs.specs.Runs.{soilFits, sizesFit, signsFit, vFits, isRun}
 use Rattle.outline.specs.Numbers.{lengthFits, zFits}
 use Rattle.runs.specs.declared.Run.{Run}

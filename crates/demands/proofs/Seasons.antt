@@ -13,9 +13,9 @@ use lib.Seq.{getD-set-other, getD-append-add, getD-drop, length-take-le}
 use Rattle.spells.specs.Spells.{stepOf}
 use Rattle.hindsight.specs.Adding.{addMonth}
 use Rattle.hindsight.specs.Months.{rowFor}
-use Rattle.runs.specs.Start.{startRefusal}
+use Rattle.starts.specs.Start.{startRefusal}
 use Rattle.runs.specs.declared.Run.{Run}
-use Rattle.runs.proofs.RunLaws.{start-is-run}
+use Rattle.starts.proofs.Theorems.{start-is-run}
 use Rattle.drought.specs.Columns.{Columns, long, columnsFit}
 use Rattle.drought.specs.Ready.{Good}
 use Rattle.drought.specs.Calls.{Result, heldBy, taken}

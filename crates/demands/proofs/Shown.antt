@@ -16,14 +16,11 @@ use Rattle.water.proofs.Theorems.{month-water-kept}
 use Rattle.spells.specs.Spells.{stepOf}
 use Rattle.hindsight.specs.Rule.{Row, forward}
 use Rattle.hindsight.specs.Counts.{NoneFrom, count}
-use Rattle.hindsight.specs.Adding.{addAll, addTo, addMonth, settledCount}
-use Rattle.hindsight.specs.Adding.{History}
-use Rattle.hindsight.specs.Adding.{fresh as nothing-held}
-use Rattle.hindsight.specs.Columns.{rowsOf}
-use Rattle.hindsight.specs.Columns.{stateOf as stateAfter}
+use Rattle.hindsight.specs.Adding.{addAll, addTo, addMonth, settledCount, History, fresh as nothing-held}
+use Rattle.hindsight.specs.Columns.{rowsOf, stateOf as stateAfter}
 use Rattle.hindsight.proofs.Hindsight.{every-index, every-mark, open-exactly, settled-stays, last-are-open, opens-counts, answers-settled, add-append}
-use Rattle.runs.specs.Ranges.{constantsAt}
-use Rattle.runs.specs.Start.{startRefusal, startOf, freshRun, zeroRun, startedWith}
+use Rattle.calendar.specs.Calendar.{constantsAt}
+use Rattle.starts.specs.Start.{startRefusal, startOf, freshRun, zeroRun, startedWith}
 use Rattle.runs.specs.declared.Run.{Run}
 use Rattle.drought.specs.Columns.{Columns, long, columnsFit}
 use Rattle.drought.specs.Refusals.{waterRefusal, zRefusal}

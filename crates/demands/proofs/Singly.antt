@@ -14,10 +14,10 @@ use Rattle.hindsight.specs.Columns.{rowsOf}
 use Rattle.hindsight.specs.Months.{nextValues, rowOfZ, rowsOfZ}
 use Rattle.hindsight.proofs.Adding.{series-is-adding}
 use Rattle.outline.specs.Numbers.{zFits}
-use Rattle.runs.specs.Start.{startRefusal, freshRun}
+use Rattle.starts.specs.Start.{startRefusal, freshRun}
 use Rattle.runs.specs.declared.Run.{Run}
 use Rattle.outline.proofs.Tests.{first, second}
-use Rattle.runs.proofs.RunLaws.{start-is-run}
+use Rattle.starts.proofs.Theorems.{start-is-run}
 use Rattle.series.specs.Series.{allZFit, seriesRefusal, filled, filledWith, wholeSeries}
 use Rattle.drought.specs.Columns.{Columns, long, columnsFit}
 use Rattle.drought.specs.Ready.{Good}

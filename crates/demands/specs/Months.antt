@@ -15,7 +15,7 @@ use Rattle.spells.specs.declared.Running.{Running}
 use Rattle.hindsight.specs.Rule.{Row}
 use Rattle.hindsight.specs.Columns.{rowsOf}
 use Rattle.hindsight.specs.Months.{rowFor}
-use Rattle.runs.specs.Ranges.{constantsAt, nextCalendar}
+use Rattle.calendar.specs.Calendar.{constantsAt, nextCalendar}
 use Rattle.runs.specs.declared.Run.{Run}
 use Rattle.drought.specs.Columns.{Columns}
 use Rattle.drought.specs.Figures.{waterFigures, noWater}

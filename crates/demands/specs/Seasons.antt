@@ -7,7 +7,7 @@ use mathlib.Core.List.{List, [], _∷_, _++_}
 use Prim.Native.Nat.{ℕ, _+_, _≤_}
 use lib.IntN.{ℤ, pos}
 use lib.ListN.{length, getD, take}
-use Rattle.runs.specs.Start.{startRefusal}
+use Rattle.starts.specs.Start.{startRefusal}
 use Rattle.runs.specs.declared.Run.{Run}
 use Rattle.drought.specs.Columns.{Columns, columnsFit}
 use Rattle.drought.specs.Figures.{noFigures}

@@ -1,6 +1,1 @@
--- What the proofs of `drought` share.
-pub mod Taken
-pub mod Refused
-pub mod Readiness
-pub mod Keeps
-pub mod Accepts
+-- Nothing that other crates use.

@@ -8,12 +8,12 @@ use door::Answer;
 use door::MonthInches;
 use door::Reading;
 use runs::Run;
-use runs::Started;
+use starts::Started;
 ghost use mathlib.Core.Path.{_≡_};
 ghost use Prim.Native.Nat.{_≤_};
 ghost use Rattle.door.specs.Outcome.{outcome};
 ghost use Rattle.door.specs.Readings.{reading, mostReading};
-ghost use Rattle.runs.specs.Start.{startOf};
+ghost use Rattle.starts.specs.Start.{startOf};
 ghost use Rattle.series.specs.Series.{filled, wholeSeries};
 ghost use Rattle.refusals.specs.Columns.{columns};
 ghost use Rattle.adding.specs.Taken.{result};
@@ -41,7 +41,7 @@ pub fn read(r: Reading) -> Answer
 pub fn start(constants: &[i32], capacity: i32, surface: i32, underlying: i32, month: i32) -> Started
     ensures { λ r. ⌜ r ≡ startOf (now (constants .entry)) capacity surface underlying month ⌝ }
 {
-    runs::start(constants, capacity, surface, underlying, month)
+    starts::start(constants, capacity, surface, underlying, month)
 }
 
 // Adds a month of water, from two readings: 1, 7, 8 or 9, 10.

@@ -2,8 +2,8 @@
 use mathlib.Core.Path.{_≡_, refl}
 use lib.IntN.{pos}
 use lib.ListN.{replicate}
-use Rattle.runs.specs.Ranges.{limitOf, constantFits, constantsFitTo}
-use Rattle.runs.specs.Start.{startOf, startRefusal, capacityFits, storagesFit, monthFits}
+use Rattle.ranges.specs.Ranges.{limitOf, constantFits, constantsFitTo}
+use Rattle.starts.specs.Start.{startOf, startRefusal, capacityFits, storagesFit, monthFits}
 use Rattle.water.specs.Layers.{surfaceHolds, underlyingHolds}
 
 pub started : startOf (replicate 60 (pos 0)) (pos 1000) (pos 0) (pos 0) (pos 1) .number ≡ 0

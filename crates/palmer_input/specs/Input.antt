@@ -11,7 +11,7 @@ use Rattle.text.specs.Bytes.{lineFeed}
 use Rattle.lines.specs.Line.{Judged}
 use Rattle.lines.specs.Reading.{begun, fed, finished}
 use Rattle.lines.specs.declared.Line.{Line}
-use Rattle.runs.specs.Start.{startOf}
+use Rattle.starts.specs.Start.{startOf}
 use Rattle.runs.specs.declared.Run.{Run}
 use Rattle.drought.specs.Columns.{Columns}
 use Rattle.drought.specs.Calls.{Result, addZ}

@@ -54,7 +54,7 @@ pub fn z_refusal(
     if first != 0 {
         return first;
     }
-    if !runs::z_fits(z) {
+    if !ranges::z_fits(z) {
         return BAD_Z;
     }
     room_refusal(x1.len(), run.months)
@@ -120,7 +120,7 @@ fn lengths_fit(x1: usize, x2: usize, x3: usize, index: usize, mark: usize) -> bo
     if mark != x1 {
         return false;
     }
-    runs::length_fits(x1)
+    ranges::length_fits(x1)
 }
 
 // 10, which every add asks last, of columns of length n.

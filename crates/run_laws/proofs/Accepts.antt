@@ -7,7 +7,7 @@ use Rattle.door.specs.Outcome.{Outcome}
 use Rattle.door.specs.Readings.{mostReading}
 use Rattle.water.specs.Layers.{SoilFits}
 use Rattle.water.proofs.Theorems.{z-acceptable, month-layers-kept}
-use Rattle.runs.specs.Ranges.{constantsAt}
+use Rattle.calendar.specs.Calendar.{constantsAt}
 use Rattle.runs.specs.declared.Run.{Run}
 use Rattle.refusals.specs.Columns.{Columns, long}
 use Rattle.refusals.specs.Good.{Good}

@@ -23,11 +23,12 @@ use Rattle.hindsight.specs.Months.{rowFor}
 use Rattle.hindsight.specs.Columns.{xAt}
 use Rattle.hindsight.proofs.Adding.{length-xs}
 use Rattle.runs.specs.Runs.{isRun}
-use Rattle.runs.specs.Ranges.{nextCalendar}
+use Rattle.calendar.specs.Calendar.{nextCalendar}
 use Rattle.runs.specs.RunFits.{RunFits}
 use Rattle.runs.specs.declared.Run.{Run}
-use Rattle.runs.proofs.RunLaws.{fits-run, calendar-next, constants-at-fit}
-use Rattle.runs.proofs.RangeLaws.{calendar-is}
+use Rattle.runs.proofs.RunLaws.{fits-run}
+use Rattle.calendar.proofs.CalendarLaws.{calendar-next, constants-at-fit}
+use Rattle.ranges.proofs.RangeLaws.{calendar-is}
 use Rattle.refusals.specs.Columns.{Columns, long, columnsFit}
 use Rattle.adding.specs.Taken.{heldBy, runAfter, taken}
 use Rattle.adding.specs.declared.WaterFigures.{WaterFigures}

@@ -12,8 +12,8 @@ use Rattle.outline.specs.Numbers.{mostZ}
 use Rattle.exact.proofs.Held.{held}
 use Rattle.water.specs.Constants.{ConstantsFit}
 use Rattle.water.proofs.Theorems.{z-acceptable}
-use Rattle.runs.specs.Ranges.{constantsAt}
-use Rattle.runs.proofs.RunLaws.{constants-at-fit}
+use Rattle.calendar.specs.Calendar.{constantsAt}
+use Rattle.calendar.proofs.CalendarLaws.{constants-at-fit}
 use Rattle.adding.specs.Taken.{takenWater, waterOf}
 use Rattle.adding.specs.Progress.{runOf}
 use Rattle.adding.proofs.add_measured.Statement.{statement}

@@ -1,24 +1,23 @@
 -- `drought::add_answers` meets its contract: its number is the definition's, and then it refuses or adds. Assumes nothing.
-use mathlib.Core.Path.{_≡_, sym, _∙_}
-use mathlib.Core.Bool.{true}
-use Prim.Native.Nat.{ℕ, _<_}
+use mathlib.Core.Path.{_≡_, sym, ap₂, _∙_}
+use Prim.Native.Nat.{ℕ, _≤_, _<_}
 use borrow.Author.Needs.{needs}
 use denote.Ref.{now}
 use Rattle.door.specs.Outcome.{outcome}
-use Rattle.runs.specs.Runs.{isRun}
-use Rattle.drought.specs.Columns.{Columns, columns, long, columnsFit}
-use Rattle.drought.specs.Refusals.{waterRefusal}
-use Rattle.drought.specs.Calls.{addOutcomes, takenWater}
-use Rattle.drought.proofs.Refused.{water-passes, refuses, accepts}
-use Rattle.drought.proofs.Readiness.{ready, watered}
+use Rattle.door.specs.Readings.{mostReading}
+use Rattle.refusals.specs.Columns.{Columns, columns, long}
+use Rattle.refusals.specs.Good.{Good}
+use Rattle.refusals.specs.Refusals.{waterRefusal}
+use Rattle.refusals.proofs.Refused.{water-passes}
+use Rattle.adding.specs.Taken.{takenWater}
+use Rattle.adding.proofs.Readiness.{ready, watered}
+use Rattle.adding.proofs.Answered.{refuses, accepts}
+use Rattle.drought.specs.Calls.{addOutcomes}
 use Rattle.drought.proofs.add_answers.Statement.{statement}
 use Rattle.drought.proofs.add_answers.Tie as tie
 
 abbrev lent : tie.Start → Columns
 lent s = let a = s .args in columns (now (a .x1)) (now (a .x2)) (now (a .x3)) (now (a .index)) (now (a .mark))
-
-lengths-fit-requires : tie.Need-lengths-fit-requires
-lengths-fit-requires c κs = search needs
 
 number-requires : tie.Need-number-requires
 number-requires c κs = search needs
@@ -26,51 +25,39 @@ number-requires c κs = search needs
 number-requires-2 : tie.Need-number-requires-2
 number-requires-2 c κs = search needs
 
-water-refusal-requires : tie.Need-water-refusal-requires
-water-refusal-requires c κs = search needs
-
-refuse-requires : tie.Need-refuse-requires
-refuse-requires c κs = search needs
-
--- its number is the definition's
-abbrev asked : tie.Start → ℕ
-asked s = waterRefusal (columnsFit (lent s)) (long (lent s)) (s .args .t1) (outcome (s .args .p) .number) (outcome (s .args .pe) .number)
-
-number-is : (c : tie.After-water-refusal) → c .water-refusal .result ≡ asked (c .before .before .before .before .before)
-number-is c = rw (c .before .before .before .lengths-fit .ensures, c .before .before .number .ensures, c .before .number2 .ensures) at (c .water-refusal .ensures)
-
-passes : (c : tie.Else1) → ((columnsFit (lent (c .before .before .before .before .before .before)) ≡ true) × (isRun (long (lent (c .before .before .before .before .before .before))) (c .before .before .before .before .before .before .args .t1) ≡ true)) × (c .before .before .before .before .before .before .args .t1 .months < long (lent (c .before .before .before .before .before .before)))
-passes c =
-    let s = c .before .before .before .before .before .before in
-    water-passes (columnsFit (lent s)) (long (lent s)) (s .args .t1) (outcome (s .args .p) .number) (outcome (s .args .pe) .number) (sym (number-is (c .before)) ∙ c .if1 .left)
-
-returns : tie.Need-returns
-unfolding addOutcomes
-returns c =
-    let d = c .before .before in
-    let s = d .before .before .before .before .before in
-    refuses (d .water-refusal .result) (asked s) (s .args .t1) (lent s) (takenWater (s .args .t1) (outcome (s .args .p) .water) (outcome (s .args .pe) .water) (lent s)) (number-is d) (c .refuse .result) (c .before .if1 .taken) (c .refuse .ensures)
-
 water-requires : tie.Need-water-requires
 water-requires c κs = search needs
 
 water-requires-2 : tie.Need-water-requires-2
 water-requires-2 c κs = search needs
 
-progress-of-requires : tie.Need-progress-of-requires
-progress-of-requires c κs = search needs
+water-refusal-requires : tie.Need-water-refusal-requires
+water-refusal-requires c κs = search needs
 
-add-measured-requires : tie.Need-add-measured-requires
-add-measured-requires c κs =
-    let o = c .before .before .before .before .before .before .before in
-    let w = o .before in
-    let e = w .before .before in
-    let s = e .before .before .before .before .before .before in
-    let p = passes e in
-    (rw (o .progress-of .ensures) (ready (s .args .t1) (lent s) (p .0 .0) (p .0 .1) (p .1)), (rw (o .progress-of .ensures) (watered (s .args .t1) (lent s) (p .0 .0) (p .0 .1)), rw (w .before .water .ensures, w .water2 .ensures) (s .pre)))
+refuse-requires : tie.Need-refuse-requires
+refuse-requires c κs = search needs
 
-added-of-requires : tie.Need-added-of-requires
-added-of-requires c κs = search needs
+-- the two readings' numbers and water, and what was handed in
+abbrev read : tie.After-water-refusal → tie.After-water2
+read c = c .before .before .before .before .before .before
+
+abbrev entered : tie.After-water-refusal → tie.Start
+entered c = read c .before .before .before .before .before
+
+-- its number is the definition's
+abbrev asked : tie.Start → ℕ
+asked s = waterRefusal (s .args .t1) (outcome (s .args .p) .number) (outcome (s .args .pe) .number) (lent s)
+
+number-is : (c : tie.After-water-refusal) → c .water-refusal .result ≡ asked (entered c)
+number-is c =
+    let r = read c in
+    let s = entered c in
+    c .water-refusal .ensures ∙ ap₂ (λ (p pe : ℕ). waterRefusal (s .args .t1) p pe (lent s)) (r .before .before .before .number .ensures) (r .before .before .number2 .ensures)
+
+passes : (c : tie.Else1) → let s = entered (c .before) in Good (s .args .t1) (lent s) × (s .args .t1 .months < long (lent s))
+passes c =
+    let s = entered (c .before) in
+    water-passes (s .args .t1) (lent s) (outcome (s .args .p) .number) (outcome (s .args .pe) .number) (sym (number-is (c .before)) ∙ c .if1 .left)
 
 same-length : tie.Need-same-length
 same-length c = search needs
@@ -87,35 +74,80 @@ same-length-4 c = search needs
 same-length-5 : tie.Need-same-length-5
 same-length-5 c = search needs
 
+returns : tie.Need-returns
+unfolding addOutcomes
+returns c =
+    let d = c .before .before in
+    let s = entered d in
+    refuses (d .water-refusal .result) (asked s) (s .args .t1) (lent s) (takenWater (s .args .t1) (outcome (s .args .p) .water) (outcome (s .args .pe) .water) (lent s)) (number-is d) (c .refuse .result) (c .before .if1 .taken) (c .refuse .ensures)
+
+below : {a b : ℕ} → a ≡ b → b ≤ mostReading → a ≤ mostReading
+below e h = rw e h
+
+progress-of-requires : tie.Need-progress-of-requires
+progress-of-requires c κs = search needs
+
+add-measured-requires : tie.Need-add-measured-requires
+add-measured-requires c κs =
+    let o = c .before .before .before .before .before .before .before in
+    let e = o .before in
+    let r = read (e .before) in
+    let s = entered (e .before) in
+    let p = passes e in
+    (rw (o .progress-of .ensures) (ready (s .args .t1) (lent s) (p .0) (p .1)), (rw (o .progress-of .ensures) (watered (s .args .t1) (lent s) (p .0)), (below (r .before .water .ensures) (s .pre .0), below (r .water2 .ensures) (s .pre .1))))
+
+added-of-requires : tie.Need-added-of-requires
+added-of-requires c κs = search needs
+
+same-length-6 : tie.Need-same-length-6
+same-length-6 c = search needs
+
+same-length-7 : tie.Need-same-length-7
+same-length-7 c = search needs
+
+same-length-8 : tie.Need-same-length-8
+same-length-8 c = search needs
+
+same-length-9 : tie.Need-same-length-9
+same-length-9 c = search needs
+
+same-length-10 : tie.Need-same-length-10
+same-length-10 c = search needs
+
 returns-2 : tie.Need-returns-2
 unfolding addOutcomes
 returns-2 c =
     let t = c .before .before .before .before .before .before .before in
     let o = t .before .before .before .before .before .before .before .before in
-    let w = o .before in
-    let e = w .before .before in
-    let s = e .before .before .before .before .before .before in
+    let e = o .before in
+    let r = read (e .before) in
+    let s = entered (e .before) in
     accepts (e .before .water-refusal .result) (asked s) (s .args .t1) (lent s) (takenWater (s .args .t1) (outcome (s .args .p) .water) (outcome (s .args .pe) .water) (lent s)) (number-is (e .before)) _ (e .if1 .left)
-    (rw (c .added-of .ensures) (rw (w .before .water .ensures, w .water2 .ensures, o .progress-of .ensures) at (t .add-measured .ensures)))
+    (rw (c .added-of .ensures) (rw (o .progress-of .ensures) at (t .add-measured .ensures))
+    ∙ ap₂ (λ (p pe : ℕ). takenWater (s .args .t1) p pe (lent s)) (r .before .water .ensures) (r .water2 .ensures))
 
 pub add-answers-spec : {M : Type 1} → statement M
 add-answers-spec =
     tie.close
     (tie.spec
-    lengths-fit-requires
     number-requires
     number-requires-2
-    water-refusal-requires
-    refuse-requires
-    returns
     water-requires
     water-requires-2
-    progress-of-requires
-    add-measured-requires
-    added-of-requires
+    water-refusal-requires
+    refuse-requires
     same-length
     same-length-2
     same-length-3
     same-length-4
     same-length-5
+    returns
+    progress-of-requires
+    add-measured-requires
+    added-of-requires
+    same-length-6
+    same-length-7
+    same-length-8
+    same-length-9
+    same-length-10
     returns-2)

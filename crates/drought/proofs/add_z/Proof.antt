@@ -3,24 +3,22 @@ use mathlib.Core.Path.{_≡_, sym, _∙_}
 use Prim.Native.Nat.{_≤_, _<_}
 use borrow.Author.Needs.{needs}
 use lib.IntN.{natAbs}
-use mathlib.Core.Bool.{true}
 use mir.Facts.{toZ-ofZ}
 use denote.Ref.{now}
 use Rattle.outline.specs.Numbers.{mostZ}
-use Rattle.runs.specs.Runs.{isRun}
-use Rattle.drought.specs.Columns.{Columns, columns, long, columnsFit}
-use Rattle.drought.specs.Refusals.{zRefusal}
-use Rattle.drought.specs.Calls.{addZ, takenZ}
-use Rattle.drought.proofs.Refused.{z-passes, refuses, accepts}
-use Rattle.drought.proofs.Readiness.{ready}
+use Rattle.refusals.specs.Columns.{Columns, columns, long}
+use Rattle.refusals.specs.Good.{Good}
+use Rattle.refusals.specs.Refusals.{zRefusal}
+use Rattle.refusals.proofs.Refused.{z-passes}
+use Rattle.adding.specs.Taken.{takenZ}
+use Rattle.adding.proofs.Readiness.{ready}
+use Rattle.adding.proofs.Answered.{refuses, accepts}
+use Rattle.drought.specs.Calls.{addZ}
 use Rattle.drought.proofs.add_z.Statement.{statement}
 use Rattle.drought.proofs.add_z.Tie as tie
 
 abbrev lent : tie.Start → Columns
 lent s = let a = s .args in columns (now (a .x1)) (now (a .x2)) (now (a .x3)) (now (a .index)) (now (a .mark))
-
-lengths-fit-requires : tie.Need-lengths-fit-requires
-lengths-fit-requires c κs = search needs
 
 z-refusal-requires : tie.Need-z-refusal-requires
 z-refusal-requires c κs = search needs
@@ -28,41 +26,18 @@ z-refusal-requires c κs = search needs
 refuse-requires : tie.Need-refuse-requires
 refuse-requires c κs = search needs
 
+-- what was handed in
+abbrev entered : tie.After-z-refusal → tie.Start
+entered c = c .before .before .before .before .before .before .before
+
 -- its number is the definition's
-number-is : (c : tie.After-z-refusal) → c .z-refusal .result ≡ zRefusal (columnsFit (lent (c .before .before .before))) (long (lent (c .before .before .before))) (c .before .before .before .args .run) (c .before .before .before .args .z)
-number-is c =
-    let f = c .before .before .before .fits .z in
-    rw (c .before .lengths-fit .ensures, toZ-ofZ f) at (c .z-refusal .ensures)
+number-is : (c : tie.After-z-refusal) → c .z-refusal .result ≡ zRefusal (entered c .args .run) (entered c .args .z) (lent (entered c))
+number-is c = let f = entered c .fits .z in rw (toZ-ofZ f) at (c .z-refusal .ensures)
 
-passes : (c : tie.Else1) → ((columnsFit (lent (c .before .before .before .before)) ≡ true) × (isRun (long (lent (c .before .before .before .before))) (c .before .before .before .before .args .run) ≡ true)) × (c .before .before .before .before .args .run .months < long (lent (c .before .before .before .before))) × (natAbs (c .before .before .before .before .args .z) ≤ mostZ)
-passes c =
-    let s = c .before .before .before .before in
-    z-passes (columnsFit (lent s)) (long (lent s)) (s .args .run) (s .args .z) (sym (number-is (c .before)) ∙ c .if1 .left)
-
-returns : tie.Need-returns
-unfolding addZ
-returns c =
-    let d = c .before .before in
-    let s = d .before .before .before in
-    refuses (d .z-refusal .result) _ (s .args .run) (lent s) (takenZ (s .args .run) (s .args .z) (lent s)) (number-is d) (c .refuse .result) (c .before .if1 .taken) (c .refuse .ensures)
-
-no-water-requires : tie.Need-no-water-requires
-no-water-requires c κs = search needs
-
-progress-of-requires : tie.Need-progress-of-requires
-progress-of-requires c κs = search needs
-
-add-month-requires : tie.Need-add-month-requires
-add-month-requires c κs =
-    let o = c .before .before .before .before .before in
-    let e = o .before .before .before in
-    let s = e .before .before .before .before in
-    let f = s .fits .z in
-    let p = passes e in
-    (rw (o .progress-of .ensures) (ready (s .args .run) (lent s) (p .0 .0) (p .0 .1) (p .1)), simp toZ-ofZ (p .2))
-
-added-of-requires : tie.Need-added-of-requires
-added-of-requires c κs = search needs
+passes : (c : tie.Else1)
+    → let s = entered (c .before) in
+    Good (s .args .run) (lent s) × (s .args .run .months < long (lent s)) × (natAbs (s .args .z) ≤ mostZ)
+passes c = let s = entered (c .before) in z-passes (s .args .run) (lent s) (s .args .z) (sym (number-is (c .before)) ∙ c .if1 .left)
 
 same-length : tie.Need-same-length
 same-length c = search needs
@@ -79,6 +54,46 @@ same-length-4 c = search needs
 same-length-5 : tie.Need-same-length-5
 same-length-5 c = search needs
 
+returns : tie.Need-returns
+unfolding addZ
+returns c =
+    let d = c .before .before in
+    let s = entered d in
+    refuses (d .z-refusal .result) _ (s .args .run) (lent s) (takenZ (s .args .run) (s .args .z) (lent s)) (number-is d) (c .refuse .result) (c .before .if1 .taken) (c .refuse .ensures)
+
+no-water-requires : tie.Need-no-water-requires
+no-water-requires c κs = search needs
+
+progress-of-requires : tie.Need-progress-of-requires
+progress-of-requires c κs = search needs
+
+add-month-requires : tie.Need-add-month-requires
+add-month-requires c κs =
+    let o = c .before .before .before .before .before in
+    let e = o .before .before .before in
+    let s = entered (e .before) in
+    let f = s .fits .z in
+    let p = passes e in
+    (rw (o .progress-of .ensures) (ready (s .args .run) (lent s) (p .0) (p .1)), simp toZ-ofZ (p .2))
+
+added-of-requires : tie.Need-added-of-requires
+added-of-requires c κs = search needs
+
+same-length-6 : tie.Need-same-length-6
+same-length-6 c = search needs
+
+same-length-7 : tie.Need-same-length-7
+same-length-7 c = search needs
+
+same-length-8 : tie.Need-same-length-8
+same-length-8 c = search needs
+
+same-length-9 : tie.Need-same-length-9
+same-length-9 c = search needs
+
+same-length-10 : tie.Need-same-length-10
+same-length-10 c = search needs
+
 returns-2 : tie.Need-returns-2
 unfolding addZ
 returns-2 c =
@@ -86,7 +101,7 @@ returns-2 c =
     let o = t .before .before .before .before .before .before in
     let w = o .before in
     let e = w .before .before in
-    let s = e .before .before .before .before in
+    let s = entered (e .before) in
     let f = s .fits .z in
     accepts (e .before .z-refusal .result) _ (s .args .run) (lent s) (takenZ (s .args .run) (s .args .z) (lent s)) (number-is (e .before)) _ (e .if1 .left)
     (rw (c .added-of .ensures) (rw (w .no-water .ensures, o .progress-of .ensures, toZ-ofZ f) at (t .add-month .ensures (s .args .run .constants))))
@@ -95,17 +110,21 @@ pub add-z-spec : {M : Type 1} → statement M
 add-z-spec =
     tie.close
     (tie.spec
-    lengths-fit-requires
     z-refusal-requires
     refuse-requires
-    returns
-    no-water-requires
-    progress-of-requires
-    add-month-requires
-    added-of-requires
     same-length
     same-length-2
     same-length-3
     same-length-4
     same-length-5
+    returns
+    no-water-requires
+    progress-of-requires
+    add-month-requires
+    added-of-requires
+    same-length-6
+    same-length-7
+    same-length-8
+    same-length-9
+    same-length-10
     returns-2)

@@ -1,6 +1,6 @@
 -- `drought::row` meets its contract: its number is the definition's, and then what the columns hold. Assumes nothing.
-use mathlib.Core.Path.{_≡_, refl, sym, ap, _∙_}
-use Prim.Native.Nat.{ℕ, suc, zero, _<_}
+use mathlib.Core.Path.{_≡_, sym, ap, _∙_}
+use Prim.Native.Nat.{ℕ, _<_}
 use native.Mathlib.Omega.{arith}
 use borrow.Author.Needs.{needs}
 use lib.IntN.{pos}
@@ -9,36 +9,36 @@ use mir.Syntax.{w32}
 use mir.Val.{SFits}
 use mir.Facts.{toZ-ofZ}
 use denote.Ref.{now}
-use Rattle.drought.specs.Columns.{Columns, columns, long, columnsFit}
-use Rattle.drought.specs.Refusals.{rowRefusal}
-use Rattle.drought.specs.Calls.{rowOfRun, shownWith}
-use Rattle.drought.proofs.Refused.{row-passes}
-use Rattle.drought.proofs.Readiness.{lengths-are, run-is}
+use Rattle.outline.specs.Refusals.{unlessRefused}
+use Rattle.outline.proofs.Refusals.{is-refused}
+use Rattle.refusals.specs.Columns.{Columns, columns}
+use Rattle.refusals.specs.Refusals.{rowRefusal}
+use Rattle.refusals.proofs.Refused.{row-passes, columns-are}
+use Rattle.adding.proofs.Readiness.{run-is}
+use Rattle.drought.specs.Calls.{rowOfRun, shown, notShown}
+use Rattle.drought.specs.declared.Shown.{Shown}
 use Rattle.drought.proofs.row.Statement.{statement}
 use Rattle.drought.proofs.row.Tie as tie
 
 abbrev lent : tie.Start → Columns
 lent s = let a = s .args in columns (now (a .x1)) (now (a .x2)) (now (a .x3)) (now (a .index)) (now (a .mark))
 
-lengths-fit-requires : tie.Need-lengths-fit-requires
-lengths-fit-requires c κs = search needs
-
 row-refusal-requires : tie.Need-row-refusal-requires
 row-refusal-requires c κs = search needs
 
-number-is : (c : tie.After-row-refusal) → c .row-refusal .result ≡ rowRefusal (columnsFit (lent (c .before .before .before))) (long (lent (c .before .before .before))) (c .before .before .before .args .run) (c .before .before .before .args .i)
-number-is c = rw (c .before .lengths-fit .ensures) at (c .row-refusal .ensures)
+number-is : (c : tie.After-row-refusal) → c .row-refusal .result ≡ rowRefusal (c .before .before .args .run) (c .before .before .args .i) (lent (c .before .before))
+number-is c = c .row-refusal .ensures
 
-some : (k : ℕ) (i : ℕ) (cs : Columns) → (k ≡ 0 → ⊥) → record { number = k; x1 = pos 0; x2 = pos 0; x3 = pos 0; index = pos 0; mark = 0 } ≡ shownWith k i cs
-some zero i cs h = absurd (h refl)
-some (suc k) i cs h = refl
+-- what is shown by a number
+abbrev by : tie.Start → ℕ → Shown
+by s k = unlessRefused k (shown (s .args .i) (lent s)) (notShown k)
 
 returns : tie.Need-returns
 unfolding rowOfRun
 returns c =
     let d = c .before in
-    let s = d .before .before .before in
-    some (d .row-refusal .result) (s .args .i) (lent s) (c .if1 .taken) ∙ ap (λ (k : ℕ). shownWith k (s .args .i) (lent s)) (number-is d)
+    let s = d .before .before in
+    sym (is-refused (d .row-refusal .result) (shown (s .args .i) (lent s)) (notShown (d .row-refusal .result)) (c .if1 .taken)) ∙ ap (by s) (number-is d)
 
 -- the place is below each length
 abbrev Inside : tie.Start → Type 0
@@ -49,68 +49,67 @@ Inside s =
     × (s .args .i < length (now (s .args .index)))
     × (s .args .i < length (now (s .args .mark)))
 
-inside : (c : tie.Else1) → Inside (c .before .before .before .before)
+inside : (c : tie.Else1) → Inside (c .before .before .before)
 inside c =
-    let s = c .before .before .before .before in
+    let s = c .before .before .before in
     let cs = lent s in
-    let p = row-passes (columnsFit cs) (long cs) (s .args .run) (s .args .i) (sym (number-is (c .before)) ∙ c .if1 .left) in
-    let l = lengths-are (long cs) (length (cs .x2)) (length (cs .x3)) (length (cs .index)) (length (cs .mark)) (p .0 .0) in
-    let m = run-is (s .args .run) cs (p .0 .0) (p .0 .1) .months in
+    let p = row-passes (s .args .run) cs (s .args .i) (sym (number-is (c .before)) ∙ c .if1 .left) in
+    let l = columns-are cs (p .0 .fit) in
+    let m = run-is (s .args .run) cs (p .0) .months in
     omega arith
 
-mul-t11 : tie.Need-mul-t11
-mul-t11 c = let h = inside c in omega arith
+mul-t10 : tie.Need-mul-t10
+mul-t10 c = let h = inside c in omega arith
 
-shared-slice-copy-out-t17 : tie.Need-shared-slice-copy-out-t17
-shared-slice-copy-out-t17 c = let h = inside c in omega arith
-
-mul-t12 : tie.Need-mul-t12
-mul-t12 c = let h = inside (c .before) in omega arith
-
-shared-slice-copy-out-t19 : tie.Need-shared-slice-copy-out-t19
-shared-slice-copy-out-t19 c = let h = inside (c .before) in omega arith
-
-mul-t14 : tie.Need-mul-t14
-mul-t14 c = let h = inside (c .before .before) in omega arith
-
-shared-slice-copy-out-t21 : tie.Need-shared-slice-copy-out-t21
-shared-slice-copy-out-t21 c = let h = inside (c .before .before) in omega arith
+shared-slice-copy-out-t12 : tie.Need-shared-slice-copy-out-t12
+shared-slice-copy-out-t12 c = let h = inside c in omega arith
 
 mul-t13 : tie.Need-mul-t13
-mul-t13 c = let h = inside (c .before .before .before) in omega arith
+mul-t13 c = let h = inside (c .before) in omega arith
 
-shared-slice-copy-out-t23 : tie.Need-shared-slice-copy-out-t23
-shared-slice-copy-out-t23 c = let h = inside (c .before .before .before) in omega arith
+shared-slice-copy-out-t15 : tie.Need-shared-slice-copy-out-t15
+shared-slice-copy-out-t15 c = let h = inside (c .before) in omega arith
 
-shared-slice-read-t25 : tie.Need-shared-slice-read-t25
-shared-slice-read-t25 c = let h = inside (c .before .before .before .before .before) in omega arith
+mul-t16 : tie.Need-mul-t16
+mul-t16 c = let h = inside (c .before .before) in omega arith
+
+shared-slice-copy-out-t18 : tie.Need-shared-slice-copy-out-t18
+shared-slice-copy-out-t18 c = let h = inside (c .before .before) in omega arith
+
+mul-t19 : tie.Need-mul-t19
+mul-t19 c = let h = inside (c .before .before .before) in omega arith
+
+shared-slice-copy-out-t21 : tie.Need-shared-slice-copy-out-t21
+shared-slice-copy-out-t21 c = let h = inside (c .before .before .before) in omega arith
+
+shared-slice-read-t23 : tie.Need-shared-slice-read-t23
+shared-slice-read-t23 c = let h = inside (c .before .before .before .before .before) in omega arith
 
 returns-2 : tie.Need-returns-2
 unfolding rowOfRun
 returns-2 c =
     let e = c .before .before .before .before .before in
-    let s = e .before .before .before .before in
+    let s = e .before .before .before in
     let i = s .args .i in
-    let f1 : SFits w32 (getD (now (s .args .x1)) i (pos 0)) = record { sfits = c .before .before .before .before .t17 .given } in
-    let f2 : SFits w32 (getD (now (s .args .x2)) i (pos 0)) = record { sfits = c .before .before .before .t19 .given } in
-    let f3 : SFits w32 (getD (now (s .args .x3)) i (pos 0)) = record { sfits = c .before .before .t21 .given } in
-    let f4 : SFits w32 (getD (now (s .args .index)) i (pos 0)) = record { sfits = c .before .t23 .given } in
-    rw (toZ-ofZ f1, toZ-ofZ f2, toZ-ofZ f3, toZ-ofZ f4) (ap (λ (k : ℕ). shownWith k i (lent s)) (sym (e .if1 .left) ∙ number-is (e .before)))
+    let f1 : SFits w32 (getD (now (s .args .x1)) i (pos 0)) = record { sfits = c .before .before .before .before .t12 .given } in
+    let f2 : SFits w32 (getD (now (s .args .x2)) i (pos 0)) = record { sfits = c .before .before .before .t15 .given } in
+    let f3 : SFits w32 (getD (now (s .args .x3)) i (pos 0)) = record { sfits = c .before .before .t18 .given } in
+    let f4 : SFits w32 (getD (now (s .args .index)) i (pos 0)) = record { sfits = c .before .t21 .given } in
+    rw (toZ-ofZ f1, toZ-ofZ f2, toZ-ofZ f3, toZ-ofZ f4) (ap (by s) (sym (e .if1 .left) ∙ number-is (e .before)))
 
 pub row-spec : {M : Type 1} → statement M
 row-spec =
     tie.close
     (tie.spec
-    lengths-fit-requires
     row-refusal-requires
     returns
-    mul-t11
-    shared-slice-copy-out-t17
-    mul-t12
-    shared-slice-copy-out-t19
-    mul-t14
-    shared-slice-copy-out-t21
+    mul-t10
+    shared-slice-copy-out-t12
     mul-t13
-    shared-slice-copy-out-t23
-    shared-slice-read-t25
+    shared-slice-copy-out-t15
+    mul-t16
+    shared-slice-copy-out-t18
+    mul-t19
+    shared-slice-copy-out-t21
+    shared-slice-read-t23
     returns-2)
