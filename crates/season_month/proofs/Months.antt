@@ -9,6 +9,7 @@ use Rattle.door.specs.Outcome.{outcome}
 use Rattle.door.specs.Readings.{reading}
 use Rattle.door.specs.declared.Answer.{Answer}
 use Rattle.door.specs.declared.Answer.the-variants.{Water, NoReading, NotAcceptable}
+use Rattle.door.proofs.Answer.{the-type}
 use denote.Enum.Declared.{tagOf}
 use types.Run.{OneOf}
 use Rattle.door.specs.declared.Reading.{Reading}

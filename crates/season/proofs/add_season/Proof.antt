@@ -1,7 +1,7 @@
 -- `season::add_season` meets its contract: what is still to come takes what has been added to where all months take the run at entry. Assumes
 -- nothing.
 use mathlib.Core.Path.{_≡_, refl, sym, ap, _∙_}
-use mathlib.Core.Bool.{_&&_}
+use mathlib.Core.Bool.{cond}
 use mathlib.Core.List.{List}
 use Prim.Native.Nat.{ℕ, suc, _+_, _-_, _≤_, _<_}
 use native.Mathlib.Omega.{arith}
@@ -14,24 +14,29 @@ use mir.Syntax.{w32}
 use mir.Val.{SFits}
 use mir.Facts.{toZ-ofZ}
 use denote.Ref.{now}
-use Rattle.drought.specs.Columns.{Columns, columns, long, columnsFit}
-use Rattle.drought.specs.Ready.{Good}
-use Rattle.outline.proofs.Tests.{first, second}
-use Rattle.drought.proofs.Refused.{run-passes}
-use Rattle.drought.proofs.Readiness.{run-is}
-use Rattle.drought.specs.Calls.{result}
-use Rattle.drought.specs.Progress.{runOf, addedOf}
-use Rattle.season.specs.Season.{SeasonResult, seasonResult, listed, single, addEach, seasonRefusal, addSeason}
-use Rattle.season.specs.SoFar.{seasonOf, numberOf, singleOf}
+use Rattle.outline.specs.Refusals.{badLists}
+use Rattle.outline.proofs.Tests.{cond-zero}
+use Rattle.outline.proofs.Refusals.{or-zero, is-done, is-refused}
+use Rattle.refusals.specs.Columns.{Columns, columns}
+use Rattle.refusals.specs.Good.{Good}
+use Rattle.refusals.specs.Refusals.{runRefusal}
+use Rattle.refusals.proofs.Refused.{run-passes}
+use Rattle.adding.specs.Taken.{result}
+use Rattle.adding.specs.Progress.{runOf, addedOf}
+use Rattle.adding.proofs.Readiness.{run-is}
+use Rattle.season_month.specs.Listed.{listed}
+use Rattle.season_month.specs.Single.{numberOf, singleOf}
+use Rattle.season_month.specs.declared.Single.{Single}
+use Rattle.season.specs.Season.{SeasonResult, seasonResult, single, addEach, seasonRefusal, addSeason}
+use Rattle.season.specs.SoFar.{seasonOf}
 use Rattle.season.specs.declared.Season.{Season}
 use Rattle.season.specs.declared.SoFar.{SoFar}
-use Rattle.season.specs.declared.Single.{Single}
-use Rattle.season.proofs.Steps.{most, SameLengths, lengths-then, on, off, ends, joins, breaks, refused-not, good-joined, counts-joined}
+use Rattle.season.proofs.Steps.{most, SameLengths, lengths-then, ends, joins, breaks, refused-not, good-joined, counts-joined}
 use Rattle.season.proofs.add_season.Statement.{statement}
 use Rattle.season.proofs.add_season.Tie as tie
 
 abbrev Inv-loop : tie.InvT-loop
-Inv-loop p pe x1₀ x2₀ x3₀ index₀ mark₀ run n columns-fit fit number s₀ i₀ x1 x2 x3 index mark s i =
+Inv-loop p pe x1₀ x2₀ x3₀ index₀ mark₀ run number s₀ i₀ x1 x2 x3 index mark s i =
     (i ≤ length p)
     × (addEach (seasonResult (seasonOf s 0 (run .constants)) (columns x1 x2 x3 index mark)) (drop i p) (drop i pe) ≡ addEach (seasonResult (seasonOf s₀ 0 (run .constants)) (columns x1₀ x2₀ x3₀ index₀ mark₀)) p pe)
     × Good (runOf (s .progress) (run .constants)) (columns x1 x2 x3 index mark)
@@ -40,24 +45,35 @@ Inv-loop p pe x1₀ x2₀ x3₀ index₀ mark₀ run n columns-fit fit number s�
     × SameLengths (columns x1 x2 x3 index mark) (columns x1₀ x2₀ x3₀ index₀ mark₀)
 
 abbrev μ-loop : tie.MeasureT-loop
-μ-loop p pe x1₀ x2₀ x3₀ index₀ mark₀ run n columns-fit fit number s₀ i₀ x1 x2 x3 index mark s i = length p - i
+μ-loop p pe x1₀ x2₀ x3₀ index₀ mark₀ run number s₀ i₀ x1 x2 x3 index mark s i = length p - i
 
 -- ---- before the first month
 abbrev lent : tie.Start Inv-loop μ-loop → Columns
 lent s = let a = s .args in columns (now (a .x1)) (now (a .x2)) (now (a .x3)) (now (a .index)) (now (a .mark))
 
-number-is : (q : tie.After-run-refusal Inv-loop μ-loop) → let s = q .before .before .before .before in q .run-refusal .result ≡ seasonRefusal (s .args .t1) (now (s .args .p)) (now (s .args .pe)) (lent s)
-unfolding seasonRefusal
-number-is q = rw (q .before .lists-fit .ensures, q .before .before .lengths-fit .ensures) at (q .run-refusal .ensures)
+abbrev entered : tie.After-season-refusal Inv-loop μ-loop → tie.Start Inv-loop μ-loop
+entered q = q .before .before .before .before .before .before .before
 
-lengths-fit-requires : tie.Need-lengths-fit-requires Inv-loop μ-loop
-lengths-fit-requires c κs = search needs
+number-is : (q : tie.After-season-refusal Inv-loop μ-loop) → let s = entered q in q .season-refusal .result ≡ seasonRefusal (s .args .t1) (now (s .args .p)) (now (s .args .pe)) (lent s)
+number-is q = q .season-refusal .ensures
 
-lists-fit-requires : tie.Need-lists-fit-requires Inv-loop μ-loop
-lists-fit-requires c κs = search needs
+season-refusal-requires : tie.Need-season-refusal-requires Inv-loop μ-loop
+season-refusal-requires c κs = search needs
 
-run-refusal-requires : tie.Need-run-refusal-requires Inv-loop μ-loop
-run-refusal-requires c κs = search needs
+same-length : tie.Need-same-length Inv-loop μ-loop
+same-length c = search needs
+
+same-length-2 : tie.Need-same-length-2 Inv-loop μ-loop
+same-length-2 c = search needs
+
+same-length-3 : tie.Need-same-length-3 Inv-loop μ-loop
+same-length-3 c = search needs
+
+same-length-4 : tie.Need-same-length-4 Inv-loop μ-loop
+same-length-4 c = search needs
+
+same-length-5 : tie.Need-same-length-5 Inv-loop μ-loop
+same-length-5 c = search needs
 
 nothing-added-requires : tie.Need-nothing-added-requires Inv-loop μ-loop
 nothing-added-requires c κs = search needs
@@ -69,25 +85,25 @@ returns : tie.Need-returns Inv-loop μ-loop
 unfolding addSeason
 returns c =
     let q = c .before .before in
-    let s = q .before .before .before .before .before in
+    let s = entered (q .before) in
     let e = number-is (q .before) in
     let n = c .before .if1 .taken in
-    rw (c .season-of .ensures, q .nothing-added .ensures, e) (sym (off (seasonRefusal (s .args .t1) (now (s .args .p)) (now (s .args .pe)) (lent s)) _ _ (λ z. n (e ∙ z))))
+    rw (c .season-of .ensures, q .nothing-added .ensures, e) (sym (is-refused (seasonRefusal (s .args .t1) (now (s .args .p)) (now (s .args .pe)) (lent s)) _ _ (λ z. n (e ∙ z))))
 
-passes : (e : tie.Else1 Inv-loop μ-loop) → let s = e .before .before .before .before .before .before in (length (now (s .args .p)) ≡ length (now (s .args .pe))) × Good (s .args .t1) (lent s)
+passes : (e : tie.Else1 Inv-loop μ-loop) → let s = entered (e .before .before) in (length (now (s .args .p)) ≡ length (now (s .args .pe))) × Good (s .args .t1) (lent s)
 unfolding seasonRefusal
 passes e =
-    let s = e .before .before .before .before .before .before in
+    let s = entered (e .before .before) in
     let t = eqb (length (now (s .args .p))) (length (now (s .args .pe))) in
-    let a = run-passes (t && columnsFit (lent s)) (long (lent s)) (s .args .t1) (sym (number-is (e .before .before)) ∙ e .if1 .left) in
-    (eqb-true _ _ (first t (columnsFit (lent s)) (a .0)), record { fit = second t (columnsFit (lent s)) (a .0); run = a .1 })
+    let a = or-zero (cond t 0 badLists) (runRefusal (s .args .t1) (lent s)) (sym (number-is (e .before .before)) ∙ e .if1 .left) in
+    (eqb-true _ _ (cond-zero t 0 (a .0)), run-passes (s .args .t1) (lent s) (a .1))
 
 loop-holds : tie.Need-loop-holds Inv-loop μ-loop
 loop-holds c =
     let n = c .before .nothing-added .ensures in
     let g = passes c .1 in
-    let s = c .before .before .before .before .before .before in
-    let f = run-is (s .args .t1) (lent s) (g .fit) (g .run) in
+    let s = entered (c .before .before) in
+    let f = run-is (s .args .t1) (lent s) g in
     (omega arith, refl, rw n g, rw n (omega (arith, f .opens)), rw n (omega arith), (refl, refl, refl, refl, refl))
 
 mul-rain : tie.Need-mul-rain Inv-loop μ-loop
@@ -110,21 +126,21 @@ add-listed-requires c κs = c .before .before .before .before .before .before .b
 -- with nothing refused before the first month, all is what the months make
 whole : (e : tie.Else1 Inv-loop μ-loop) (w : SeasonResult)
     → let q = e .before in
-    let s = q .before .before .before .before .before in
+    let s = entered (q .before) in
     w ≡ addEach (seasonResult (seasonOf (q .nothing-added .result) 0 (s .args .t1 .constants)) (lent s)) (now (s .args .p)) (now (s .args .pe)) → w ≡ addSeason (s .args .t1) (now (s .args .p)) (now (s .args .pe)) (lent s)
 unfolding addSeason
 whole e w h =
     let q = e .before in
     let z = e .if1 .left in
     let k = number-is (q .before) in
-    h ∙ rw (q .nothing-added .ensures) (sym (on _ _ _ (sym k ∙ z)))
+    h ∙ rw (q .nothing-added .ensures) (sym (is-done _ _ _ (sym k ∙ z)))
 
 -- ---- a pass
 abbrev inside : tie.After-add-listed Inv-loop μ-loop → tie.In-loop Inv-loop μ-loop
 inside t = t .before .before .before .before .before .before .before .before .before .before .before
 
 abbrev start : tie.At-loop Inv-loop μ-loop → tie.Start Inv-loop μ-loop
-start a = a .before .before .before .before .before .before .before
+start a = entered (a .before .before .before)
 
 abbrev so-far : tie.At-loop Inv-loop μ-loop → Columns
 so-far a = let l = a .loop in columns (l .x1) (l .x2) (l .x3) (l .index) (l .mark)
@@ -177,20 +193,20 @@ number-of-requires c κs = search needs
 season-of-requires-2 : tie.Need-season-of-requires-2 Inv-loop μ-loop
 season-of-requires-2 c κs = search needs
 
-same-length : tie.Need-same-length Inv-loop μ-loop
-same-length c = long-kept (c .before .before .before .before .before .before .before .before .before .before) .0
+same-length-6 : tie.Need-same-length-6 Inv-loop μ-loop
+same-length-6 c = long-kept (c .before .before .before .before .before .before .before .before .before .before) .0
 
-same-length-2 : tie.Need-same-length-2 Inv-loop μ-loop
-same-length-2 c = long-kept (c .before .before .before .before .before .before .before .before .before .before) .1
+same-length-7 : tie.Need-same-length-7 Inv-loop μ-loop
+same-length-7 c = long-kept (c .before .before .before .before .before .before .before .before .before .before) .1
 
-same-length-3 : tie.Need-same-length-3 Inv-loop μ-loop
-same-length-3 c = long-kept (c .before .before .before .before .before .before .before .before .before .before) .2
+same-length-8 : tie.Need-same-length-8 Inv-loop μ-loop
+same-length-8 c = long-kept (c .before .before .before .before .before .before .before .before .before .before) .2
 
-same-length-4 : tie.Need-same-length-4 Inv-loop μ-loop
-same-length-4 c = long-kept (c .before .before .before .before .before .before .before .before .before .before) .3
+same-length-9 : tie.Need-same-length-9 Inv-loop μ-loop
+same-length-9 c = long-kept (c .before .before .before .before .before .before .before .before .before .before) .3
 
-same-length-5 : tie.Need-same-length-5 Inv-loop μ-loop
-same-length-5 c = long-kept (c .before .before .before .before .before .before .before .before .before .before) .4
+same-length-10 : tie.Need-same-length-10 Inv-loop μ-loop
+same-length-10 c = long-kept (c .before .before .before .before .before .before .before .before .before .before) .4
 
 -- a month that is refused
 returns-2 : tie.Need-returns-2 Inv-loop μ-loop
@@ -261,20 +277,20 @@ loop-again c =
 season-of-requires-3 : tie.Need-season-of-requires-3 Inv-loop μ-loop
 season-of-requires-3 c κs = search needs
 
-same-length-6 : tie.Need-same-length-6 Inv-loop μ-loop
-same-length-6 c = c .before .before .loop .inv .5 .0
+same-length-11 : tie.Need-same-length-11 Inv-loop μ-loop
+same-length-11 c = c .before .before .loop .inv .5 .0
 
-same-length-7 : tie.Need-same-length-7 Inv-loop μ-loop
-same-length-7 c = c .before .before .loop .inv .5 .1
+same-length-12 : tie.Need-same-length-12 Inv-loop μ-loop
+same-length-12 c = c .before .before .loop .inv .5 .1
 
-same-length-8 : tie.Need-same-length-8 Inv-loop μ-loop
-same-length-8 c = c .before .before .loop .inv .5 .2
+same-length-13 : tie.Need-same-length-13 Inv-loop μ-loop
+same-length-13 c = c .before .before .loop .inv .5 .2
 
-same-length-9 : tie.Need-same-length-9 Inv-loop μ-loop
-same-length-9 c = c .before .before .loop .inv .5 .3
+same-length-14 : tie.Need-same-length-14 Inv-loop μ-loop
+same-length-14 c = c .before .before .loop .inv .5 .3
 
-same-length-10 : tie.Need-same-length-10 Inv-loop μ-loop
-same-length-10 c = c .before .before .loop .inv .5 .4
+same-length-15 : tie.Need-same-length-15 Inv-loop μ-loop
+same-length-15 c = c .before .before .loop .inv .5 .4
 
 returns-3 : tie.Need-returns-3 Inv-loop μ-loop
 returns-3 c =
@@ -288,11 +304,14 @@ add-season-spec =
     (tie.spec
     Inv-loop
     μ-loop
-    lengths-fit-requires
-    lists-fit-requires
-    run-refusal-requires
+    season-refusal-requires
     nothing-added-requires
     season-of-requires
+    same-length
+    same-length-2
+    same-length-3
+    same-length-4
+    same-length-5
     returns
     loop-holds
     mul-rain
@@ -304,20 +323,20 @@ add-season-spec =
     enum-told
     number-of-requires
     season-of-requires-2
-    same-length
-    same-length-2
-    same-length-3
-    same-length-4
-    same-length-5
+    same-length-6
+    same-length-7
+    same-length-8
+    same-length-9
+    same-length-10
     returns-2
     joined-by-requires
     add-i
     loop-less
     loop-again
     season-of-requires-3
-    same-length-6
-    same-length-7
-    same-length-8
-    same-length-9
-    same-length-10
+    same-length-11
+    same-length-12
+    same-length-13
+    same-length-14
+    same-length-15
     returns-3)
