@@ -5,7 +5,7 @@
 use door::Answer;
 use door::MonthInches;
 use door::Reading;
-use drought::Added;
+use adding::Added;
 use drought::Shown;
 use runs::Run;
 use starts::Started;
@@ -14,8 +14,9 @@ ghost use mathlib.Core.Path.{_≡_};
 ghost use Rattle.door.specs.Readings.{reading};
 ghost use Rattle.starts.specs.Start.{startOf};
 ghost use Rattle.series.specs.Series.{filled, wholeSeries};
-ghost use Rattle.drought.specs.Columns.{columns};
-ghost use Rattle.drought.specs.Calls.{result, addWater, addInches, addZ, rowOfRun};
+ghost use Rattle.refusals.specs.Columns.{columns};
+ghost use Rattle.drought.specs.Calls.{addWater, addInches, addZ, rowOfRun};
+ghost use Rattle.adding.specs.Taken.{result};
 ghost use Rattle.season.specs.Season.{seasonResult, addSeason};
 ghost use Rattle.card.specs.FromC.{readingOfC, answered};
 

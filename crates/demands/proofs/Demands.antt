@@ -7,7 +7,7 @@ use lib.ListN.{length}
 use Rattle.starts.specs.Start.{startRefusal}
 use Rattle.series.specs.Series.{seriesRefusal, wholeSeries}
 use Rattle.series.proofs.SeriesLaws.{number-of, refused-writes-nothing}
-use Rattle.drought.specs.Columns.{Columns}
+use Rattle.refusals.specs.Columns.{Columns}
 use Rattle.demands.specs.Demands.{Demand1, Demand2, Demand3}
 use Rattle.demands.proofs.Shown.{refused-add, refused-start, figures-are, layers-hold, water-balances, inches-balance, settled-is-hindsight, open-exactly-when, settled-stays-settled, values-never-change, open-are-last, opens-are-counted, settled-are-counted}
 use Rattle.demands.proofs.Honest.{never-refused-7}

@@ -19,10 +19,10 @@ use Rattle.outline.specs.Numbers.{zFits}
 use Rattle.starts.specs.Start.{startRefusal}
 use Rattle.runs.specs.declared.Run.{Run}
 use Rattle.starts.proofs.Theorems.{start-is-run}
-use Rattle.drought.specs.Columns.{Columns, long, columnsFit}
-use Rattle.drought.specs.Ready.{Good}
-use Rattle.drought.proofs.Accepts.{good-passes}
-use Rattle.drought.specs.Refusals.{runRefusal, roomRefusal, waterRefusal, zRefusal}
+use Rattle.refusals.specs.Columns.{Columns, long, columnsFit}
+use Rattle.refusals.specs.Good.{Good}
+use Rattle.refusals.proofs.Refused.{good-passes}
+use Rattle.refusals.specs.Refusals.{runRefusal, roomRefusal, waterRefusal, zRefusal}
 use Rattle.demands.specs.Months.{Ask, water, anomaly, asked, State, after, afterAll, inches as both-inches}
 use Rattle.demands.proofs.Took.{took, good-kept}
 use Rattle.demands.specs.Demands.{numberOf, Honest, begun}

@@ -1,9 +1,9 @@
 -- Any two outcomes that a promise of `drought` or of `season` allows are identical: each promise is an equation of the whole outcome with a definition of the
 -- input. Assumes nothing.
 use mathlib.Core.Path.{_≡_, sym, ap, _∙_}
-use Rattle.drought.specs.Columns.{Columns}
-use Rattle.drought.specs.Calls.{Result, result}
-use Rattle.drought.specs.declared.Added.{Added}
+use Rattle.refusals.specs.Columns.{Columns}
+use Rattle.adding.specs.Taken.{Result, result}
+use Rattle.adding.specs.declared.Added.{Added}
 use Rattle.drought.specs.declared.Shown.{Shown}
 use Rattle.season.specs.Season.{SeasonResult, seasonResult}
 use Rattle.season.specs.declared.Season.{Season}

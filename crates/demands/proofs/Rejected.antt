@@ -23,10 +23,11 @@ use Rattle.runs.specs.Runs.{soilFits, sizesFit, signsFit, vFits, isRun}
 use Rattle.outline.specs.Numbers.{lengthFits, zFits}
 use Rattle.starts.specs.Start.{freshRun}
 use Rattle.runs.specs.declared.Run.{Run}
-use Rattle.drought.specs.Columns.{Columns, columns, long, lengthsFit, columnsFit}
-use Rattle.drought.specs.Refusals.{runRefusal, roomRefusal, waterRefusal, zRefusal, rowRefusal}
-use Rattle.drought.specs.Calls.{Result, taken, addOutcomes, addWater, addZ, rowOfRun}
-use Rattle.drought.specs.declared.Figures.{Figures}
+use Rattle.refusals.specs.Columns.{Columns, columns, long, lengthsFit, columnsFit}
+use Rattle.refusals.specs.Refusals.{runRefusal, roomRefusal, waterRefusal, zRefusal, rowRefusal}
+use Rattle.drought.specs.Calls.{addOutcomes, addWater, addZ, rowOfRun}
+use Rattle.adding.specs.Taken.{Result, taken}
+use Rattle.adding.specs.declared.Figures.{Figures}
 use Rattle.drought.specs.declared.Shown.{Shown}
 use Rattle.outline.proofs.Refusals.{or-first}
 

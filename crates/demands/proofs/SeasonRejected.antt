@@ -21,13 +21,15 @@ use Rattle.calendar.specs.Calendar.{constantsAt, nextCalendar}
 use Rattle.runs.specs.Runs.{soilFits, sizesFit, signsFit, vFits, isRun}
 use Rattle.outline.specs.Numbers.{lengthFits, zFits}
 use Rattle.runs.specs.declared.Run.{Run}
-use Rattle.drought.specs.Columns.{Columns, long, lengthsFit, columnsFit}
-use Rattle.drought.specs.Refusals.{runRefusal, roomRefusal, waterRefusal}
+use Rattle.refusals.specs.Columns.{Columns, long, lengthsFit, columnsFit}
+use Rattle.refusals.specs.Refusals.{runRefusal, roomRefusal, waterRefusal}
 use Rattle.outline.specs.Refusals.{badLists, notARun}
-use Rattle.drought.specs.Figures.{noFigures}
-use Rattle.drought.specs.Calls.{taken, takenWater, addOutcomes, addWater}
-use Rattle.drought.specs.declared.Figures.{Figures}
-use Rattle.season.specs.Season.{SeasonResult, listed, addEach, seasonRefusal, addSeason}
+use Rattle.adding.specs.Figures.{noFigures}
+use Rattle.drought.specs.Calls.{addOutcomes, addWater}
+use Rattle.adding.specs.Taken.{taken, takenWater}
+use Rattle.adding.specs.declared.Figures.{Figures}
+use Rattle.season.specs.Season.{SeasonResult, addEach, seasonRefusal, addSeason}
+use Rattle.season_month.specs.Listed.{listed}
 use Rattle.demands.proofs.Rejected.{begun, blank}
 
 -- a thousandth, two thousandths, and a missing month; PE is 0

@@ -16,14 +16,15 @@ use Rattle.hindsight.specs.Months.{rowFor}
 use Rattle.starts.specs.Start.{startRefusal}
 use Rattle.runs.specs.declared.Run.{Run}
 use Rattle.starts.proofs.Theorems.{start-is-run}
-use Rattle.drought.specs.Columns.{Columns, long, columnsFit}
-use Rattle.drought.specs.Ready.{Good}
-use Rattle.drought.specs.Calls.{Result, heldBy, taken}
-use Rattle.drought.proofs.Readiness.{lengths-are}
-use Rattle.drought.proofs.Keeps.{wrote-index, wrote-mark}
-use Rattle.drought.proofs.Accepts.{good-passes}
-use Rattle.season.specs.Season.{SeasonResult, seasonResult, listed, nothing, joined, stopped, onlyIf, single, addEach, seasonRefusal, addSeason}
-use Rattle.season.proofs.Steps.{on, off}
+use Rattle.refusals.specs.Columns.{Columns, long, columnsFit}
+use Rattle.refusals.specs.Good.{Good}
+use Rattle.adding.specs.Taken.{Result, heldBy, taken}
+use Rattle.refusals.proofs.Refused.{columns-are, good-passes}
+use Rattle.run_laws.proofs.Keeps.{wrote-index, wrote-mark}
+use Rattle.season.specs.Season.{SeasonResult, seasonResult, nothing, joined, stopped, single, addEach, seasonRefusal, addSeason}
+use Rattle.season_month.specs.Listed.{listed}
+use Rattle.outline.specs.Refusals.{unlessRefused}
+use Rattle.outline.proofs.Refusals.{is-done, is-refused}
 use Rattle.demands.specs.Months.{Ask, water, asked, State, after, afterAll, Accepted, stationOf, zFor}
 use Rattle.demands.specs.Demands.{Honest, begun}
 use Rattle.demands.specs.Seasons.{monthsOf, settledBy, lastOf, leftOf, Singly, SameFrom, Seasons}

@@ -8,10 +8,9 @@ use native.Mathlib.Omega.{arith}
 use lib.IntN.{ℤ, pos}
 use lib.ListN.{length, getD}
 use lib.Seq.{getD-set-other}
-use Rattle.hindsight.specs.Adding.{addTo}
-use Rattle.hindsight.specs.Adding.{History}
+use Rattle.hindsight.specs.Adding.{addTo, History}
 use Rattle.hindsight.specs.Columns.{rowsOf}
-use Rattle.drought.specs.Calls.{heldBy}
+use Rattle.adding.specs.Taken.{heldBy}
 use Rattle.demands.specs.Months.{Ask, State, after, afterAll, Accepted, Station, stationOf, stationNext, stationRow, rowsOfMonths}
 use Rattle.demands.proofs.Took.{took, months-next, station-next, held-next, x1-next, x2-next, x3-next}
 

@@ -22,11 +22,12 @@ use Rattle.hindsight.proofs.Hindsight.{every-index, every-mark, open-exactly, s
 use Rattle.calendar.specs.Calendar.{constantsAt}
 use Rattle.starts.specs.Start.{startRefusal, startOf, freshRun, zeroRun, startedWith}
 use Rattle.runs.specs.declared.Run.{Run}
-use Rattle.drought.specs.Columns.{Columns, long, columnsFit}
-use Rattle.drought.specs.Refusals.{waterRefusal, zRefusal}
-use Rattle.drought.specs.Figures.{figuresOf, waterFigures}
-use Rattle.drought.specs.Calls.{Result, heldBy, soilAfter, taken, takenWater, takenZ, unless, addOutcomes, addWater, addInches, addZ}
-use Rattle.drought.proofs.Readiness.{run-is}
+use Rattle.refusals.specs.Columns.{Columns, long, columnsFit}
+use Rattle.refusals.specs.Refusals.{waterRefusal, zRefusal}
+use Rattle.adding.specs.Figures.{figuresOf, waterFigures}
+use Rattle.drought.specs.Calls.{addOutcomes, addWater, addInches, addZ}
+use Rattle.adding.specs.Taken.{Result, heldBy, soilAfter, taken, takenWater, takenZ, answered}
+use Rattle.adding.proofs.Readiness.{run-is}
 use Rattle.demands.specs.Months.{Ask, water, inches, anomaly, asked, State, after, afterAll, Accepted, stationOf, watered, zFor, soilFor, waterFor, stationNext, stationRow, rowsOfMonths}
 use Rattle.demands.proofs.Took.{Took, took, settled-is, held-next}
 use Rattle.demands.specs.Demands.{numberOf, Answers, Balances}

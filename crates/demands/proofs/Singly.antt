@@ -19,12 +19,12 @@ use Rattle.runs.specs.declared.Run.{Run}
 use Rattle.outline.proofs.Tests.{first, second}
 use Rattle.starts.proofs.Theorems.{start-is-run}
 use Rattle.series.specs.Series.{allZFit, seriesRefusal, filled, filledWith, wholeSeries}
-use Rattle.drought.specs.Columns.{Columns, long, columnsFit}
-use Rattle.drought.specs.Ready.{Good}
-use Rattle.drought.specs.Refusals.{runRefusal, roomRefusal, zRefusal}
-use Rattle.drought.specs.Calls.{Result, heldBy}
+use Rattle.refusals.specs.Columns.{Columns, long, columnsFit}
+use Rattle.refusals.specs.Good.{Good}
+use Rattle.refusals.specs.Refusals.{runRefusal, roomRefusal, zRefusal}
+use Rattle.adding.specs.Taken.{Result, heldBy}
 use Rattle.demands.specs.Months.{Ask, anomaly, asked, State, after, afterAll, Accepted, Station, stationOf, stationNext, stationRow}
-use Rattle.drought.proofs.Keeps.{long-kept}
+use Rattle.run_laws.proofs.Keeps.{long-kept}
 use Rattle.demands.proofs.Took.{Took, took, good-kept, months-next}
 use Rattle.demands.proofs.Sequence.{held-all, months-all}
 use Rattle.demands.proofs.Shown.{refused-add}

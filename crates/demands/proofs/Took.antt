@@ -18,15 +18,17 @@ use Rattle.hindsight.specs.Adding.{addMonth, settledCount}
 use Rattle.spells.specs.Decisions.{decisionNumber}
 use Rattle.hindsight.proofs.Adding.{adds-run}
 use Rattle.runs.specs.declared.Run.{Run}
-use Rattle.drought.specs.Columns.{Columns, long, columnsFit}
-use Rattle.drought.specs.Ready.{Good}
-use Rattle.drought.specs.Refusals.{zRefusal}
-use Rattle.drought.specs.Calls.{Result, heldBy, taken, takenZ, takenWater, waterOf, addOutcomes, addWater, addInches, addZ}
-use Rattle.drought.proofs.Refused.{z-passes}
-use Rattle.drought.proofs.Readiness.{run-is, lengths-are}
-use Rattle.drought.proofs.Taken.{row-is}
-use Rattle.drought.proofs.Keeps.{wrote-index, wrote-mark}
-use Rattle.drought.proofs.Accepts.{unless-zero, good-taken, took-water as water-took}
+use Rattle.refusals.specs.Columns.{Columns, long, columnsFit}
+use Rattle.refusals.specs.Good.{Good}
+use Rattle.refusals.specs.Refusals.{zRefusal}
+use Rattle.drought.specs.Calls.{addOutcomes, addWater, addInches, addZ}
+use Rattle.adding.specs.Taken.{Result, heldBy, taken, takenZ, takenWater, waterOf}
+use Rattle.refusals.proofs.Refused.{z-passes, columns-are}
+use Rattle.adding.proofs.Readiness.{run-is}
+use Rattle.adding.proofs.Taken.{row-is}
+use Rattle.run_laws.proofs.Keeps.{wrote-index, wrote-mark, good-taken}
+use Rattle.run_laws.proofs.Accepts.{took-water as water-took}
+use Rattle.adding.proofs.Answered.{answered-zero}
 use Rattle.demands.specs.Months.{Ask, water, inches, anomaly, asked, State, stateOf, after, stationOf, zFor, soilFor, waterFor, stationNext, stationRow}
 
 -- a month that was taken

@@ -20,10 +20,10 @@ use Rattle.hindsight.specs.Counts.{NoneFrom, count}
 use Rattle.starts.specs.Start.{startRefusal, startOf, freshRun, zeroRun}
 use Rattle.runs.specs.declared.Run.{Run}
 use Rattle.series.specs.Series.{allZFit, seriesRefusal, filled, wholeSeries}
-use Rattle.drought.specs.Columns.{Columns, long, columnsFit}
-use Rattle.drought.specs.Refusals.{waterRefusal, zRefusal}
-use Rattle.drought.specs.Figures.{figuresOf, noFigures}
-use Rattle.drought.specs.Calls.{Result, heldBy}
+use Rattle.refusals.specs.Columns.{Columns, long, columnsFit}
+use Rattle.refusals.specs.Refusals.{waterRefusal, zRefusal}
+use Rattle.adding.specs.Figures.{figuresOf, noFigures}
+use Rattle.adding.specs.Taken.{Result, heldBy}
 use Rattle.demands.specs.Months.{Ask, water, inches, anomaly, asked, State, after, afterAll, Accepted, stationOf, zFor, waterFor, rowsOfMonths}
 
 -- ---- 1. "Every reading, constant, month and list gets its answer or a numbered refusal. Nobody has to check beforehand. A refused call

@@ -17,10 +17,11 @@ use Rattle.hindsight.specs.Columns.{rowsOf}
 use Rattle.hindsight.specs.Months.{rowFor}
 use Rattle.calendar.specs.Calendar.{constantsAt, nextCalendar}
 use Rattle.runs.specs.declared.Run.{Run}
-use Rattle.drought.specs.Columns.{Columns}
-use Rattle.drought.specs.Figures.{waterFigures, noWater}
-use Rattle.drought.specs.Calls.{Result, soilAfter, addWater, addInches, addZ}
-use Rattle.drought.specs.declared.WaterFigures.{WaterFigures}
+use Rattle.refusals.specs.Columns.{Columns}
+use Rattle.adding.specs.Figures.{waterFigures, noWater}
+use Rattle.drought.specs.Calls.{addWater, addInches, addZ}
+use Rattle.adding.specs.Taken.{Result, soilAfter}
+use Rattle.adding.specs.declared.WaterFigures.{WaterFigures}
 
 -- a month that is added: water by two readings, water by two binary32 inches, or a Z
 pub data Ask : Type 0 where

@@ -9,10 +9,11 @@ use lib.IntN.{ℤ, pos}
 use lib.ListN.{length, getD, take}
 use Rattle.starts.specs.Start.{startRefusal}
 use Rattle.runs.specs.declared.Run.{Run}
-use Rattle.drought.specs.Columns.{Columns, columnsFit}
-use Rattle.drought.specs.Figures.{noFigures}
-use Rattle.drought.specs.declared.Figures.{Figures}
-use Rattle.season.specs.Season.{SeasonResult, seasonResult, listed, nothing, seasonRefusal, addSeason}
+use Rattle.refusals.specs.Columns.{Columns, columnsFit}
+use Rattle.adding.specs.Figures.{noFigures}
+use Rattle.adding.specs.declared.Figures.{Figures}
+use Rattle.season.specs.Season.{SeasonResult, seasonResult, nothing, seasonRefusal, addSeason}
+use Rattle.season_month.specs.Listed.{listed}
 use Rattle.demands.specs.Months.{Ask, water, asked, State, after, afterAll, Accepted}
 use Rattle.demands.specs.Demands.{Honest, begun}
 

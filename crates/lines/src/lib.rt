@@ -2,11 +2,10 @@
 //
 // Document 01: "A line is an optional minus and one or more digits, closed by a line feed or the end of
 // input; such a number outside the range of Z, however long, is 12."
-
+use outline::MOST_Z;
 ghost use mathlib.Core.Path.{_≡_};
 ghost use mathlib.Core.Bool.{true};
 ghost use Rattle.text.specs.Bytes.{isDigit, andDigit};
-ghost use Rattle.lines.specs.Line.{judged};
 ghost use Rattle.lines.specs.Reading.{begun, held, opens, fed, finished, readOf};
 ghost use Rattle.lines.specs.Fault.{signLength, spoiledAt};
 
@@ -36,10 +35,11 @@ const MINUS_SIGN: u8 = 45;
 
 const DIGIT_ZERO: u8 = 48;
 
-const MOST_Z: u32 = 4_000_000;
+// The most of Z in size.
+const MOST_SIZE: u32 = MOST_Z as u32;
 
 // Where a size above the range of Z is held.
-const HELD: u32 = MOST_Z + 1;
+const HELD: u32 = MOST_SIZE + 1;
 
 // The size after one digit more. A size that is held is let grow no further, so no sum comes near the
 // end of a u32.
@@ -47,11 +47,11 @@ fn grown(size: u32, b: u8) -> u32
     requires { ⌜ isDigit b ≡ true ⌝ }
     ensures { λ r. ⌜ r ≡ held (andDigit size b) ⌝ }
 {
-    if size > MOST_Z {
+    if size > MOST_SIZE {
         return HELD;
     }
     let n = 10 * size + ((b - DIGIT_ZERO) as u32);
-    if n > MOST_Z {
+    if n > MOST_SIZE {
         return HELD;
     }
     n
@@ -122,7 +122,7 @@ pub fn finish(l: Line) -> Read
         return Read::NotANumber;
     }
     let size = l.size;
-    if size > MOST_Z {
+    if size > MOST_SIZE {
         return Read::OutOfRange;
     }
     let z = size as i32;
@@ -130,19 +130,6 @@ pub fn finish(l: Line) -> Read
         return Read::Z(0 - z);
     }
     Read::Z(z)
-}
-
-// A whole line.
-pub fn parse(line: &[u8]) -> Read
-    ensures { λ r. ⌜ readOf r ≡ judged (now (line .entry)) ⌝ }
-{
-    let mut l = begin();
-    let mut i = 0;
-    while i < line.len() {
-        l = feed(l, line[i]);
-        i += 1;
-    }
-    finish(l)
 }
 
 // How many bytes the sign of a line has: 1 where it begins with a minus.

@@ -3,9 +3,10 @@
 use Prim.Native.Nat.{ℕ, _+_, min}
 use mathlib.Core.List.{List}
 use lib.ListN.{getD}
+use Rattle.outline.specs.Numbers.{mostMonths}
 use Rattle.rows.specs.declared.Row.{Row}
 use Rattle.runs.specs.declared.Run.{Run}
-use Rattle.drought.specs.Columns.{Columns}
+use Rattle.refusals.specs.Columns.{Columns}
 use Rattle.drought.specs.declared.Shown.{Shown}
 use Rattle.drought.specs.Calls.{rowOfRun}
 
@@ -22,4 +23,4 @@ rowAt run i cs ps = rowOf i (rowOfRun run i cs) (percentAt ps i)
 
 -- each line before a refused one gave a month, of which a run holds at most 2,400
 unfoldable pub lineAfter : ℕ → ℕ
-lineAfter months = min months 2400 + 1
+lineAfter months = min months mostMonths + 1

@@ -3,6 +3,7 @@
 // a refusal in words, by `words`.
 use libc::STDIN_FILENO;
 use libc::STDOUT_FILENO;
+use outline::MOST_MONTHS;
 use palmer_input::Session;
 use quoted::Start;
 use rows::Row;
@@ -10,17 +11,14 @@ use runs::Run;
 ghost use Prim.Native.Nat.{_+_, _≤_, _<_};
 ghost use mathlib.Core.Path.{_≡_};
 ghost use lib.ListN.{length};
-ghost use Rattle.drought.specs.Columns.{columns};
+ghost use Rattle.refusals.specs.Columns.{columns};
 ghost use Rattle.rows.specs.Text.{rowText, laid, mostRow};
 ghost use Rattle.palmer.specs.Printed.{percentAt, rowAt, lineAfter};
-
-// "Its columns are 2,400 long."
-const MOST_MONTHS: usize = 2_400;
 
 // What a row needs at most, and all rows.
 const MOST_ROW: usize = 72;
 
-const ROOM: usize = 172_800;
+const ROOM: usize = MOST_MONTHS * MOST_ROW;
 
 // No line is at fault yet.
 const NO_LINE: u32 = 4_294_967_295;

@@ -7,6 +7,7 @@ use Prim.Native.Nat.{ℕ, zero, suc}
 use native.Mathlib.Omega.{arith}
 use lib.Dec.{eqb}
 use borrow.Author.Tests.{eqb-true, eqb-false}
+use Rattle.outline.proofs.Refusals.{is-done, is-refused}
 use Rattle.text.specs.Bytes.{lineFeed, isDigit}
 use Rattle.text.specs.Lines.{lastLine, cut, linesOf}
 use Rattle.runs.specs.declared.Run.{Run}
@@ -14,10 +15,10 @@ use Rattle.lines.specs.Line.{Judged, judged}
 use Rattle.lines.specs.Reading.{begun, opens, fed}
 use Rattle.lines.specs.declared.Line.{Line}
 use Rattle.lines.proofs.Lines.{streamed}
-use Rattle.drought.specs.Columns.{Columns}
+use Rattle.refusals.specs.Columns.{Columns}
 use Rattle.palmer_input.specs.Input.{State, state, isBlank, withZ, heardWith, heardAs, lineClosed, byteFed, inputEnded}
 use Rattle.palmer_input.specs.ByLines.{heard}
-use Rattle.palmer_input.proofs.Steps.{on, off, byte-closes, byte-within, byte-refused, end-closes, end-blank, end-refused}
+use Rattle.palmer_input.proofs.Steps.{byte-closes, byte-within, byte-refused, end-closes, end-blank, end-refused}
 
 -- ---- worked inputs: "", "a" and a line feed, a line feed, and "a", two line feeds, "b"
 pub cuts : (linesOf [] ≡ []) × (linesOf (97 ∷ 10 ∷ []) ≡ (97 ∷ []) ∷ []) × (linesOf (10 ∷ []) ≡ [] ∷ []) × (linesOf (97 ∷ 10 ∷ 10 ∷ 98 ∷ []) ≡ (97 ∷ []) ∷ [] ∷ (98 ∷ []) ∷ [])
@@ -44,12 +45,12 @@ module _ (t : State) (k : t .session .refused ≡ 0 → ⊥) where
   lines-stay : (ls : List (List ℕ)) → foldl heard t ls ≡ t
   unfolding heard
   lines-stay [] = refl
-  lines-stay (l ∷ ls) = ap (λ (u : State). foldl heard u ls) (off _ t _ k) ∙ lines-stay ls
+  lines-stay (l ∷ ls) = ap (λ (u : State). foldl heard u ls) (is-refused _ _ t k) ∙ lines-stay ls
 
 -- ---- a line that is closed is heard, and the next begins
 closed-heard : (t : State) (line : List ℕ) → t .session .refused ≡ 0 → lineClosed (foldl fed begun line) (t .session .run) (t .columns) (t .percents) ≡ heard t line
 unfolding lineClosed heard
-closed-heard t line k = ap (λ (j : Judged). heardAs j (t .session .run) (t .columns) (t .percents)) (streamed line) ∙ sym (on _ t _ k)
+closed-heard t line k = ap (λ (j : Judged). heardAs j (t .session .run) (t .columns) (t .percents)) (streamed line) ∙ sym (is-done _ _ t k)
 
 begins : (j : Judged) (run : Run) (cs : Columns) (ps : List ℕ) (n : ℕ) → heardWith n (j .z) run cs ps .session .line ≡ begun
 unfolding withZ

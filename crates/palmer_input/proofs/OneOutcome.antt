@@ -3,7 +3,7 @@
 use mathlib.Core.Path.{_≡_, sym, ap, _∙_}
 use mathlib.Core.List.{List, foldl}
 use Prim.Native.Nat.{ℕ}
-use Rattle.drought.specs.Columns.{Columns}
+use Rattle.refusals.specs.Columns.{Columns}
 use Rattle.palmer_input.specs.Input.{State, state, byteFed, inputEnded}
 use Rattle.palmer_input.specs.declared.Session.{Session}
 

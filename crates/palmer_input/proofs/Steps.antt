@@ -7,26 +7,19 @@ use native.Mathlib.Omega.{arith}
 use lib.IntN.{ℤ}
 use lib.ListN.{length, set}
 use borrow.Author.Tests.{eq-eqb, ne-eqb}
+use Rattle.outline.proofs.Refusals.{is-done, is-refused}
 use Rattle.text.specs.Bytes.{lineFeed}
 use Rattle.lines.specs.Line.{Judged}
 use Rattle.lines.specs.Reading.{finished, readOf}
 use Rattle.lines.specs.declared.Line.{Line}
 use Rattle.lines.specs.declared.Read.{Read}
 use Rattle.runs.specs.declared.Run.{Run}
-use Rattle.drought.specs.Columns.{Columns, columns}
-use Rattle.drought.specs.Calls.{Result, result, addZ}
-use Rattle.drought.specs.declared.Added.{Added}
-use Rattle.palmer_input.specs.Input.{State, state, percentKept, afterLine, afterAdd, withZ, heardAs, lineClosed, withByte, unrefused, byteFed, isBlank, inputEnded}
+use Rattle.refusals.specs.Columns.{Columns, columns}
+use Rattle.drought.specs.Calls.{addZ}
+use Rattle.adding.specs.Taken.{Result, result}
+use Rattle.adding.specs.declared.Added.{Added}
+use Rattle.palmer_input.specs.Input.{State, state, percentKept, afterLine, afterAdd, withZ, heardAs, lineClosed, withByte, byteFed, isBlank, inputEnded}
 use Rattle.palmer_input.specs.declared.Session.{Session}
-
--- ---- a month's percent
-pub percent-kept : (k at value : ℕ) (ps : List ℕ) → k ≡ 0 → percentKept k at value ps ≡ set ps at value
-percent-kept zero at value ps e = refl
-percent-kept (suc k) at value ps e = absurd (omega arith)
-
-pub percent-not : (k at value : ℕ) (ps : List ℕ) → (k ≡ 0 → ⊥) → percentKept k at value ps ≡ ps
-percent-not zero at value ps h = absurd (h refl)
-percent-not (suc k) at value ps h = refl
 
 -- ---- a line's Z
 pub with-z : (run : Run) (z : ℤ) (cs : Columns) (ps : List ℕ) (a : Added) (ds : Columns) (qs : List ℕ) (s : Session) → result a ds ≡ addZ run z cs → qs ≡ percentKept (a .number) (run .months) (a .figures .percent) ps → s ≡ afterLine (a .number) (a .run) → state s ds qs ≡ withZ run z cs ps
@@ -38,41 +31,32 @@ pub closed : (line : Line) (r : Read) (run : Run) (cs : Columns) (ps : List ℕ)
 unfolding lineClosed
 closed line r run cs ps e = ap (λ (j : Judged). heardAs j run cs ps) e
 
--- ---- whether the reading goes on
-pub on : (k : ℕ) (t next : State) → k ≡ 0 → unrefused k t next ≡ next
-on zero t next e = refl
-on (suc k) t next e = absurd (omega arith)
-
-pub off : (k : ℕ) (t next : State) → (k ≡ 0 → ⊥) → unrefused k t next ≡ t
-off zero t next h = absurd (h refl)
-off (suc k) t next h = refl
-
 module _ (t : State) where
   -- ---- a byte
   pub byte-closes : (b : ℕ) → t .session .refused ≡ 0 → b ≡ lineFeed → byteFed t b ≡ lineClosed (t .session .line) (t .session .run) (t .columns) (t .percents)
   unfolding byteFed
-  byte-closes b k e = on _ t _ k ∙ rw (eq-eqb b lineFeed e)
+  byte-closes b k e = is-done _ _ t k ∙ rw (eq-eqb b lineFeed e)
 
   pub byte-within : (b : ℕ) → t .session .refused ≡ 0 → (b ≡ lineFeed → ⊥) → byteFed t b ≡ withByte t b
   unfolding byteFed
-  byte-within b k h = on _ t _ k ∙ rw (ne-eqb b lineFeed h)
+  byte-within b k h = is-done _ _ t k ∙ rw (ne-eqb b lineFeed h)
 
   pub byte-refused : (b : ℕ) → (t .session .refused ≡ 0 → ⊥) → byteFed t b ≡ t
   unfolding byteFed
-  byte-refused b k = off _ t _ k
+  byte-refused b k = is-refused _ _ t k
 
   -- ---- the end
   pub end-closes : t .session .refused ≡ 0 → isBlank (t .session .line) ≡ false → inputEnded t ≡ lineClosed (t .session .line) (t .session .run) (t .columns) (t .percents)
   unfolding inputEnded
-  end-closes k e = on _ t _ k ∙ rw e
+  end-closes k e = is-done _ _ t k ∙ rw e
 
   pub end-blank : t .session .refused ≡ 0 → isBlank (t .session .line) ≡ true → inputEnded t ≡ t
   unfolding inputEnded
-  end-blank k e = on _ t _ k ∙ rw e
+  end-blank k e = is-done _ _ t k ∙ rw e
 
   pub end-refused : (t .session .refused ≡ 0 → ⊥) → inputEnded t ≡ t
   unfolding inputEnded
-  end-refused k = off _ t _ k
+  end-refused k = is-refused _ _ t k
 
 -- ---- what is held, part by part
 abbrev pub held : Line → ℕ → Run → List ℤ → List ℤ → List ℤ → List ℤ → List ℕ → List ℕ → State

@@ -2,9 +2,10 @@
 -- into (`linesOf`, crates/text) is heard as a whole: what the program does, with no byte in it. Assumes nothing.
 use Prim.Native.Nat.{ℕ}
 use mathlib.Core.List.{List}
+use Rattle.outline.specs.Refusals.{unlessRefused}
 use Rattle.lines.specs.Line.{judged}
-use Rattle.palmer_input.specs.Input.{State, heardAs, unrefused}
+use Rattle.palmer_input.specs.Input.{State, heardAs}
 
 -- a whole line heard; after a refusal nothing is
 unfoldable pub heard : State → List ℕ → State
-heard t line = unrefused (t .session .refused) t (heardAs (judged line) (t .session .run) (t .columns) (t .percents))
+heard t line = unlessRefused (t .session .refused) (heardAs (judged line) (t .session .run) (t .columns) (t .percents)) t

@@ -1,20 +1,24 @@
 -- Document 01: "A program reads one Z a line from standard input into a fresh run and prints, at the end, month number, X1, X2, X3, percent,
 -- index, S or O. .. The first refused line (10, 12, 13) ends it". Here is what the program holds while it reads: byte by byte, so that a
 -- line of any length is read within fixed memory. Assumes nothing.
-use Prim.Native.Nat.{ℕ, zero, suc}
+use Prim.Native.Nat.{ℕ}
 use mathlib.Core.Bool.{Bool, cond, not, _||_}
 use mathlib.Core.List.{List}
 use lib.IntN.{ℤ, pos}
 use lib.ListN.{set, replicate}
 use lib.Dec.{eqb}
+use Rattle.outline.specs.Numbers.{manyConstants}
+use Rattle.outline.specs.Refusals.{unlessRefused}
+use Rattle.water.specs.Layers.{leastCapacity}
 use Rattle.text.specs.Bytes.{lineFeed}
 use Rattle.lines.specs.Line.{Judged}
 use Rattle.lines.specs.Reading.{begun, fed, finished}
 use Rattle.lines.specs.declared.Line.{Line}
 use Rattle.starts.specs.Start.{startOf}
 use Rattle.runs.specs.declared.Run.{Run}
-use Rattle.drought.specs.Columns.{Columns}
-use Rattle.drought.specs.Calls.{Result, addZ}
+use Rattle.refusals.specs.Columns.{Columns}
+use Rattle.drought.specs.Calls.{addZ}
+use Rattle.adding.specs.Taken.{Result}
 use Rattle.palmer_input.specs.declared.Session.{Session}
 
 -- what is held: the session, the five columns, and each month's percent
@@ -28,15 +32,14 @@ state s cs ps = record { session = s; columns = cs; percents = ps }
 
 -- a run that is started with the constants 0, the least capacity, empty storages and January: to an added Z none of these matters
 abbrev pub freshRun : Run
-freshRun = startOf (replicate 60 (pos 0)) (pos 1000) (pos 0) (pos 0) (pos 1) .run
+freshRun = startOf (replicate manyConstants (pos 0)) (pos leastCapacity) (pos 0) (pos 0) (pos 1) .run
 
 abbrev pub fresh : Session
 fresh = record { line = begun; refused = 0; run = freshRun }
 
 -- a month's percent is kept, unless the month was refused
 abbrev pub percentKept : ℕ → ℕ → ℕ → List ℕ → List ℕ
-percentKept zero at value ps = set ps at value
-percentKept (suc k) at value ps = ps
+percentKept k at value ps = unlessRefused k (set ps at value) ps
 
 -- the reading goes on with a new line where the number is 0, and is refused otherwise
 abbrev pub afterLine : ℕ → Run → Session
@@ -51,8 +54,7 @@ withZ run z cs ps = afterAdd (run .months) (addZ run z cs) ps
 
 -- a line closed, by what it says
 abbrev pub heardWith : ℕ → ℤ → Run → Columns → List ℕ → State
-heardWith zero z run cs ps = withZ run z cs ps
-heardWith (suc k) z run cs ps = state (afterLine (suc k) run) cs ps
+heardWith k z run cs ps = unlessRefused k (withZ run z cs ps) (state (afterLine k run) cs ps)
 
 abbrev pub heardAs : Judged → Run → Columns → List ℕ → State
 heardAs j run cs ps = heardWith (j .number) (j .z) run cs ps
@@ -63,15 +65,11 @@ lineClosed line run cs ps = heardAs (finished line) run cs ps
 abbrev pub withByte : State → ℕ → State
 withByte t b = state (record { line = fed (t .session .line) b; refused = t .session .refused; run = t .session .run }) (t .columns) (t .percents)
 
-abbrev pub unrefused : ℕ → State → State → State
-unrefused zero t next = next
-unrefused (suc k) t next = t
-
 -- one byte more; after a refusal nothing is looked at
 unfoldable pub byteFed : State → ℕ → State
 byteFed t b =
-    unrefused (t .session .refused) t
-    (cond (eqb b lineFeed) (lineClosed (t .session .line) (t .session .run) (t .columns) (t .percents)) (withByte t b))
+    unlessRefused (t .session .refused)
+    (cond (eqb b lineFeed) (lineClosed (t .session .line) (t .session .run) (t .columns) (t .percents)) (withByte t b)) t
 
 -- whether a line has not begun
 unfoldable pub isBlank : Line → Bool
@@ -80,5 +78,5 @@ isBlank l = not (l .minus || l .digits || l .spoiled)
 -- "closed by a line feed or the end of input"
 unfoldable pub inputEnded : State → State
 inputEnded t =
-    unrefused (t .session .refused) t
-    (cond (isBlank (t .session .line)) t (lineClosed (t .session .line) (t .session .run) (t .columns) (t .percents)))
+    unlessRefused (t .session .refused)
+    (cond (isBlank (t .session .line)) t (lineClosed (t .session .line) (t .session .run) (t .columns) (t .percents))) t

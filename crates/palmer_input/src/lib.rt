@@ -4,10 +4,14 @@
 // (10, 12, 13) ends it". Every call here serves that program alone.
 use lines::Line;
 use lines::Read;
+use outline::BAD_Z;
+use outline::MANY_CONSTANTS;
+use outline::NOT_A_NUMBER;
+use ranges::LEAST_CAPACITY;
 use runs::Run;
 ghost use mathlib.Core.Path.{_≡_};
 ghost use mathlib.Core.List.{foldl};
-ghost use Rattle.drought.specs.Columns.{columns};
+ghost use Rattle.refusals.specs.Columns.{columns};
 ghost use Rattle.palmer_input.specs.Input.{state, fresh, isBlank, percentKept, afterLine, withZ, lineClosed, byteFed, inputEnded};
 
 // What has been read: the line so far, the refusal that ended the reading (0: none yet), and the run.
@@ -19,12 +23,8 @@ pub struct Session {
 
 const LINE_FEED: u8 = 10;
 
-const BAD_Z: u8 = 12;
-
-const NOT_A_NUMBER: u8 = 13;
-
-// The least capacity, and the first calendar month: a run to which only Z are added looks at neither.
-const CAPACITY: i32 = 1_000;
+// The least capacity and the first calendar month: a run to which only Z are added looks at neither.
+const CAPACITY: i32 = LEAST_CAPACITY as i32;
 
 const JANUARY: i32 = 1;
 
@@ -32,7 +32,7 @@ const JANUARY: i32 = 1;
 pub fn begin() -> Session
     ensures { λ s. ⌜ s ≡ fresh ⌝ }
 {
-    let constants = [0i32; 60];
+    let constants = [0i32; MANY_CONSTANTS];
     let started = drought::start(&constants, CAPACITY, 0, 0, JANUARY);
     let run = started.run;
     after_line(0, run)

@@ -2,17 +2,14 @@
 // what the refusal's number means. Every call here serves that program alone. No contract can say what is written, so
 // these functions are proved safe and ending, and tests/program.py holds the words to a table.
 use libc::STDERR_FILENO;
+use outline::BAD_Z;
+use outline::FULL;
 use quoted::Start;
 ghost use Prim.Native.Nat.{_<_};
 ghost use lib.ListN.{length};
 
 // How much of a line is kept to be quoted.
 const ROOM: usize = 40;
-
-// The refusals.
-const FULL: u8 = 10;
-
-const BAD_Z: u8 = 12;
 
 fn say(text: &[u8]) {
     io::write_all(STDERR_FILENO, text);

@@ -4,13 +4,14 @@ use mathlib.Core.Path.{_≡_, refl, _∙_}
 use Prim.Native.Nat.{_-_, _*_, _≤_}
 use native.Mathlib.Omega.{arith}
 use lib.ListN.{length}
+use Rattle.outline.specs.Numbers.{mostMonths}
 use Rattle.palmer.specs.Printed.{lineAfter}
 use Rattle.palmer.proofs.put_rows.Statement.{statement}
 use Rattle.palmer.proofs.put_rows.Tie as tie
 
 abbrev Inv-loop : tie.InvT-loop
 Inv-loop out₀ run x1 x2 x3 index mark percent end at₀ i₀ out at i =
-    (length out ≡ length out₀) × (at ≤ 72 * i) × (i ≤ end) × (end ≤ 2400)
+    (length out ≡ length out₀) × (at ≤ 72 * i) × (i ≤ end) × (end ≤ mostMonths)
 
 abbrev μ-loop : tie.MeasureT-loop
 μ-loop out₀ run x1 x2 x3 index mark percent end at₀ i₀ out at i = end - i

@@ -6,7 +6,7 @@ use mir.Facts.{toZ-ofZ}
 use denote.Ref.{now}
 use Rattle.lines.specs.Reading.{readOf}
 use Rattle.lines.specs.declared.Read.the-variants.{Z, OutOfRange, NotANumber}
-use Rattle.drought.specs.Columns.{Columns, columns}
+use Rattle.refusals.specs.Columns.{Columns, columns}
 use Rattle.palmer_input.proofs.Steps.{closed}
 use borrow.Author.Needs.{needs}
 use Rattle.palmer_input.proofs.close_line.Statement.{statement}
