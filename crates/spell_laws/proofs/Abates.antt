@@ -12,9 +12,9 @@ use Rattle.outline.specs.Numbers.{weight, mostZ, mostU}
 use Rattle.exact.proofs.Nearest.{nearest-near}
 use Rattle.exact.proofs.NextLaws.{next-odd}
 use Rattle.exact.proofs.Z.{zs, is-Z, le-no}
 use Rattle.spells.specs.declared.Running.{Running}
-use Rattle.spells.specs.Spells.{steady, ended, abating, turn, uOf, vOf, eOf, qOf, endingOf}
-use Rattle.spells.specs.Months.{endingIn}
+use Rattle.ending.specs.Ending.{steady, ended, abating, turn, uOf, vOf, eOf, qOf, endingOf}
+use Rattle.spell_laws.specs.Months.{endingIn}
 
 -- turning the signs
 pub turn-next : (wet : Bool) (x z : ℤ) → nextOf (turn wet x) (turn wet z) ≡ turn wet (nextOf x z)

@@ -14,19 +14,20 @@ use Rattle.exact.specs.Next.{nextOf}
 use Rattle.outline.specs.Numbers.{mostX}
 use Rattle.exact.proofs.NextLaws.{next-odd}
 use Rattle.exact.proofs.Z.{Z, zs, zs-abs, is-Z, Z-pos, Z-minus}
 use Rattle.spells.specs.declared.Running.{Running}
 use Rattle.spells.specs.declared.With.the-variants.{X1, X2}
 use Rattle.spells.specs.declared.Decision.{Decision}
 use Rattle.spells.specs.declared.Decision.the-variants.{Nothing, Decides}
 use Rattle.spells.specs.declared.SpellMonth.{SpellMonth}
 use Rattle.spells.specs.Values.{FitsWithin, ValuesFit, fresh}
-use Rattle.spells.specs.Spells.{Ending, steady, ended, abating, turn, vOf, raised, lowered, largerInSize, steadyMonth, abatingValues, abatingMonth, founded, unfounded, tried, noSpell, endingMonth, stepOf}
-use Rattle.spells.specs.Months.{InForce, NoneInForce, endingIn, spell-is, NoSpell, none, just-ended, x1Of, x2Of}
-use Rattle.spells.specs.Mirror.{mirror, mirrorDecision, mirrorMonth, BothFound, BothZero, Tied}
+use Rattle.spells.specs.Spells.{raised, lowered, largerInSize, steadyMonth, abatingValues, abatingMonth, founded, unfounded, tried, noSpell, endingMonth, stepOf}
+use Rattle.ending.specs.Ending.{Ending, steady, ended, abating, turn, vOf}
+use Rattle.spell_laws.specs.Months.{InForce, NoneInForce, endingIn, spell-is, NoSpell, none, just-ended, x1Of, x2Of}
+use Rattle.spell_laws.specs.Mirror.{mirror, mirrorDecision, mirrorMonth, BothFound, BothZero, Tied}
 use Rattle.spells.proofs.Choices.{same-values, raised-fits, lowered-fits, tried-first, tried-second, tried-x1, tried-x2, tried-open, step-none, provisional-x3}
-use Rattle.spells.proofs.Cases.{by-zero, by-order, by-tried, by-month, step-ending}
-use Rattle.spells.proofs.Abates.{abating-some}
-use Rattle.spells.proofs.Parts.{tried-percent}
+use Rattle.spell_laws.proofs.Cases.{by-zero, by-order, by-tried, by-month, step-ending}
+use Rattle.spell_laws.proofs.Abates.{abating-some}
+use Rattle.spell_laws.proofs.Parts.{tried-percent}
 
 -- ---- signs
 turn-not : (wet : Bool) (n : ℤ) → turn (not wet) (negℤ n) ≡ turn wet n

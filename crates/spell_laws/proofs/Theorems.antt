@@ -12,17 +12,18 @@ use lib.Signed.{_≤ℤ_, _<ℤ_}
 use Rattle.exact.specs.Next.{nextOf}
 use Rattle.outline.specs.Numbers.{mostX, mostZ, mostU}
 use Rattle.exact.proofs.Z.{zs, is-Z}
 use Rattle.spells.specs.declared.Running.{Running}
 use Rattle.spells.specs.declared.With.the-variants.{X1, X2, X3}
 use Rattle.spells.specs.declared.Decision.{Decision}
 use Rattle.spells.specs.declared.Decision.the-variants.{Nothing, Decides}
 use Rattle.spells.specs.declared.SpellMonth.{SpellMonth}
-use Rattle.spells.specs.Values.{mostV, FitsWithin, ValuesFit}
-use Rattle.spells.specs.Spells.{Ending, steady, ended, abating, turn, vOf, qOf, steadyMonth, abatingValues, abatingMonth, noSpell, endingMonth, stepOf}
-use Rattle.spells.specs.Months.{InForce, endingIn, SpellIs, spell-is, x1Of, x2Of, Shows}
-use Rattle.spells.proofs.Cases.{by-month, step-ending}
-use Rattle.spells.proofs.Parts.{tried-kept, tried-index, month-sides, spell-kept, spell-index, percent-tells, spell-percent, tried-shows, spell-shows}
-use Rattle.spells.proofs.Abates.{abating-x3, abating-v, q-above}
+use Rattle.spells.specs.Values.{FitsWithin, ValuesFit}
+use Rattle.ending.specs.Ending.{mostV, Ending, steady, ended, abating, turn, vOf, qOf}
+use Rattle.spells.specs.Spells.{steadyMonth, abatingValues, abatingMonth, noSpell, endingMonth, stepOf}
+use Rattle.spell_laws.specs.Months.{InForce, endingIn, SpellIs, spell-is, x1Of, x2Of, Shows}
+use Rattle.spell_laws.proofs.Cases.{by-month, step-ending}
+use Rattle.spell_laws.proofs.Parts.{tried-kept, tried-index, month-sides, spell-kept, spell-index, percent-tells, spell-percent, tried-shows, spell-shows}
+use Rattle.spell_laws.proofs.Abates.{abating-x3, abating-v, q-above}
 
 -- ---- the promise has one answer
 

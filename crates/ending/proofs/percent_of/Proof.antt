@@ -1,4 +1,4 @@
--- `spells::percent_of` meets its contract: the two tests hold the nearest whole number within 1 to 99. Assumes nothing.
+-- `ending::percent_of` meets its contract: the two tests hold the nearest whole number within 1 to 99. Assumes nothing.
 use mathlib.Core.Path.{_≡_, _∙_}
 use Prim.Native.Nat.{_≤_, _*_}
 use native.Mathlib.Omega.{arith}
@@ -11,11 +11,11 @@ use mir.Facts.{toZ-ofZ}
 use Rattle.exact.specs.Nearest.{nearest, clip}
 use Rattle.exact.proofs.Z.{zs, zs-abs, is-Z, lt-no}
 use Rattle.exact.proofs.Held.{held}
-use Rattle.spells.specs.Values.{mostV}
-use Rattle.spells.specs.Spells.{percentOf}
-use Rattle.spells.proofs.Choices.{percent-low, percent-high, percent-between}
-use Rattle.spells.proofs.percent_of.Statement.{statement}
-use Rattle.spells.proofs.percent_of.Tie as tie
+use Rattle.ending.specs.Ending.{mostV}
+use Rattle.ending.specs.Ending.{percentOf}
+use Rattle.ending.proofs.Rooms.{percent-low, percent-high, percent-between}
+use Rattle.ending.proofs.percent_of.Statement.{statement}
+use Rattle.ending.proofs.percent_of.Tie as tie
 
 fit : (v : ℤ) → natAbs v ≤ 2 * mostV → SFits w64 (pos 100000 *ℤ v)
 fit v = rw (is-Z v) (simp zs (omega arith))

@@ -7,13 +7,14 @@ use native.Mathlib.Omega.{arith}
 use lib.IntN.{ℤ, pos, negsuc, negℤ}
 use lib.Signed.{_≤ℤ_, _<ℤ_, leZ}
 use Rattle.exact.proofs.Z.{zs, is-Z, le-yes, le-no}
 use Rattle.spells.specs.declared.Running.{Running}
 use Rattle.spells.specs.declared.With.the-variants.{X1, X2}
 use Rattle.spells.specs.declared.Decision.the-variants.{Nothing, Decides}
 use Rattle.spells.specs.declared.SpellMonth.{SpellMonth}
-use Rattle.spells.specs.Spells.{Ending, turn, largerInSize, founded, unfounded, tried, noSpell, endingMonth, inForce, stepOf}
-use Rattle.spells.specs.Months.{InForce, NoneInForce, endingIn}
+use Rattle.spells.specs.Spells.{largerInSize, founded, unfounded, tried, noSpell, endingMonth, inForce, stepOf}
+use Rattle.ending.specs.Ending.{Ending, turn}
+use Rattle.spell_laws.specs.Months.{InForce, NoneInForce, endingIn}
 use Rattle.spells.proofs.Choices.{tried-first, tried-second, tried-x1, tried-x2, tried-open, step-drought, step-wet, step-none}
 
 -- a number is 0, or it is not
 pub by-zero : (x : ℤ) (P : Type 0) → (x ≡ pos 0 → P) → ((x ≡ pos 0 → ⊥) → P) → P

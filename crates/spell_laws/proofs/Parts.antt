@@ -9,14 +9,16 @@ use lib.IntN.{ℤ, pos, natAbs}
 use Rattle.exact.specs.Next.{nextOf}
 use Rattle.outline.specs.Numbers.{mostX, mostZ, mostU}
 use Rattle.exact.proofs.NextLaws.{next-within}
 use Rattle.spells.specs.declared.Running.{Running}
 use Rattle.spells.specs.declared.SpellMonth.{SpellMonth}
 use Rattle.spells.specs.Values.{SidesFit, FitsWithin}
-use Rattle.spells.specs.Spells.{Ending, steady, ended, abating, turn, vOf, percentOf, provisional, steadyMonth, abatingValues, abatingMonth, founded, unfounded, tried, noSpell, endingMonth, stepOf}
-use Rattle.spells.specs.Months.{InForce, NoneInForce, endingIn, SpellIs, spell-is, x1Of, x2Of, Shows}
-use Rattle.spells.proofs.Choices.{sides-kept, larger-within, turn-size, provisional-x3}
-use Rattle.spells.proofs.Cases.{by-tried, by-month, step-ending}
-use Rattle.spells.proofs.Abates.{abating-x3, abating-v, abating-some, signs, v-room}
+use Rattle.spells.specs.Spells.{provisional, steadyMonth, abatingValues, abatingMonth, founded, unfounded, tried, noSpell, endingMonth, stepOf}
+use Rattle.ending.specs.Ending.{Ending, steady, ended, abating, turn, vOf, percentOf}
+use Rattle.spell_laws.specs.Months.{InForce, NoneInForce, endingIn, SpellIs, spell-is, x1Of, x2Of, Shows}
+use Rattle.spells.proofs.Choices.{sides-kept, larger-within, provisional-x3}
+use Rattle.ending.proofs.Rooms.{turn-size}
+use Rattle.spell_laws.proofs.Cases.{by-tried, by-month, step-ending}
+use Rattle.spell_laws.proofs.Abates.{abating-x3, abating-v, abating-some, signs, v-room}
 
 -- ---- the running values and the index
 module _ (most : ℕ) where

@@ -1,4 +1,4 @@
--- `spells::turned` meets its contract. Assumes nothing.
+-- `ending::turned` meets its contract. Assumes nothing.
 use mathlib.Core.Path.{_≡_}
 use Prim.Native.Nat.{_≤_, _*_}
 use native.Mathlib.Omega.{arith}
@@ -7,10 +7,10 @@ use mir.Syntax.{w64}
 use mir.Val.{SFits}
 use Rattle.exact.proofs.Z.{zs, is-Z}
 use Rattle.exact.proofs.Held.{held}
-use Rattle.spells.specs.Values.{mostV}
-use Rattle.spells.specs.Spells.{turn}
-use Rattle.spells.proofs.turned.Statement.{statement}
-use Rattle.spells.proofs.turned.Tie as tie
+use Rattle.ending.specs.Ending.{mostV}
+use Rattle.ending.specs.Ending.{turn}
+use Rattle.ending.proofs.turned.Statement.{statement}
+use Rattle.ending.proofs.turned.Tie as tie
 
 fit : (n : ℤ) → natAbs n ≤ 2 * mostV → SFits w64 (pos 0 -ℤ n) × (pos 0 -ℤ n ≡ negℤ n)
 fit n = rw (is-Z n) (simp zs (omega arith))

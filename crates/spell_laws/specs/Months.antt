@@ -7,12 +7,13 @@ use lib.IntN.{ℤ, pos, negℤ}
 use lib.Signed.{_≤ℤ_, _<ℤ_}
 use Rattle.outline.specs.Numbers.{foundsFrom, inForceBeyond}
 use Rattle.exact.specs.Next.{nextOf}
 use Rattle.spells.specs.declared.Running.{Running}
 use Rattle.spells.specs.declared.With.the-variants.{X1, X2, X3}
 use Rattle.spells.specs.declared.Decision.{Decision}
 use Rattle.spells.specs.declared.Decision.the-variants.{Nothing, Decides}
 use Rattle.spells.specs.declared.SpellMonth.{SpellMonth}
-use Rattle.spells.specs.Spells.{Ending, ended, turn, endingOf, raised, lowered, provisional}
+use Rattle.spells.specs.Spells.{raised, lowered, provisional}
+use Rattle.ending.specs.Ending.{Ending, ended, turn, endingOf}
 
 -- "A drought is in force if last month's X3 is below -500, a wet spell if above 500"
 abbrev pub InForce : Bool → Running → Type 0

@@ -4,13 +4,13 @@ use mathlib.Core.Path.{_≡_}
 use lib.IntN.{ℤ, pos, negℤ, natAbs}
 use lib.Signed.{_≤ℤ_, _<ℤ_}
 use Rattle.outline.specs.Numbers.{foundsFrom}
 use Rattle.spells.specs.declared.Running.{Running}
 use Rattle.spells.specs.declared.With.{With}
 use Rattle.spells.specs.declared.With.the-variants.{X1, X2, X3}
 use Rattle.spells.specs.declared.Decision.{Decision}
 use Rattle.spells.specs.declared.Decision.the-variants.{Nothing, Decides}
 use Rattle.spells.specs.declared.SpellMonth.{SpellMonth}
-use Rattle.spells.specs.Months.{NoSpell, x1Of, x2Of}
+use Rattle.spell_laws.specs.Months.{NoSpell, x1Of, x2Of}
 
 -- X1 and X2 change places, and every sign is changed
 abbrev pub mirror : Running → Running
