@@ -14,9 +14,10 @@ use lib.Seq.{take-at, drop-at}
 use Rattle.spells.specs.declared.With.{With}
 use Rattle.spells.specs.declared.Decision.{Decision}
 use Rattle.spells.specs.declared.Decision.the-variants.{Nothing, Decides}
 use Rattle.hindsight.specs.Rule.{X, Row, Deciding, nobody, after, oneEarlier, decidingFor, deciding, Shown, shownBy, settledIndex, forwardOf, forward, forwardAll, indexOf, markOf, forwardIndexes, forwardMarks}
-use Rattle.hindsight.specs.Counts.{NoneFrom, one-if, count}
+use Rattle.hindsight.proofs.Forward.{length-forwardAll, getD-forwardAll, getD-map}
+use Rattle.hindsight_laws.specs.Counts.{NoneFrom, one-if, count}
 use Rattle.hindsight.specs.Adding.{History, fresh, settledAll, kept, addAs, addMonth, settledCount, settledAs, addTo, addAll}
 
 abbrev pub xOf : Row → X
 xOf r = r .x
@@ -51,10 +52,6 @@ map-append {B = B} f (x ∷ l) m = ap (λ (r : List B). f x ∷ r) (map-append f
 replicate-append : {A : Type 0} (l m : List A) (n : ℕ) → replicate (length (l ++ m)) n ≡ replicate (length l) n ++ replicate (length m) n
 replicate-append [] m n = refl
 replicate-append (x ∷ l) m n = ap (λ (r : List ℕ). n ∷ r) (replicate-append l m n)
-
-pub length-forwardAll : (l : List Row) → length (forwardAll l) ≡ length l
-length-forwardAll [] = refl
-length-forwardAll (r ∷ l) = ap suc (length-forwardAll l)
 
 -- the deciding month of t followed by a month that decides is that month
 settles : (t : List Row) (r : Row) (w : With) (rest : List Row) → Wait t → r .decision ≡ Decides w → deciding (t ++ (r ∷ rest)) ≡ after (map xOf t) w (r .shown)
@@ -203,16 +200,6 @@ pub inv : (rows : List Row) → Inv rows (addAll rows)
 inv rows = inv-all [] fresh rows inv-fresh
 
 -- ═══ WHAT FOLLOWS ═══
-
-pub getD-forwardAll : (rows : List Row) (i : ℕ) → getD (forwardAll rows) i (record { mark = 0; index = pos 0 }) ≡ forward rows i
-getD-forwardAll [] i = refl
-getD-forwardAll (r ∷ rows) zero = refl
-getD-forwardAll (r ∷ rows) (suc i) = getD-forwardAll rows i
-
-pub getD-map : {A B : Type 0} (f : A → B) (l : List A) (i : ℕ) (d : A) → getD (map f l) i (f d) ≡ f (getD l i d)
-getD-map f [] i d = refl
-getD-map f (x ∷ l) zero d = refl
-getD-map f (x ∷ l) (suc i) d = getD-map f l i d
 
 ones : (t : List Row) → Wait t → map markOf (forwardAll t) ≡ replicate (length t) 1
 ones [] h = refl

@@ -9,8 +9,8 @@ use borrow.Author.Count.{below-more}
 use lib.IntN.{ℤ}
 use Rattle.spells.specs.declared.With.{With}
 use Rattle.spells.specs.declared.Decision.the-variants.{Nothing, Decides}
 use Rattle.hindsight.specs.Rule.{X, Row, Side, nonzero, oneOf, sideFrom, nobody, after, oneEarlier, deciding, Shown}
-use Rattle.hindsight.specs.Columns.{xsFrom, withOf, sideOf, toldNo, decisionOf, rowsFrom}
+use Rattle.hindsight.specs.Columns.{xsFrom, withOf, sideOf, sideNumber, decisionOf, rowsFrom}
 
 -- a mark and an index are those that are shown
 pub record Says (s : Shown) (mark : ℕ) (index : ℤ) : Type 0 where
@@ -24,31 +24,14 @@ xs-cons x k k' to e h = let l : to - k ≡ suc (to - k') = omega arith in rw (l,
 pub rows-cons : (f : ℕ → Row) (k k' to : ℕ) → k' ≡ suc k → k < to → rowsFrom f k (to - k) ≡ f k ∷ rowsFrom f k' (to - k')
 rows-cons f k k' to e h = let l : to - k ≡ suc (to - k') = omega arith in rw (l, e) refl
 
-pub xs-long : (x : ℕ → X) (i k : ℕ) → xsFrom x i (suc k) ≡ xsFrom x i k ++ (x (i + k) ∷ [])
-xs-long x i zero = rw (add i) refl
-  where
-    add : (i : ℕ) → i + 0 ≡ i
-    add i = omega arith
-xs-long x i (suc k) = rw (add i k) (ap (λ (l : List X). x i ∷ l) (xs-long x (suc i) k))
-  where
-    add : (i k : ℕ) → i + suc k ≡ suc i + k
-    add i k = omega arith
-
--- numbers of decisions and of sides
-pub decision-zero : (d : ℕ) → d ≡ 0 → decisionOf d ≡ Nothing
-decision-zero d e = ap decisionOf e
-
-pub decision-some : (d : ℕ) → (d ≡ 0 → ⊥) → decisionOf d ≡ Decides (withOf d)
-decision-some zero f = absurd (f refl)
-decision-some (suc d) f = refl
-
-untold : (a b : Bool) (s : Side) → toldNo a b 0 ≡ 0 → oneOf a b s ≡ s
+-- the numbers of sides
+untold : (a b : Bool) (s : Side) → sideNumber a b 0 ≡ 0 → oneOf a b s ≡ s
 untold true true s e = refl
 untold true false s e = absurd (omega arith)
 untold false true s e = absurd (omega arith)
 untold false false s e = refl
 
-told : (a b : Bool) (s : Side) → (toldNo a b 0 ≡ 0 → ⊥) → sideOf (toldNo a b 0) ≡ oneOf a b s
+told : (a b : Bool) (s : Side) → (sideNumber a b 0 ≡ 0 → ⊥) → sideOf (sideNumber a b 0) ≡ oneOf a b s
 told true true s f = absurd (f refl)
 told true false s f = refl
 told false true s f = refl
@@ -56,7 +39,7 @@ told false false s f = absurd (f refl)
 
 -- the number of the side that month k gives, 0 if none
 abbrev pub side : (ℕ → Row) → ℕ → ℕ
-side f k = toldNo (nonzero (f k .x .x1)) (nonzero (f k .x .x2)) 0
+side f k = sideNumber (nonzero (f k .x .x1)) (nonzero (f k .x .x2)) 0
 
 -- what the scans for the months before i have passed: from i on, no month before `ahead` decides, and none before `sided` gives a side
 pub record Passed (f : ℕ → Row) (n i ahead sided : ℕ) : Type 0 where

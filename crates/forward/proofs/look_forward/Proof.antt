@@ -1,4 +1,4 @@
--- `hindsight::look_forward` meets its contract. Invariants: `Scanning` of both scans, `Filling` and `Passed` of the loop over the months. Assumes nothing.
+-- `forward::look_forward` meets its contract. Invariants: `Scanning` of both scans, `Filling` and `Passed` of the loop over the months. Assumes nothing.
 use mathlib.Core.Path.{_≡_, refl, sym, _∙_}
 use mathlib.Core.Logic.{⊎-elim}
 use Prim.Native.Nat.{ℕ, _+_, _-_, _<_}
@@ -10,12 +10,13 @@ use mir.Val.{SFits, toZ}
 use mir.Facts.{toZ-ofZ}
 use lib.ListN.{length, getD}
 use denote.Ref.{now}
 use Rattle.hindsight.specs.Rule.{Row, forward}
 use Rattle.hindsight.specs.Columns.{rowAt, rowsFrom, sideOf, withOf, valueBy}
-use Rattle.hindsight.proofs.Scan.{side, Says, Passed, Scanning, decision-zero, passed-first, passed-next, scan-first, scan-next, side-next, side-found, side-out}
-use Rattle.hindsight.proofs.Series.{Filling, filling-first, filling-next, filling-all, says-open, says-own, says-settled}
-use Rattle.hindsight.proofs.look_forward.Statement.{statement}
-use Rattle.hindsight.proofs.look_forward.Tie as tie
+use Rattle.forward.proofs.Scan.{side, Says, Passed, Scanning, passed-first, passed-next, scan-first, scan-next, side-next, side-found, side-out}
+use Rattle.hindsight.proofs.Numbers.{decision-zero}
+use Rattle.forward.proofs.Series.{Filling, filling-first, filling-next, filling-all, says-open, says-own, says-settled}
+use Rattle.forward.proofs.look_forward.Statement.{statement}
+use Rattle.forward.proofs.look_forward.Tie as tie
 
 abbrev Inv-loop : tie.InvT-loop
 Inv-loop x1 x2 x3 by shown index mark ahead sided₀ i v₀ m d a b c sided v = Scanning (rowAt x1 x2 x3 by shown) (length by) i ahead sided

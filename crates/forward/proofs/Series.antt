@@ -7,11 +7,12 @@ use native.Mathlib.Omega.{arith}
 use lib.IntN.{ℤ, pos}
 use lib.ListN.{length, take, drop, set, getD, length-map, drop-of-length-le, length-set}
 use lib.Seq.{take-all}
 use Rattle.hindsight.specs.Rule.{Row, sideFrom, after, deciding, shownBy, forward, forwardAll, forwardIndexes, forwardMarks, indexOf, markOf}
 use Rattle.hindsight.specs.Columns.{xsFrom, withOf, sideOf, valueBy, decisionOf, rowsFrom}
-use Rattle.hindsight.proofs.Hindsight.{getD-forwardAll, getD-map, length-forwardAll}
-use Rattle.hindsight.proofs.Scan.{Says, Scanning, decision-some, xs-cons, scan-out, scan-found}
+use Rattle.hindsight.proofs.Forward.{getD-forwardAll, getD-map, length-forwardAll}
+use Rattle.forward.proofs.Scan.{Says, Scanning, xs-cons, scan-out, scan-found}
+use Rattle.hindsight.proofs.Numbers.{decision-some}
 use Rattle.hindsight.proofs.Back.{valued}
 
 -- the forward rule at place i reads the months from i on
 forward-from : (f : ℕ → Row) (j n i : ℕ) → i < n → forward (rowsFrom f j n) i ≡ shownBy (f (j + i) .shown) (deciding (rowsFrom f (j + i) (n - i)))
