@@ -2,7 +2,7 @@
 -- for its first turn, the next and the ways out. Assumes nothing.
 use mathlib.Core.Path.{_≡_, refl, ap, _∙_}
 use mathlib.Core.Bool.{Bool, true, false}
-use mathlib.Core.List.{List, [], _∷_, _++_}
+use mathlib.Core.List.{_∷_}
 use Prim.Native.Nat.{ℕ, zero, suc, _+_, _-_, _≤_, _<_}
 use native.Mathlib.Omega.{arith}
 use borrow.Author.Count.{below-more}
@@ -10,7 +10,7 @@ use lib.IntN.{ℤ}
 use Rattle.spells.specs.declared.With.{With}
 use Rattle.spells.specs.declared.Decision.the-variants.{Nothing, Decides}
 use Rattle.hindsight.specs.Rule.{X, Row, Side, nonzero, oneOf, sideFrom, nobody, after, oneEarlier, deciding, Shown}
-use Rattle.hindsight.specs.Columns.{xsFrom, withOf, sideOf, sideNumber, decisionOf, rowsFrom}
+use Rattle.hindsight.specs.Columns.{xsFrom, sideOf, sideNumber, rowsFrom}
 
 -- a mark and an index are those that are shown
 pub record Says (s : Shown) (mark : ℕ) (index : ℤ) : Type 0 where

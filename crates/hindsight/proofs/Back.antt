@@ -1,15 +1,12 @@
 -- Going back from the deciding month: the places from j up to `at` are settled, and what stands before j and from `at` on is as it was. Assumes nothing.
-use mathlib.Core.Path.{_≡_, refl, sym, ap, _∙_}
-use mathlib.Core.Bool.{Bool, true, false}
+use mathlib.Core.Path.{_≡_, refl, sym, ap}
 use mathlib.Core.List.{List, [], _∷_, _++_}
 use Prim.Native.Nat.{ℕ, zero, suc, _+_, _-_, _≤_, _<_}
 use native.Mathlib.Nat.{not-suc-le-zero, le-of-suc-le-suc}
 use native.Mathlib.Omega.{arith}
 use lib.IntN.{ℤ}
 use lib.ListN.{length, take, drop, set, replicate, take-append-drop, length-set}
-use Rattle.spells.specs.declared.With.{With}
-use Rattle.spells.specs.declared.With.the-variants.{X1, X2, X3}
-use Rattle.hindsight.specs.Rule.{X, Side, first, second, nonzero, oneOf, sideFrom, settledIndex}
+use Rattle.hindsight.specs.Rule.{X, nonzero, sideFrom, settledIndex}
 use Rattle.hindsight.specs.Adding.{settledAll}
 use Rattle.hindsight.specs.Columns.{xsFrom, withOf, sideOf, sideNumber, valueBy}
 use Rattle.hindsight.proofs.Numbers.{told-side}

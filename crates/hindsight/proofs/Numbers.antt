@@ -6,12 +6,11 @@ use lib.IntN.{ℤ, pos, negsuc}
 use mir.Syntax.{w32}
 use mir.Val.{SFits, ofZ, toZ}
 use mir.Facts.{toZ-ofZ}
-use Rattle.spells.specs.declared.With.{With}
 use Rattle.spells.specs.declared.With.the-variants.{X1, X2, X3}
-use Rattle.hindsight.specs.Rule.{X, Side, first, second, nonzero, oneOf}
+use Rattle.hindsight.specs.Rule.{second, nonzero, oneOf}
 use Rattle.spells.specs.declared.Decision.{Decision}
 use Rattle.spells.specs.declared.Decision.the-variants.{Nothing, Decides}
-use Rattle.hindsight.specs.Columns.{withOf, sideOf, sideNumber, valueBy, decisionOf}
+use Rattle.hindsight.specs.Columns.{withOf, sideOf, sideNumber, decisionOf}
 use Rattle.hindsight.specs.Months.{markFor}
 use Rattle.spells.specs.Decisions.{decisionNumber}
 

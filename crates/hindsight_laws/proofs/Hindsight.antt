@@ -1,22 +1,20 @@
 -- Adding months one by one shows what the forward rule says. The invariant: the months so far are `s ++ t`, nobody in t decides, s is closed
 -- (whatever comes after s, the forward rule says of s what it said, and nothing of s bears on what comes after), and the run is `runOf s t`. Assumes nothing.
-use mathlib.Core.Path.{_≡_, refl, sym, ap, _∙_, subst}
-use mathlib.Core.Logic.{_↔_, _⊎_, inl, inr, ⊎-elim}
+use mathlib.Core.Path.{_≡_, refl, sym, ap, _∙_}
+use mathlib.Core.Logic.{_↔_, _⊎_, inl, inr}
 use mathlib.Core.List.{List, [], _∷_, _++_, map, append-assoc, append-nil}
 use Prim.Native.Nat.{ℕ, zero, suc, _+_, _-_, _<_, _≤_}
-use native.Mathlib.Nat.{suc-add, zero-add, add-zero, add-suc, not-suc-le-zero, le-of-suc-le-suc}
+use native.Mathlib.Nat.{not-suc-le-zero, le-of-suc-le-suc}
 use native.Mathlib.Omega.{arith}
 use lib.IntN.{ℤ, pos}
-use lib.Dec.{eqb}
-use mathlib.Core.Bool.{Bool, true, false}
 use lib.ListN.{length, take, drop, replicate, getD, length-append, length-map, length-replicate}
 use lib.Seq.{take-at, drop-at}
 use Rattle.spells.specs.declared.With.{With}
 use Rattle.spells.specs.declared.Decision.{Decision}
 use Rattle.spells.specs.declared.Decision.the-variants.{Nothing, Decides}
-use Rattle.hindsight.specs.Rule.{X, Row, Deciding, nobody, after, oneEarlier, decidingFor, deciding, Shown, shownBy, settledIndex, forwardOf, forward, forwardAll, indexOf, markOf, forwardIndexes, forwardMarks}
+use Rattle.hindsight.specs.Rule.{X, Row, Deciding, nobody, after, oneEarlier, decidingFor, deciding, Shown, shownBy, settledIndex, forward, forwardAll, indexOf, markOf}
 use Rattle.hindsight.proofs.Forward.{length-forwardAll, getD-forwardAll, getD-map}
-use Rattle.hindsight_laws.specs.Counts.{NoneFrom, one-if, count}
+use Rattle.hindsight_laws.specs.Counts.{NoneFrom, count}
 use Rattle.hindsight.specs.Adding.{History, fresh, settledAll, kept, addAs, addMonth, settledCount, settledAs, addTo, addAll}
 
 abbrev pub xOf : Row → X

@@ -98,10 +98,12 @@ returns-2 c =
         refl,
         (
           refl,
-          (adds-settled (now (s .args .x1)) (now (s .args .x2)) (now (s .args .x3)) (now (s .args .index)) (now (s .args .mark)) (s .args .months) (s .args .opens) (s .args .a) (s .args .b) (s .args .c) (s .args .by) (s .args .shown) (s .pre .0) (omega arith) (omega arith) (c .before .before .before .before .before .before .before .before .before .if1 .left) (t .last .1 .1 .1 .0) (t .last .1 .1 .1 .1 .0)
-              (rw (toZ-ofZ (s .fits .a), toZ-ofZ (s .fits .b), toZ-ofZ (s .fits .c), toZ-ofZ (s .fits .shown)) at (t .ensures .0))
-              (t .ensures .1),
-          ap markFor (sym (decision-some (s .args .by) (c .before .before .before .before .before .before .before .before .before .if1 .left)))),
+          (
+            adds-settled (now (s .args .x1)) (now (s .args .x2)) (now (s .args .x3)) (now (s .args .index)) (now (s .args .mark)) (s .args .months) (s .args .opens) (s .args .a) (s .args .b) (s .args .c) (s .args .by) (s .args .shown) (s .pre .0) (omega arith) (omega arith) (c .before .before .before .before .before .before .before .before .before .if1 .left) (t .last .1 .1 .1 .0) (t .last .1 .1 .1 .1 .0)
+                (rw (toZ-ofZ (s .fits .a), toZ-ofZ (s .fits .b), toZ-ofZ (s .fits .c), toZ-ofZ (s .fits .shown)) at (t .ensures .0))
+                (t .ensures .1),
+            ap markFor (sym (decision-some (s .args .by) (c .before .before .before .before .before .before .before .before .before .if1 .left))),
+          ),
         ),
       ),
     )

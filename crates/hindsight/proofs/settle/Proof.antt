@@ -1,13 +1,13 @@
 -- `hindsight::settle` meets its contract. The loop's invariant is `Going`: from j up to `at` all is settled, and the side is the one that j's month gives. Assumes nothing.
-use mathlib.Core.Path.{_≡_, refl, sym, ap, _∙_}
-use Prim.Native.Nat.{ℕ, _-_, _≤_, _<_}
+use mathlib.Core.Path.{_≡_, refl}
+use Prim.Native.Nat.{_-_}
 use native.Mathlib.Omega.{arith}
 use borrow.Author.Needs.{needs}
-use lib.IntN.{ℤ, pos}
+use lib.IntN.{pos}
 use mir.Syntax.{w32}
 use mir.Val.{SFits}
 use mir.Facts.{toZ-ofZ}
-use lib.ListN.{length, length-set, set, getD}
+use lib.ListN.{getD}
 use denote.Ref.{now}
 use Rattle.hindsight.specs.Columns.{xAt, sideOf, withOf, sideNumber, valueBy}
 use Rattle.hindsight.specs.Rule.{nonzero}
