@@ -1,20 +1,16 @@
--- What `add` writes is `addMonth` of the run that the columns hold, so that what is proved of adding rows holds of the columns. Assumes nothing.
+-- What `add` writes is `addMonth` of the run that the columns hold, Assumes nothing.
 use mathlib.Core.Path.{_≡_, refl, sym, ap, _∙_}
 use mathlib.Core.List.{List, [], _∷_, _++_, append-assoc}
 use Prim.Native.Nat.{ℕ, zero, suc, _+_, _-_, _≤_, _<_}
 use native.Mathlib.Nat.{not-suc-le-zero, le-of-suc-le-suc}
 use native.Mathlib.Omega.{arith}
 use lib.IntN.{ℤ, pos}
-use lib.ListN.{length, take, drop, set, getD, replicate, length-append, length-drop}
-use lib.Seq.{take-at, set-split, take-set-le, take-take, getD-set-other, getD-set-same}
-use Rattle.spells.specs.declared.With.{With}
-use Rattle.spells.specs.declared.Decision.{Decision}
-use Rattle.spells.specs.declared.Decision.the-variants.{Nothing, Decides}
-use Rattle.hindsight.specs.Rule.{X, Row, forwardIndexes, forwardMarks}
-use Rattle.hindsight.specs.Adding.{History, fresh, addAll, settledAll, kept, addAs, addMonth, settledCount, settledAs}
-use Rattle.hindsight.specs.Columns.{xAt, xsFrom, withOf, decisionOf, runFrom, rowOf, Adds}
-use Rattle.hindsight.proofs.Scan.{decision-zero, decision-some, xs-long}
-use Rattle.hindsight.proofs.Hindsight.{inv, index-columns, mark-columns, add-append}
+use lib.ListN.{length, take, drop, set, replicate}
+use lib.Seq.{set-split, take-set-le, take-take, getD-set-other}
+use Rattle.hindsight.specs.Rule.{X}
+use Rattle.hindsight.specs.Adding.{settledAll, kept}
+use Rattle.hindsight.specs.Columns.{xAt, xsFrom, withOf, historyIn, rowOf, Adds}
+use Rattle.hindsight.proofs.Numbers.{decision-zero, decision-some}
 
 -- the months of places
 pub length-xs : (f : ℕ → X) (i n : ℕ) → length (xsFrom f i n) ≡ n
@@ -32,7 +28,7 @@ drop-xs f i (suc n) (suc k) h =
     let b : suc n - suc k ≡ n - k = omega arith in
     rw (a, b) (drop-xs f (suc i) n k (le-of-suc-le-suc h))
 
-xs-same : (f g : ℕ → X) (i n : ℕ) → ((j : ℕ) → j < i + n → f j ≡ g j) → xsFrom f i n ≡ xsFrom g i n
+pub xs-same : (f g : ℕ → X) (i n : ℕ) → ((j : ℕ) → j < i + n → f j ≡ g j) → xsFrom f i n ≡ xsFrom g i n
 xs-same f g i zero e = refl
 xs-same f g i (suc n) e = rw (e i (omega arith), xs-same f g (suc i) n (λ j h. e j (omega arith))) refl
 
@@ -46,20 +42,20 @@ store-end : {A : Type 0} (l : List A) (n : ℕ) (v : A) → n < length l → set
 store-end l n v h = set-split l n v h ∙ sym (append-assoc (take n l) (v ∷ []) (drop (suc n) l))
 
 -- the new month's place bears on no earlier one
-earlier-same : (x1 x2 x3 : List ℤ) (n : ℕ) (a b c : ℤ) (j : ℕ) → j < n → xAt (set x1 n a) (set x2 n b) (set x3 n c) j ≡ xAt x1 x2 x3 j
+pub earlier-same : (x1 x2 x3 : List ℤ) (n : ℕ) (a b c : ℤ) (j : ℕ) → j < n → xAt (set x1 n a) (set x2 n b) (set x3 n c) j ≡ xAt x1 x2 x3 j
 earlier-same x1 x2 x3 n a b c j h =
     let ne : j ≡ n → ⊥ = λ e. omega arith in
     rw (getD-set-other x1 n j a (pos 0) ne, getD-set-other x2 n j b (pos 0) ne, getD-set-other x3 n j c (pos 0) ne) refl
 
 module _ (x1 x2 x3 index : List ℤ) (mark : List ℕ) (n opens : ℕ) (a b c : ℤ) (by : ℕ) (shown : ℤ) (o : opens ≤ n) (hi : n < length index) (hm : n < length mark) where
   -- a month that does not decide
-  pub adds-open : by ≡ 0 → Adds (runFrom x1 x2 x3 index mark n opens) (rowOf a b c by shown) n index (set index n shown) mark (set mark n 1) (opens + 1) 0
+  pub adds-open : by ≡ 0 → Adds (historyIn x1 x2 x3 index mark n opens) (rowOf a b c by shown) n index (set index n shown) mark (set mark n 1) (opens + 1) 0
   adds-open z =
       rw (decision-zero by z)
       (record { index-is = store-end index n shown hi; mark-is = store-end mark n 1 hm; opens-is = omega arith; settled-is = refl })
 
   -- a month that decides: what `settle` leaves
-  kept-at : kept (runFrom x1 x2 x3 index mark n opens) ≡ n - opens
+  kept-at : kept (historyIn x1 x2 x3 index mark n opens) ≡ n - opens
   kept-at = ap (λ (k : ℕ). k - opens) (length-xs (xAt x1 x2 x3) 0 n)
 
   settled-months : xsFrom (xAt (set x1 n a) (set x2 n b) (set x3 n c)) (n - opens) (n - (n - opens)) ≡ drop (n - opens) (xsFrom (xAt x1 x2 x3) 0 n)
@@ -71,7 +67,7 @@ module _ (x1 x2 x3 index : List ℤ) (mark : List ℕ) (n opens : ℕ) (a b c : 
   pub adds-settled : (by ≡ 0 → ⊥) → (index' : List ℤ) (mark' : List ℕ)
       → index' ≡ take (n - opens) (set index n shown) ++ (settledAll (withOf by) (xsFrom (xAt (set x1 n a) (set x2 n b) (set x3 n c)) (n - opens) (n - (n - opens))) ++ drop n (set index n shown))
       → mark' ≡ take (n - opens) (set mark n 2) ++ (replicate (n - (n - opens)) 2 ++ drop n (set mark n 2))
-      → Adds (runFrom x1 x2 x3 index mark n opens) (rowOf a b c by shown) n index index' mark mark' 0 (opens + 1)
+      → Adds (historyIn x1 x2 x3 index mark n opens) (rowOf a b c by shown) n index index' mark mark' 0 (opens + 1)
   adds-settled z index' mark' p q =
       let e : n - (n - opens) ≡ opens = omega arith in
       rw (decision-some by z)
@@ -99,49 +95,3 @@ module _ (x1 x2 x3 index : List ℤ) (mark : List ℕ) (n opens : ℕ) (a b c : 
         opens-is = refl;
         settled-is = omega arith;
       })
-
--- So the run that the columns hold afterwards is `addMonth` of the one that they held: whatever is proved of `addAll` is proved of what `add` leaves, month after month
-past-of : (d : Decision) (run : History) (r : Row) → addAs d run r .past ≡ run .past ++ (r .x ∷ [])
-past-of Nothing run r = refl
-past-of (Decides w) run r = refl
-
--- the front of what is left, where the rest is what was there
-front : {A : Type 0} (l l₀ p : List A) (n : ℕ) → n < length l₀ → length l ≡ length l₀ → l ≡ p ++ drop (suc n) l₀ → take (suc n) l ≡ p
-front l l₀ p n h k e =
-    rw e
-    (take-at p (drop (suc n) l₀) (suc n) (omega (arith, k, ap length e, length-append p (drop (suc n) l₀), length-drop (suc n) l₀)))
-
-pub adds-run : (x1 x2 x3 index₀ : List ℤ) (mark₀ : List ℕ) (n opens : ℕ) (a b c : ℤ) (by : ℕ) (shown : ℤ) (index : List ℤ) (mark : List ℕ) (o settled : ℕ)
-    → n < length x1 → n < length x2 → n < length x3 → n < length index₀ → n < length mark₀ → length index ≡ length index₀ → length mark ≡ length mark₀
-    → Adds (runFrom x1 x2 x3 index₀ mark₀ n opens) (rowOf a b c by shown) n index₀ index mark₀ mark o settled
-    → runFrom (set x1 n a) (set x2 n b) (set x3 n c) index mark (suc n) o ≡ addMonth (runFrom x1 x2 x3 index₀ mark₀ n opens) (rowOf a b c by shown)
-adds-run x1 x2 x3 index₀ mark₀ n opens a b c by shown index mark o settled h1 h2 h3 hi hm ki km g =
-    λ i. record { past = p i; index = q i; mark = m i; opens = g .opens-is i }
-  where
-    run : History
-    run = runFrom x1 x2 x3 index₀ mark₀ n opens
-
-    new : xAt (set x1 n a) (set x2 n b) (set x3 n c) (0 + n) ≡ record { x1 = a; x2 = b; x3 = c }
-    new =
-        let e : 0 + n ≡ n = omega arith in
-        rw (e, getD-set-same x1 n a (pos 0) h1, getD-set-same x2 n b (pos 0) h2, getD-set-same x3 n c (pos 0) h3) refl
-
-    p : xsFrom (xAt (set x1 n a) (set x2 n b) (set x3 n c)) 0 (suc n) ≡ addMonth run (rowOf a b c by shown) .past
-    p =
-        xs-long (xAt (set x1 n a) (set x2 n b) (set x3 n c)) 0 n
-        ∙ rw (new, xs-same (xAt (set x1 n a) (set x2 n b) (set x3 n c)) (xAt x1 x2 x3) 0 n (λ j h. earlier-same x1 x2 x3 n a b c j (omega arith)))
-        (sym (past-of (decisionOf by) run (rowOf a b c by shown)))
-
-    q : take (suc n) index ≡ addMonth run (rowOf a b c by shown) .index
-    q = front index index₀ (addMonth run (rowOf a b c by shown) .index) n hi ki (g .index-is)
-
-    m : take (suc n) mark ≡ addMonth run (rowOf a b c by shown) .mark
-    m = front mark mark₀ (addMonth run (rowOf a b c by shown) .mark) n hm km (g .mark-is)
-
--- one add more, from a fresh run on
-pub adds-all : (rows : List Row) (r : Row) (run run' : History) → run ≡ addAll rows → run' ≡ addMonth run r → run' ≡ addAll (rows ++ (r ∷ []))
-adds-all rows r run run' e f = f ∙ ap (λ (u : History). addMonth u r) e ∙ sym (add-append fresh rows (r ∷ []))
-
--- and the whole series fills what adding singly to a fresh run would
-pub series-is-adding : (rows : List Row) → (forwardIndexes rows ≡ addAll rows .index) × (forwardMarks rows ≡ addAll rows .mark)
-series-is-adding rows = (sym (index-columns rows (addAll rows) (inv rows)), sym (mark-columns rows (addAll rows) (inv rows)))

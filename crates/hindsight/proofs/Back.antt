@@ -1,17 +1,14 @@
 -- Going back from the deciding month: the places from j up to `at` are settled, and what stands before j and from `at` on is as it was. Assumes nothing.
-use mathlib.Core.Path.{_≡_, refl, sym, ap, _∙_}
-use mathlib.Core.Bool.{Bool, true, false}
+use mathlib.Core.Path.{_≡_, refl, sym, ap}
 use mathlib.Core.List.{List, [], _∷_, _++_}
 use Prim.Native.Nat.{ℕ, zero, suc, _+_, _-_, _≤_, _<_}
 use native.Mathlib.Nat.{not-suc-le-zero, le-of-suc-le-suc}
 use native.Mathlib.Omega.{arith}
 use lib.IntN.{ℤ}
 use lib.ListN.{length, take, drop, set, replicate, take-append-drop, length-set}
-use Rattle.spells.specs.declared.With.{With}
-use Rattle.spells.specs.declared.With.the-variants.{X1, X2, X3}
-use Rattle.hindsight.specs.Rule.{X, Side, first, second, nonzero, oneOf, sideFrom, settledIndex}
+use Rattle.hindsight.specs.Rule.{X, nonzero, sideFrom, settledIndex}
 use Rattle.hindsight.specs.Adding.{settledAll}
-use Rattle.hindsight.specs.Columns.{xsFrom, withOf, sideOf, toldNo, valueBy}
+use Rattle.hindsight.specs.Columns.{xsFrom, withOf, sideOf, sideNumber, valueBy}
 use Rattle.hindsight.proofs.Numbers.{told-side}
 
 -- a store right before what is written already
@@ -46,7 +43,7 @@ module _ (f : ℕ → X) (by : ℕ) (at i j : ℕ) (e : j ≡ suc i) (h : j ≤ 
   months-more = rw (one-more, ← e) refl
 
   pub side-more : (side : ℕ) → sideOf side ≡ sideFrom (xsFrom f j (at - j)) (sideOf by)
-      → sideOf (toldNo (nonzero (f i .x1)) (nonzero (f i .x2)) side) ≡ sideFrom (xsFrom f i (at - i)) (sideOf by)
+      → sideOf (sideNumber (nonzero (f i .x1)) (nonzero (f i .x2)) side) ≡ sideFrom (xsFrom f i (at - i)) (sideOf by)
   side-more side p = rw (months-more, told-side, p)
 
   pub index-more : (l index : List ℤ) (side : ℕ) → at ≤ length l → index ≡ take j l ++ (settledAll (withOf by) (xsFrom f j (at - j)) ++ drop at l)
@@ -63,7 +60,7 @@ pub turn : (f : ℕ → X) (by at i j : ℕ) → j ≡ suc i
     → (from : ℕ) (index₀ : List ℤ) (mark₀ : List ℕ) (index : List ℤ) (mark : List ℕ) (side told : ℕ) (value : ℤ)
     → from < j → at ≤ length index₀ → at ≤ length mark₀
     → Going f by index₀ mark₀ from at index mark side j
-    → told ≡ toldNo (nonzero (f i .x1)) (nonzero (f i .x2)) side
+    → told ≡ sideNumber (nonzero (f i .x1)) (nonzero (f i .x2)) side
     → value ≡ valueBy (withOf by) (sideOf told) (f i)
     → Going f by index₀ mark₀ from at (set index i value) (set mark i 2) told i
 turn f by at i j e from index₀ mark₀ index mark side told value l hi hm g t v =

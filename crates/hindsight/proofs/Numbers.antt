@@ -6,12 +6,12 @@ use lib.IntN.{ℤ, pos, negsuc}
 use mir.Syntax.{w32}
 use mir.Val.{SFits, ofZ, toZ}
 use mir.Facts.{toZ-ofZ}
-use Rattle.spells.specs.declared.With.{With}
 use Rattle.spells.specs.declared.With.the-variants.{X1, X2, X3}
-use Rattle.hindsight.specs.Rule.{X, Side, first, second, nonzero, oneOf}
+use Rattle.hindsight.specs.Rule.{second, nonzero, oneOf}
 use Rattle.spells.specs.declared.Decision.{Decision}
 use Rattle.spells.specs.declared.Decision.the-variants.{Nothing, Decides}
-use Rattle.hindsight.specs.Columns.{withOf, sideOf, toldNo, valueBy, decisionOf}
+use Rattle.hindsight.specs.Columns.{withOf, sideOf, sideNumber, decisionOf}
+use Rattle.hindsight.specs.Months.{markFor}
 use Rattle.spells.specs.Decisions.{decisionNumber}
 
 -- a test `a == 0` of an i32 is a fact of its bits
@@ -35,11 +35,18 @@ side-else zero f = refl
 side-else (suc zero) f = absurd (f refl)
 side-else (suc (suc n)) f = refl
 
-pub told-side : (a b : Bool) (n : ℕ) → sideOf (toldNo a b n) ≡ oneOf a b (sideOf n)
+pub told-side : (a b : Bool) (n : ℕ) → sideOf (sideNumber a b n) ≡ oneOf a b (sideOf n)
 told-side true true n = refl
 told-side true false n = refl
 told-side false true n = refl
 told-side false false n = refl
+
+pub decision-zero : (d : ℕ) → d ≡ 0 → decisionOf d ≡ Nothing
+decision-zero d e = ap decisionOf e
+
+pub decision-some : (d : ℕ) → (d ≡ 0 → ⊥) → decisionOf d ≡ Decides (withOf d)
+decision-some zero f = absurd (f refl)
+decision-some (suc d) f = refl
 
 -- a decision's number is the decision's
 pub number-is : (d : Decision) → decisionOf (decisionNumber d) ≡ d
@@ -47,3 +54,7 @@ number-is Nothing = refl
 number-is (Decides X1) = refl
 number-is (Decides X2) = refl
 number-is (Decides X3) = refl
+
+-- so the mark that an add answers, given the decision's number, is the decision's
+pub mark-of : (d : Decision) → markFor (decisionOf (decisionNumber d)) ≡ markFor d
+mark-of d = ap markFor (number-is d)

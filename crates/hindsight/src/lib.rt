@@ -1,38 +1,16 @@
-// Hindsight: what an add writes in the columns, and the whole series by nested scans.
+// Hindsight: what an add writes in the columns.
 //
-// `add` and `look_forward` are for the crate above, which holds the lengths that they require. A decision comes
-// as a number: 0 nothing, 1 by X1, 2 by X2, 3 by X3. A side is 1 for X1's and 2 for X2's.
+// `add` is for the crates above, which hold the lengths that it requires. A decision comes as its number: 0
+// nothing, 1 with X1, 2 with X2, 3 with X3. A side is 1 for X1's and 2 for X2's.
 use spells::Decision;
-use spells::With;
 ghost use mathlib.Core.Path.{_≡_};
 ghost use mathlib.Core.List.{_++_};
-ghost use Prim.Native.Nat.{ℕ, _+_, _-_, _≤_, _<_};
+ghost use Prim.Native.Nat.{_-_, _≤_, _<_};
 ghost use lib.ListN.{length, take, drop, set, replicate};
-ghost use Rattle.hindsight.specs.Rule.{nonzero, forwardIndexes, forwardMarks};
+ghost use Rattle.hindsight.specs.Rule.{nonzero};
 ghost use Rattle.hindsight.specs.Adding.{settledAll};
-ghost use Rattle.spells.specs.Decisions.{withNumber, decisionNumber};
 ghost use Rattle.hindsight.specs.Months.{markFor};
-ghost use Rattle.hindsight.specs.Columns.{xAt, xsFrom, withOf, sideOf, toldNo, valueBy, rowAt, rowsFrom, runFrom, rowOf, Adds};
-
-fn with_number(w: With) -> u8
-    ensures { λ r. ⌜ r ≡ withNumber w ⌝ }
-{
-    match w {
-        With::X1 => 1,
-        With::X2 => 2,
-        With::X3 => 3,
-    }
-}
-
-// A decision's number.
-pub fn decision_number(d: Decision) -> u8
-    ensures { λ r. ⌜ r ≡ decisionNumber d ⌝ }
-{
-    match d {
-        Decision::Nothing => 0,
-        Decision::Decides(w) => with_number(w),
-    }
-}
+ghost use Rattle.hindsight.specs.Columns.{xAt, xsFrom, withOf, sideOf, sideNumber, valueBy, decisionOf, historyIn, rowOf, Adds};
 
 // The mark of the month that decides so: 1 open, 2 settled.
 pub fn mark_for(d: Decision) -> u8
@@ -45,8 +23,8 @@ pub fn mark_for(d: Decision) -> u8
 }
 
 // The side that a month gives, if exactly one of its X1 and X2 is not 0, else the side that is passed.
-fn told(a: i32, b: i32, side: u8) -> u8
-    ensures { λ r. ⌜ r ≡ toldNo (nonzero a) (nonzero b) side ⌝ }
+pub fn told(a: i32, b: i32, side: u8) -> u8
+    ensures { λ r. ⌜ r ≡ sideNumber (nonzero a) (nonzero b) side ⌝ }
 {
     if a == 0 {
         if b == 0 { side } else { 2 }
@@ -56,7 +34,7 @@ fn told(a: i32, b: i32, side: u8) -> u8
 }
 
 // A month's X3, or its value on the side.
-fn value(a: i32, b: i32, c: i32, by: u8, side: u8) -> i32
+pub fn value(a: i32, b: i32, c: i32, by: u8, side: u8) -> i32
     ensures { λ r. ⌜ r ≡ valueBy (withOf by) (sideOf side) (record { x1 = a; x2 = b; x3 = c }) ⌝ }
 {
     if by == 1 {
@@ -102,10 +80,11 @@ fn settle(
     }
 }
 
-// What an add answers: how many months are open now, and how many it settled.
+// What an add answers: how many months are open now, how many it settled, and the mark of the month that it added.
 pub struct Added {
     pub opens: usize,
     pub settled: usize,
+    pub mark: u8,
 }
 
 // Adds a month: it writes the month's place in the five columns, and index and mark of the open months if it decides.
@@ -127,7 +106,8 @@ pub fn add(
     ensures { λ _. ⌜ now (x1 .exit) ≡ set (now (x1 .entry)) months a ⌝ }
     ensures { λ _. ⌜ now (x2 .exit) ≡ set (now (x2 .entry)) months b ⌝ }
     ensures { λ _. ⌜ now (x3 .exit) ≡ set (now (x3 .entry)) months c ⌝ }
-    ensures { λ r. ⌜ Adds (runFrom (now (x1 .entry)) (now (x2 .entry)) (now (x3 .entry)) (now (index .entry)) (now (mark .entry)) months opens) (rowOf a b c by shown) months (now (index .entry)) (now (index .exit)) (now (mark .entry)) (now (mark .exit)) (r .opens) (r .settled) ⌝ }
+    ensures { λ r. ⌜ Adds (historyIn (now (x1 .entry)) (now (x2 .entry)) (now (x3 .entry)) (now (index .entry)) (now (mark .entry)) months opens) (rowOf a b c by shown) months (now (index .entry)) (now (index .exit)) (now (mark .entry)) (now (mark .exit)) (r .opens) (r .settled) ⌝ }
+    ensures { λ r. ⌜ r .mark ≡ markFor (decisionOf by) ⌝ }
 {
     x1[months] = a;
     x2[months] = b;
@@ -138,6 +118,7 @@ pub fn add(
         return Added {
             opens: opens + 1,
             settled: 0,
+            mark: 1,
         };
     }
     mark[months] = 2;
@@ -145,68 +126,6 @@ pub fn add(
     Added {
         opens: 0,
         settled: opens + 1,
-    }
-}
-
-// The later of two places: b - a is 0 where b is not after a.
-fn later(a: usize, b: usize) -> usize
-    ensures { λ r. ⌜ r ≡ a + (b - a) ⌝ }
-{
-    if a < b { b } else { a }
-}
-
-// The whole series: index and mark of every month. For each month a scan goes forward for its deciding month,
-// and from there another, from the month itself, for the side; both are left by the label. Neither goes back: of the
-// months from the next one up to where a scan stands none decides, or none gives a side, so for the next month it
-// goes on from there, or from that month if it is later. All the scans together are linear in the months.
-pub fn look_forward(
-    x1: &[i32],
-    x2: &[i32],
-    x3: &[i32],
-    by: &[u8],
-    shown: &[i32],
-    index: &mut [i32],
-    mark: &mut [u8],
-)
-    requires { ⌜ (length (now x1) ≡ length (now by)) × (length (now x2) ≡ length (now by)) × (length (now x3) ≡ length (now by)) × (length (now shown) ≡ length (now by)) × (length (now index) ≡ length (now by)) × (length (now mark) ≡ length (now by)) ⌝ }
-    ensures indexes { λ _. ⌜ now (index .exit) ≡ forwardIndexes (rowsFrom (rowAt (now (x1 .entry)) (now (x2 .entry)) (now (x3 .entry)) (now (by .entry)) (now (shown .entry))) 0 (length (now (by .entry)))) ⌝ }
-    ensures marks { λ _. ⌜ now (mark .exit) ≡ forwardMarks (rowsFrom (rowAt (now (x1 .entry)) (now (x2 .entry)) (now (x3 .entry)) (now (by .entry)) (now (shown .entry))) 0 (length (now (by .entry)))) ⌝ }
-{
-    let mut ahead = 0;
-    let mut sided = 0;
-    let mut i = 0;
-    'months: while i < by.len() {
-        let mut v = shown[i];
-        let mut m: u8 = 1;
-        ahead = later(ahead, i);
-        sided = later(sided, i);
-        'deciding: while ahead < by.len() {
-            let d = by[ahead];
-            if d != 0 {
-                m = 2;
-                if ahead == i {
-                    break 'deciding;
-                }
-                let a = x1[i];
-                let b = x2[i];
-                let c = x3[i];
-                while sided < ahead {
-                    let e = x1[sided];
-                    let f = x2[sided];
-                    let s = told(e, f, 0);
-                    if s != 0 {
-                        v = value(a, b, c, d, s);
-                        break 'deciding;
-                    }
-                    sided += 1;
-                }
-                v = value(a, b, c, d, d);
-                break 'deciding;
-            }
-            ahead += 1;
-        }
-        index[i] = v;
-        mark[i] = m;
-        i += 1;
+        mark: 2,
     }
 }

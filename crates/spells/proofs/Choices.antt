@@ -2,19 +2,19 @@
 -- theorems ask it. Assumes nothing.
 use mathlib.Core.Path.{_≡_, refl, sym, ap, _∙_}
 use mathlib.Core.Bool.{Bool, true, false, cond}
-use Prim.Native.Nat.{ℕ, zero, suc, _*_, _≤_, _<_, min, max}
+use Prim.Native.Nat.{ℕ, zero, suc, _≤_, _<_}
 use native.Mathlib.Omega.{arith}
 use borrow.Author.Tests.{le-leb, lt-leb}
-use lib.Dec.{leb, ltb, ltb→lt, leb→le}
-use lib.IntN.{ℤ, pos, negsuc, negℤ, natAbs, _-ℤ_, _*ℤ_}
+use lib.Dec.{leb}
+use lib.IntN.{ℤ, pos, negsuc, natAbs, _-ℤ_, _*ℤ_}
 use lib.Signed.{_≤ℤ_, _<ℤ_, leZ, ltZ}
-use Rattle.exact.specs.Nearest.{clip}
 use Rattle.exact.specs.Next.{nextOf}
 use Rattle.outline.specs.Numbers.{mostX, mostZ}
 use Rattle.exact.proofs.Z.{zs, zs-abs, is-Z, le-yes}
 use Rattle.exact.proofs.NextLaws.{next-within}
 use Rattle.spells.specs.Values.{SidesFit}
-use Rattle.spells.specs.Spells.{steady, ended, abating, turn, uOf, vOf, eOf, qOf, endingOf, percentOf, raised, lowered, isZero, largerInSize, provisional, abatingMonth, founded, unfounded, tried, noSpell, endingMonth, inForce, stepOf}
+use Rattle.spells.specs.Spells.{raised, lowered, isZero, largerInSize, provisional, founded, unfounded, tried, noSpell, endingMonth, inForce, stepOf}
+use Rattle.ending.specs.Ending.{Ending, steady, ended, abating, turn, uOf, vOf, eOf, endingOf}
 use Rattle.spells.specs.declared.Running.{Running}
 use Rattle.spells.specs.declared.With.the-variants.{X1, X2}
 use Rattle.spells.specs.declared.Decision.the-variants.{Nothing, Decides}
@@ -46,18 +46,6 @@ values x1 x2 x3 v = record { x1 = x1; x2 = x2; x3 = x3; v = v }
 
 pub same-values : {x1 y1 x2 y2 x3 y3 v w : ℤ} → x1 ≡ y1 → x2 ≡ y2 → x3 ≡ y3 → v ≡ w → values x1 x2 x3 v ≡ values y1 y2 y3 w
 same-values p q r t = cc
-
--- ---- turned signs
-pub turn-size : (wet : Bool) (n : ℤ) (k : ℕ) → natAbs n ≤ k → natAbs (turn wet n) ≤ k
-unfolding turn
-turn-size false n k h = h
-turn-size true n k h = go n h
-  where
-    go : (n : ℤ) → natAbs n ≤ k → natAbs (negℤ n) ≤ k
-    go n = rw (is-Z n) (simp zs (omega arith))
-
-pub turned-size : (wet : Bool) (n r : ℤ) (k : ℕ) → r ≡ turn wet n → natAbs n ≤ k → natAbs r ≤ k
-turned-size wet n r k e h = rw e (turn-size wet n k h)
 
 -- ---- the larger of 0 and a number, and the smaller
 pub raised-kept : (n m : ℤ) → n ≡ m → pos 0 ≤ℤ n → n ≡ raised m
@@ -126,28 +114,6 @@ pub provisional-x3 : (s : Running) → (s .x3 ≡ pos 0 → ⊥) → provisional
 unfolding provisional
 provisional-x3 s h = rw (zero-not (s .x3) h)
 
--- ---- the percent, held within 1 to 99
-pub percent-low : (p : ℤ) → p <ℤ pos 1 → 1 ≡ min 99 (max 1 (clip p))
-percent-low (pos n) h = go (ltb→lt n 1 (h .lt))
-  where
-    go : n < 1 → 1 ≡ min 99 (max 1 n)
-    go g = omega arith
-percent-low (negsuc n) h = refl
-
-pub percent-high : (p : ℤ) → pos 99 <ℤ p → 99 ≡ min 99 (max 1 (clip p))
-percent-high (pos n) h = go (ltb→lt 99 n (h .lt))
-  where
-    go : 99 < n → 99 ≡ min 99 (max 1 n)
-    go g = omega arith
-percent-high (negsuc n) h = absurd (h .lt)
-
-pub percent-between : (p : ℤ) → pos 1 ≤ℤ p → p ≤ℤ pos 99 → natAbs p ≡ min 99 (max 1 (clip p))
-percent-between (pos n) h g = go (leb→le 1 n (h .le)) (leb→le n 99 (g .le))
-  where
-    go : 1 ≤ n → n ≤ 99 → n ≡ min 99 (max 1 n)
-    go h g = omega arith
-percent-between (negsuc n) h g = absurd (h .le)
-
 -- ---- no spell: which of X1 and X2 founds, and which decides
 module _ (x1 x2 : ℤ) (percent : ℕ) where
   pub tried-first : pos 1000 ≤ℤ x1 → tried x1 x2 percent ≡ founded x1 (Decides X1) percent
@@ -184,10 +150,10 @@ module _ (x3 v z : ℤ) where
   unfolding endingOf
   ending-abating h g = rw (h, g)
 
--- the abating month: a is X3, b the previous V, d is Z, turned, and w the new V
-pub abating-is : (wet : Bool) (s : Running) (z : ℤ) {a b d w : ℤ} {percent : ℕ} → a ≡ turn wet (s .x3) → b ≡ turn wet (s .v) → d ≡ turn wet z → w ≡ turn wet (vOf b d) → percent ≡ percentOf (vOf b d) (qOf a b) → abatingMonth s w z percent ≡ endingMonth abating wet s z
-unfolding endingMonth
-abating-is wet s z ea eb ed ew ep = cc
+-- the month of the case that the rules come to
+pub ending-month : (wet : Bool) (s : Running) (z : ℤ) (e : Ending) → endingOf (turn wet (s .x3)) (turn wet (s .v)) (turn wet z) ≡ e → inForce wet s z ≡ endingMonth e wet s z
+unfolding inForce
+ending-month wet s z e h = ap (λ (k : Ending). endingMonth k wet s z) h
 
 -- ---- which spell is in force
 pub step-drought : (s : Running) (z : ℤ) → s .x3 <ℤ negsuc 499 → stepOf s z ≡ inForce false s z

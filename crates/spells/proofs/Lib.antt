@@ -1,7 +1,2 @@
--- The theorems about a month of spells and its mirror, and what the proofs share.
+-- What the definitions of one month choose, case by case.
 pub mod Choices
-pub mod Cases
-pub mod Abates
-pub mod Parts
-pub mod Theorems
-pub mod Mirror

@@ -1,55 +1,18 @@
--- Document 01, "One month of spells", in its order: what is in force; a drought's month, steady, ended or abating; no spell. A wet spell is
--- the drought's mirror: `turn` changes the signs of what its rules look at, and nothing is said twice. Assumes nothing.
-use Prim.Native.Nat.{ℕ, min, max}
+-- Document 01, "One month of spells": the index that a month shows; a month that is steady, abating or without a spell; and the month that
+-- what is in force makes. What becomes of a spell in force is the crate `ending`'s. Assumes nothing.
+use Prim.Native.Nat.{ℕ}
 use mathlib.Core.Bool.{Bool, true, false, cond}
-use lib.IntN.{ℤ, pos, negℤ, natAbs, _+ℤ_, _-ℤ_, _*ℤ_}
+use lib.IntN.{ℤ, pos, negℤ, natAbs}
 use lib.Signed.{leZ, ltZ}
 use lib.Dec.{leb}
-use Rattle.exact.specs.Nearest.{nearest, clip}
 use Rattle.exact.specs.Next.{nextOf}
-use Rattle.outline.specs.Numbers.{weight, weightOfZ, inForceBeyond, foundsFrom, uOffset, eOffset}
+use Rattle.outline.specs.Numbers.{inForceBeyond, foundsFrom}
+use Rattle.ending.specs.Ending.{turn, vOf, qOf, Ending, steady, ended, abating, endingOf, percentOf}
 use Rattle.spells.specs.declared.Running.{Running}
 use Rattle.spells.specs.declared.With.the-variants.{X1, X2, X3}
 use Rattle.spells.specs.declared.Decision.{Decision}
 use Rattle.spells.specs.declared.Decision.the-variants.{Nothing, Decides}
 use Rattle.spells.specs.declared.SpellMonth.{SpellMonth}
-
--- ---- a spell in force, in the drought's sense
-
--- "Wet spell: the mirror." Its numbers with the sign turned, a drought's as they are
-unfoldable pub turn : Bool → ℤ → ℤ
-turn false n = n
-turn true n = negℤ n
-
--- "Drought: U = Z + 150,
-unfoldable pub uOf : ℤ → ℤ
-uOf z = z +ℤ pos uOffset
-
--- V = U + previous V,
-unfoldable pub vOf : ℤ → ℤ → ℤ
-vOf v z = uOf z +ℤ v
-
--- E = -2691 X3 - 1,500,000,
-unfoldable pub eOf : ℤ → ℤ
-eOf x3 = negℤ (pos weight *ℤ x3) -ℤ pos eOffset
-
--- Q = E + 1000 x previous V."
-unfoldable pub qOf : ℤ → ℤ → ℤ
-qOf x3 v = eOf x3 +ℤ pos weightOfZ *ℤ v
-
--- what becomes of a spell in force
-pub data Ending : Type 0 where
-  steady : Ending
-  ended : Ending
-  abating : Ending
-
--- "V at most 0: steady." "V above 0 and 1000 U at least E: ended." "Otherwise abating"
-unfoldable pub endingOf : ℤ → ℤ → ℤ → Ending
-endingOf x3 v z = cond (leZ (vOf v z) (pos 0)) steady (cond (leZ (eOf x3) (pos weightOfZ *ℤ uOf z)) ended abating)
-
--- "Percent is nearest to 100,000 V / Q, held within 1 to 99."
-unfoldable pub percentOf : ℤ → ℤ → ℕ
-percentOf v q = min 99 (max 1 (clip (nearest (pos 100000 *ℤ v) (clip q))))
 
 -- ---- the index that a month shows
 

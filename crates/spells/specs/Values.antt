@@ -3,11 +3,8 @@ use Prim.Native.Nat.{ℕ, _≤_}
 use lib.IntN.{ℤ, pos, natAbs}
 use lib.Signed.{_≤ℤ_, _<ℤ_}
 use Rattle.outline.specs.Numbers.{mostX}
+use Rattle.ending.specs.Ending.{mostV}
 use Rattle.spells.specs.declared.Running.{Running}
-
--- V's room in the arithmetic: a million months of it, far more than a run holds
-abbrev pub mostV : ℕ
-mostV = 4000150000000
 
 -- X1 and X2 alone: neither "beyond 13,000,000 in size", nor "X1 negative or X2 positive"
 pub record SidesFit (x1 x2 : ℤ) : Type 0 where

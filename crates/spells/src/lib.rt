@@ -1,20 +1,17 @@
 // One month of spells: X1, X2, X3, V, the chance of an ending, and what the month decides with.
 //
-// `step` is for the crates above, which hold the running values and Z in range before they call. A wet spell
-// is a drought with the signs turned, so a drought's rules are all that stands here.
-use outline::E_OFFSET;
+// `step` is for the crates above, which hold the running values and Z in range before they call. Whether a spell
+// in force has ended is the crate `ending`'s.
 use outline::FOUNDS;
 use outline::IN_FORCE;
-use outline::U_OFFSET;
-use outline::WEIGHT_OF_X;
-use outline::WEIGHT_OF_Z;
 ghost use mathlib.Core.Path.{_≡_};
-ghost use Prim.Native.Nat.{_*_, _≤_};
+ghost use Prim.Native.Nat.{_≤_};
 ghost use lib.IntN.{natAbs};
 ghost use Rattle.exact.specs.Next.{nextOf};
 ghost use Rattle.outline.specs.Numbers.{mostX, mostZ};
-ghost use Rattle.spells.specs.Values.{mostV, SidesFit, ValuesFit};
-ghost use Rattle.spells.specs.Spells.{turn, percentOf, raised, lowered, largerInSize, provisional, steadyMonth, abatingMonth, founded, unfounded, tried, noSpell, inForce, stepOf};
+ghost use Rattle.spells.specs.Values.{SidesFit, ValuesFit};
+ghost use Rattle.spells.specs.Decisions.{withNumber, decisionNumber};
+ghost use Rattle.spells.specs.Spells.{raised, lowered, largerInSize, provisional, steadyMonth, abatingMonth, founded, unfounded, tried, noSpell, inForce, stepOf};
 
 // The running values, as the month before left them.
 #[repr(C)]
@@ -46,27 +43,24 @@ pub struct SpellMonth {
     pub index: i32,
 }
 
-// A wet spell's number with its sign turned, a drought's as it is.
-fn turned(wet: bool, n: i64) -> i64
-    requires { ⌜ natAbs n ≤ 2 * mostV ⌝ }
-    ensures { λ r. ⌜ r ≡ turn wet n ⌝ }
+fn with_number(w: With) -> u8
+    ensures { λ r. ⌜ r ≡ withNumber w ⌝ }
 {
-    if wet { 0 - n } else { n }
+    match w {
+        With::X1 => 1,
+        With::X2 => 2,
+        With::X3 => 3,
+    }
 }
 
-// 100,000 V / Q to the nearest, held within 1 to 99.
-fn percent_of(v: i64, q: i64) -> u32
-    requires { ⌜ natAbs v ≤ 2 * mostV ⌝ }
-    ensures { λ r. ⌜ r ≡ percentOf v q ⌝ }
+// A decision's number, as hindsight's columns have it.
+pub fn decision_number(d: Decision) -> u8
+    ensures { λ r. ⌜ r ≡ decisionNumber d ⌝ }
 {
-    let p = exact::nearest_signed(100_000 * v, q);
-    if p < 1 {
-        return 1;
+    match d {
+        Decision::Nothing => 0,
+        Decision::Decides(w) => with_number(w),
     }
-    if p > 99 {
-        return 99;
-    }
-    p as u32
 }
 
 // The larger of 0 and next(x).
@@ -213,27 +207,21 @@ fn no_spell(s: Running, z: i32, percent: u32) -> SpellMonth
     try_both(x1, x2, percent)
 }
 
-// A month with a spell in force. V and E decide, never the rounded percent.
+// A month with a spell in force: a drought, or where `wet` a wet spell.
 fn in_force(wet: bool, s: Running, z: i32) -> SpellMonth
     requires { ⌜ ValuesFit s ⌝ }
     requires { ⌜ natAbs z ≤ mostZ ⌝ }
     ensures { λ r. ⌜ r ≡ inForce wet s z ⌝ }
 {
-    let x3 = turned(wet, s.x3 as i64);
-    let was = turned(wet, s.v);
-    let u = turned(wet, z as i64) + U_OFFSET;
-    let v = u + was;
-    let e = 0 - WEIGHT_OF_X * x3 - E_OFFSET;
-    if v <= 0 {
+    if ending::is_steady(wet, s.v, z) {
         return steady(s.x3, z);
     }
-    if WEIGHT_OF_Z * u >= e {
+    if ending::has_ended(wet, s.x3, z) {
         return no_spell(s, z, 100);
     }
-    let q = e + WEIGHT_OF_Z * was;
-    let percent = percent_of(v, q);
-    let kept = turned(wet, v);
-    abating(s, kept, z, percent)
+    let v = ending::kept_v(wet, s.v, z);
+    let percent = ending::chance(wet, s.x3, s.v, z);
+    abating(s, v, z, percent)
 }
 
 // One month of spells. For the crates above, which hold the running values and Z in range.

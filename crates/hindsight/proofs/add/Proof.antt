@@ -1,10 +1,12 @@
 -- `hindsight::add` meets its contract: what it stores, and what `settle` leaves, is `addMonth` of the run that the columns hold. Assumes nothing.
-use mathlib.Core.Path.{_≡_, refl, sym, ap, _∙_}
+use mathlib.Core.Path.{refl, sym, ap, _∙_}
 use native.Mathlib.Omega.{arith}
 use borrow.Author.Needs.{needs}
 use mir.Facts.{toZ-ofZ}
-use lib.ListN.{length, length-set}
+use lib.ListN.{length-set}
 use denote.Ref.{now}
+use Rattle.hindsight.specs.Months.{markFor}
+use Rattle.hindsight.proofs.Numbers.{decision-zero, decision-some}
 use Rattle.hindsight.proofs.Adding.{adds-open, adds-settled}
 use Rattle.hindsight.proofs.add.Statement.{statement}
 use Rattle.hindsight.proofs.add.Tie as tie
@@ -57,7 +59,7 @@ same-length-5 c = search needs
 returns : tie.Need-returns
 returns c =
     let s = c .before .before in
-    rw (toZ-ofZ (s .fits .a), toZ-ofZ (s .fits .b), toZ-ofZ (s .fits .c), toZ-ofZ (s .fits .shown)) (refl, (refl, (refl, adds-open (now (s .args .x1)) (now (s .args .x2)) (now (s .args .x3)) (now (s .args .index)) (now (s .args .mark)) (s .args .months) (s .args .opens) (s .args .a) (s .args .b) (s .args .c) (s .args .by) (s .args .shown) (s .pre .0) (omega arith) (omega arith) (c .if1 .taken))))
+    rw (toZ-ofZ (s .fits .a), toZ-ofZ (s .fits .b), toZ-ofZ (s .fits .c), toZ-ofZ (s .fits .shown)) (refl, (refl, (refl, (adds-open (now (s .args .x1)) (now (s .args .x2)) (now (s .args .x3)) (now (s .args .index)) (now (s .args .mark)) (s .args .months) (s .args .opens) (s .args .a) (s .args .b) (s .args .c) (s .args .by) (s .args .shown) (s .pre .0) (omega arith) (omega arith) (c .if1 .taken), ap markFor (sym (decision-zero (s .args .by) (c .if1 .taken)))))))
 
 slice-write-mark-2 : tie.Need-slice-write-mark-2
 slice-write-mark-2 c = search needs
@@ -96,9 +98,12 @@ returns-2 c =
         refl,
         (
           refl,
-          adds-settled (now (s .args .x1)) (now (s .args .x2)) (now (s .args .x3)) (now (s .args .index)) (now (s .args .mark)) (s .args .months) (s .args .opens) (s .args .a) (s .args .b) (s .args .c) (s .args .by) (s .args .shown) (s .pre .0) (omega arith) (omega arith) (c .before .before .before .before .before .before .before .before .before .if1 .left) (t .last .1 .1 .1 .0) (t .last .1 .1 .1 .1 .0)
-              (rw (toZ-ofZ (s .fits .a), toZ-ofZ (s .fits .b), toZ-ofZ (s .fits .c), toZ-ofZ (s .fits .shown)) at (t .ensures .0))
-              (t .ensures .1),
+          (
+            adds-settled (now (s .args .x1)) (now (s .args .x2)) (now (s .args .x3)) (now (s .args .index)) (now (s .args .mark)) (s .args .months) (s .args .opens) (s .args .a) (s .args .b) (s .args .c) (s .args .by) (s .args .shown) (s .pre .0) (omega arith) (omega arith) (c .before .before .before .before .before .before .before .before .before .if1 .left) (t .last .1 .1 .1 .0) (t .last .1 .1 .1 .1 .0)
+                (rw (toZ-ofZ (s .fits .a), toZ-ofZ (s .fits .b), toZ-ofZ (s .fits .c), toZ-ofZ (s .fits .shown)) at (t .ensures .0))
+                (t .ensures .1),
+            ap markFor (sym (decision-some (s .args .by) (c .before .before .before .before .before .before .before .before .before .if1 .left))),
+          ),
         ),
       ),
     )

@@ -1,15 +1,15 @@
 -- `hindsight::settle` meets its contract. The loop's invariant is `Going`: from j up to `at` all is settled, and the side is the one that j's month gives. Assumes nothing.
-use mathlib.Core.Path.{_≡_, refl, sym, ap, _∙_}
-use Prim.Native.Nat.{ℕ, _-_, _≤_, _<_}
+use mathlib.Core.Path.{_≡_, refl}
+use Prim.Native.Nat.{_-_}
 use native.Mathlib.Omega.{arith}
 use borrow.Author.Needs.{needs}
-use lib.IntN.{ℤ, pos}
+use lib.IntN.{pos}
 use mir.Syntax.{w32}
 use mir.Val.{SFits}
 use mir.Facts.{toZ-ofZ}
-use lib.ListN.{length, length-set, set, getD}
+use lib.ListN.{getD}
 use denote.Ref.{now}
-use Rattle.hindsight.specs.Columns.{xAt, sideOf, withOf, toldNo, valueBy}
+use Rattle.hindsight.specs.Columns.{xAt, sideOf, withOf, sideNumber, valueBy}
 use Rattle.hindsight.specs.Rule.{nonzero}
 use Rattle.hindsight.proofs.Back.{Going, at-first, turn}
 use Rattle.hindsight.proofs.settle.Statement.{statement}
@@ -82,7 +82,7 @@ loop-again c =
     let za : SFits w32 (getD (now (s .args .x1)) i (pos 0)) = record { sfits = c .before .before .before .before .a .given } in
     let zb : SFits w32 (getD (now (s .args .x2)) i (pos 0)) = record { sfits = c .before .before .before .b .given } in
     let zc : SFits w32 (getD (now (s .args .x3)) i (pos 0)) = record { sfits = c .before .before .c .given } in
-    let t : c .before .told .result ≡ toldNo (nonzero (getD (now (s .args .x1)) i (pos 0))) (nonzero (getD (now (s .args .x2)) i (pos 0))) (lp .loop .side) =
+    let t : c .before .told .result ≡ sideNumber (nonzero (getD (now (s .args .x1)) i (pos 0))) (nonzero (getD (now (s .args .x2)) i (pos 0))) (lp .loop .side) =
     rw (toZ-ofZ za, toZ-ofZ zb) at (c .before .told .ensures) in
     let v : c .value .result ≡ valueBy (withOf (s .args .by)) (sideOf (c .before .told .result)) (xAt (now (s .args .x1)) (now (s .args .x2)) (now (s .args .x3)) i) =
     rw (toZ-ofZ za, toZ-ofZ zb, toZ-ofZ zc) at (c .value .ensures) in

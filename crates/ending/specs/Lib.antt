@@ -1,0 +1,2 @@
+-- What the contracts of `ending` cite.
+pub mod Ending

@@ -1,0 +1,2 @@
+-- The words of the theorems about marks and decisions.
+pub mod Counts
