@@ -11,7 +11,7 @@ use Rattle.water.specs.declared.Month.{Month}
 use Rattle.spells.specs.Spells.{stepOf}
 use Rattle.spells.specs.declared.SpellMonth.{SpellMonth}
 use Rattle.hindsight.specs.Adding.{History, addMonth, settledCount}
-use Rattle.hindsight.specs.Columns.{runFrom}
+use Rattle.hindsight.specs.Columns.{historyIn}
 use Rattle.hindsight.specs.Months.{rowFor}
 use Rattle.calendar.specs.Calendar.{constantsAt, nextCalendar}
 use Rattle.runs.specs.declared.Run.{Run}
@@ -34,7 +34,7 @@ refusal k r = record { number = k; settled = 0; figures = noFigures; run = r }
 
 -- the run that the columns hold, of so many months and so many open ones, as hindsight has it
 abbrev pub heldIn : ℕ → ℕ → Columns → History
-heldIn months opens cs = runFrom (cs .x1) (cs .x2) (cs .x3) (cs .index) (cs .mark) months opens
+heldIn months opens cs = historyIn (cs .x1) (cs .x2) (cs .x3) (cs .index) (cs .mark) months opens
 
 abbrev pub heldBy : Run → Columns → History
 heldBy r cs = heldIn (r .months) (r .opens) cs

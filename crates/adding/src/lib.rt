@@ -13,6 +13,7 @@ ghost use Prim.Native.Nat.{_≤_};
 ghost use lib.IntN.{natAbs};
 ghost use Rattle.outline.specs.Numbers.{mostZ};
 ghost use Rattle.door.specs.Readings.{mostReading};
+ghost use Rattle.hindsight.specs.Months.{markFor};
 ghost use Rattle.refusals.specs.Columns.{columns};
 ghost use Rattle.adding.specs.Figures.{waterFigures, noWater, figuresOf};
 ghost use Rattle.adding.specs.Taken.{result, refusal, takenWater};
@@ -211,7 +212,7 @@ fn add_spells(
     let s = spells::step(values, z);
     let after = s.after;
     let d = s.decision;
-    let by = hindsight::decision_number(d);
+    let by = spells::decision_number(d);
     let a = after.x1;
     let b = after.x2;
     let c = after.x3;
@@ -230,7 +231,7 @@ fn add_spells(
         by,
         shown,
     );
-    let figures = figures_of(water, z, s);
+    let figures = figures_of(water, z, s, t.mark);
     Spelled {
         settled: t.settled as u32,
         opens: t.opens as u32,
@@ -239,12 +240,12 @@ fn add_spells(
     }
 }
 
-// The month's figures.
-fn figures_of(water: WaterFigures, z: i32, s: SpellMonth) -> Figures
+// The month's figures, with the mark that its place was given.
+fn figures_of(water: WaterFigures, z: i32, s: SpellMonth, mark: u8) -> Figures
+    requires { ⌜ mark ≡ markFor (s .decision) ⌝ }
     ensures { λ f. ⌜ f ≡ figuresOf water z s ⌝ }
 {
     let after = s.after;
-    let d = s.decision;
     Figures {
         water,
         z,
@@ -253,7 +254,7 @@ fn figures_of(water: WaterFigures, z: i32, s: SpellMonth) -> Figures
         x2: after.x2,
         x3: after.x3,
         index: s.index,
-        mark: hindsight::mark_for(d),
+        mark,
     }
 }
 

@@ -16,7 +16,8 @@ use Rattle.door.specs.Readings.{reading}
 use Rattle.door.specs.declared.Reading.{Reading}
 use Rattle.door.specs.declared.Reading.the-variants.{Missing}
 use Rattle.water.specs.Layers.{surfaceHolds, underlyingHolds}
-use Rattle.spells.specs.Spells.{turn, uOf, vOf, eOf, qOf, endingOf, percentOf, raised, lowered, largerInSize, provisional, steadyMonth, abatingValues, abatingMonth, founded, unfounded, tried, noSpell, endingMonth, inForce, stepOf}
+use Rattle.spells.specs.Spells.{raised, lowered, largerInSize, provisional, steadyMonth, abatingValues, abatingMonth, founded, unfounded, tried, noSpell, endingMonth, inForce, stepOf}
+use Rattle.ending.specs.Ending.{turn, uOf, vOf, eOf, qOf, endingOf, percentOf}
 use Rattle.ranges.specs.Ranges.{limitOf, constantFits, constantsFitTo, calendarFits}
 use Rattle.calendar.specs.Calendar.{nextCalendar}
 use Rattle.runs.specs.Runs.{soilFits, sizesFit, signsFit, vFits, isRun}

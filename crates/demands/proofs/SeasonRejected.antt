@@ -15,7 +15,8 @@ use Rattle.door.specs.Readings.{reading, whole}
 use Rattle.water.specs.Layers.{surfaceHolds, underlyingHolds}
 use Rattle.water.specs.Balance.{underLoss, balanceOf, wetMonth, toSurface, toUnderlying}
 use Rattle.water.specs.Expected.{potentialSurface, potentialUnderlying, potentialsOf, nOf, expectedOf, zOf, monthOf}
-use Rattle.spells.specs.Spells.{turn, uOf, vOf, eOf, qOf, endingOf, percentOf, raised, lowered, largerInSize, provisional, steadyMonth, abatingValues, abatingMonth, founded, unfounded, tried, noSpell, endingMonth, inForce, stepOf}
+use Rattle.spells.specs.Spells.{raised, lowered, largerInSize, provisional, steadyMonth, abatingValues, abatingMonth, founded, unfounded, tried, noSpell, endingMonth, inForce, stepOf}
+use Rattle.ending.specs.Ending.{turn, uOf, vOf, eOf, qOf, endingOf, percentOf}
 use Rattle.ranges.specs.Ranges.{limitOf, constantFits, constantsFitTo, calendarFits}
 use Rattle.calendar.specs.Calendar.{constantsAt, nextCalendar}
 use Rattle.runs.specs.Runs.{soilFits, sizesFit, signsFit, vFits, isRun}

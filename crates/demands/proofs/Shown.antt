@@ -15,10 +15,10 @@ use Rattle.water.specs.Layers.{SoilFits}
 use Rattle.water.proofs.Theorems.{month-water-kept}
 use Rattle.spells.specs.Spells.{stepOf}
 use Rattle.hindsight.specs.Rule.{Row, forward}
-use Rattle.hindsight.specs.Counts.{NoneFrom, count}
+use Rattle.hindsight_laws.specs.Counts.{NoneFrom, count}
 use Rattle.hindsight.specs.Adding.{addAll, addTo, addMonth, settledCount, History, fresh as nothing-held}
 use Rattle.hindsight.specs.Columns.{rowsOf, stateOf as stateAfter}
-use Rattle.hindsight.proofs.Hindsight.{every-index, every-mark, open-exactly, settled-stays, last-are-open, opens-counts, answers-settled, add-append}
+use Rattle.hindsight_laws.proofs.Hindsight.{every-index, every-mark, open-exactly, settled-stays, last-are-open, opens-counts, answers-settled, add-append}
 use Rattle.calendar.specs.Calendar.{constantsAt}
 use Rattle.starts.specs.Start.{startRefusal, startOf, freshRun, zeroRun, startedWith}
 use Rattle.runs.specs.declared.Run.{Run}

@@ -12,7 +12,7 @@ use Rattle.hindsight.specs.Rule.{Row}
 use Rattle.hindsight.specs.Adding.{addAll, History}
 use Rattle.hindsight.specs.Columns.{rowsOf}
 use Rattle.hindsight.specs.Months.{nextValues, rowOfZ, rowsOfZ}
-use Rattle.hindsight.proofs.Adding.{series-is-adding}
+use Rattle.hindsight_laws.proofs.Adds.{series-is-adding}
 use Rattle.outline.specs.Numbers.{zFits}
 use Rattle.starts.specs.Start.{startRefusal, freshRun}
 use Rattle.runs.specs.declared.Run.{Run}

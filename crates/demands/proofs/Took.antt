@@ -13,10 +13,10 @@ use Rattle.door.proofs.Bounds.{reading-most, inches-most}
 use Rattle.water.specs.Layers.{SoilFits}
 use Rattle.spells.specs.Spells.{stepOf}
 use Rattle.hindsight.specs.Rule.{Row}
-use Rattle.hindsight.specs.Columns.{runFrom, rowOf}
+use Rattle.hindsight.specs.Columns.{historyIn, rowOf}
 use Rattle.hindsight.specs.Adding.{addMonth, settledCount}
 use Rattle.spells.specs.Decisions.{decisionNumber}
-use Rattle.hindsight.proofs.Adding.{adds-run}
+use Rattle.hindsight_laws.proofs.Adds.{adds-run}
 use Rattle.runs.specs.declared.Run.{Run}
 use Rattle.refusals.specs.Columns.{Columns, long, columnsFit}
 use Rattle.refusals.specs.Good.{Good}
@@ -109,7 +109,7 @@ module _ (r : Run) (a : Ask) (cs : Columns) (t : Took r a cs) where
       let m = wrote-mark r cs (t .good .fit) (t .good .run) (t .room) row in
       let h = t .room in
       ap (λ (b : Result). heldBy (b .answer .run) (b .columns)) (t .did)
-      ∙ subst (λ (row : Row). runFrom (set (cs .x1) (r .months) (s .after .x1)) (set (cs .x2) (r .months) (s .after .x2)) (set (cs .x3) (r .months) (s .after .x3)) (addMonth (heldBy r cs) row .index ++ drop (suc (r .months)) (cs .index)) (addMonth (heldBy r cs) row .mark ++ drop (suc (r .months)) (cs .mark)) (suc (r .months)) (addMonth (heldBy r cs) row .opens) ≡ addMonth (heldBy r cs) row) q
+      ∙ subst (λ (row : Row). historyIn (set (cs .x1) (r .months) (s .after .x1)) (set (cs .x2) (r .months) (s .after .x2)) (set (cs .x3) (r .months) (s .after .x3)) (addMonth (heldBy r cs) row .index ++ drop (suc (r .months)) (cs .index)) (addMonth (heldBy r cs) row .mark ++ drop (suc (r .months)) (cs .mark)) (suc (r .months)) (addMonth (heldBy r cs) row .opens) ≡ addMonth (heldBy r cs) row) q
       (adds-run (cs .x1) (cs .x2) (cs .x3) (cs .index) (cs .mark) (r .months) (r .opens) (s .after .x1) (s .after .x2) (s .after .x3) (decisionNumber (s .decision)) (s .index) _ _ _ _ h (omega arith) (omega arith) (omega arith) (omega arith)
       (i ∙ sym (l .2)) (m ∙ sym (l .3))
       (record { index-is = refl; mark-is = refl; opens-is = refl; settled-is = refl }))

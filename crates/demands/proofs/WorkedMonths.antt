@@ -7,8 +7,9 @@ use Rattle.exact.specs.Worked.{agree}
 use Rattle.water.specs.Layers.{surfaceHolds, underlyingHolds}
 use Rattle.water.specs.Balance.{underLoss, lossSurface, lossUnderlying, dryMonth, toSurface, toUnderlying, wetMonth, balanceOf}
 use Rattle.water.specs.Expected.{potentialSurface, potentialUnderlying, potentialsOf, nOf, cafecOf, zOf, expectedOf, monthOf}
-use Rattle.spells.specs.Spells.{turn, uOf, vOf, eOf, qOf, endingOf, percentOf, raised, lowered, largerInSize, provisional, steadyMonth, abatingValues, abatingMonth, founded, unfounded, tried, noSpell, endingMonth, inForce, stepOf}
-use Rattle.spells.specs.Worked.{s1, s23, s4-first, s4-second, s4-third, s56}
+use Rattle.spells.specs.Spells.{raised, lowered, largerInSize, provisional, steadyMonth, abatingValues, abatingMonth, founded, unfounded, tried, noSpell, endingMonth, inForce, stepOf}
+use Rattle.ending.specs.Ending.{turn, uOf, vOf, eOf, qOf, endingOf, percentOf}
+use Rattle.spell_laws.specs.Worked.{s1, s23, s4-first, s4-second, s4-third, s56}
 use Rattle.demands.specs.Worked.{workedTable, months}
 
 pub worked : agree workedTable ≡ true

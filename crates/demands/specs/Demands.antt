@@ -16,7 +16,7 @@ use Rattle.door.specs.declared.MonthInches.{MonthInches}
 use Rattle.water.specs.Layers.{SoilFits}
 use Rattle.spells.specs.Spells.{stepOf}
 use Rattle.hindsight.specs.Rule.{Row, forward}
-use Rattle.hindsight.specs.Counts.{NoneFrom, count}
+use Rattle.hindsight_laws.specs.Counts.{NoneFrom, count}
 use Rattle.starts.specs.Start.{startRefusal, startOf, freshRun, zeroRun}
 use Rattle.runs.specs.declared.Run.{Run}
 use Rattle.series.specs.Series.{allZFit, seriesRefusal, filled, wholeSeries}

@@ -5,10 +5,9 @@ use Prim.Native.Nat.{ℕ}
 use mathlib.Core.List.{List, [], _∷_, _++_}
 use lib.IntN.{ℤ, pos, negℤ}
 use lib.ListN.{getD}
-use Rattle.exact.specs.Worked.{_gives_}
-use Rattle.exact.specs.Worked.{Row as Line}
+use Rattle.exact.specs.Worked.{_gives_, Row as Line}
 use Rattle.water.specs.Worked.{waterTable}
-use Rattle.spells.specs.Worked.{spellTable}
+use Rattle.spell_laws.specs.Worked.{spellTable}
 use Rattle.hindsight.specs.Rule.{Row, forward}
 use Rattle.hindsight.specs.Columns.{rowsOf}
 use Rattle.hindsight.specs.Adding.{addAll}

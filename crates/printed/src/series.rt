@@ -71,7 +71,7 @@ fn settled(t: Series, by: [u8; 40]) -> Series {
     let shown = t.index;
     let mut index = [0i32; 40];
     let mut mark = [0u8; 40];
-    hindsight::look_forward(&x1, &x2, &x3, &by, &shown, &mut index, &mut mark);
+    forward::look_forward(&x1, &x2, &x3, &by, &shown, &mut index, &mut mark);
     let mut series = t;
     series.index = index;
     series
@@ -91,7 +91,7 @@ pub fn run(z: &[i32; 40], months: usize, x1: u32, x3: u32) -> Series
         let m = spells::step(s, amounts::small(z[i] as i64));
         t = with_month(t, i, m);
         let decision = m.decision;
-        by[i] = hindsight::decision_number(decision);
+        by[i] = spells::decision_number(decision);
         let after = m.after;
         s = after;
         i += 1;

@@ -16,7 +16,7 @@ use Rattle.spells.specs.Spells.{stepOf}
 use Rattle.spells.specs.declared.With.{With}
 use Rattle.spells.specs.declared.Decision.{Decision}
 use Rattle.spells.specs.declared.Decision.the-variants.{Nothing, Decides}
-use Rattle.spells.proofs.Theorems.{values-kept}
+use Rattle.spell_laws.proofs.Theorems.{values-kept}
 use Rattle.hindsight.specs.Rule.{X, Row}
 use Rattle.hindsight.specs.Adding.{settledAll, addAs, addMonth, History}
 use Rattle.hindsight.specs.Months.{rowFor}

@@ -11,16 +11,17 @@ use lib.ListN.{length, getD, set, take}
 use lib.Seq.{length-take-le}
 use Rattle.spells.specs.declared.Running.{Running}
 use Rattle.spells.specs.declared.SpellMonth.{SpellMonth}
-use Rattle.spells.specs.Values.{mostV, FitsWithin, ValuesFit, fresh}
+use Rattle.spells.specs.Values.{FitsWithin, ValuesFit, fresh}
+use Rattle.ending.specs.Ending.{mostV}
 use Rattle.outline.specs.Numbers.{mostU, mostMonths}
 use Rattle.spells.specs.Spells.{stepOf}
-use Rattle.spells.proofs.Theorems.{values-kept, fits-in}
+use Rattle.spell_laws.proofs.Theorems.{values-kept, fits-in}
 use Rattle.hindsight.specs.Rule.{Row, forwardIndexes, forwardMarks}
 use Rattle.hindsight.specs.Columns.{rowAt, rowsFrom}
 use Rattle.spells.specs.Decisions.{decisionNumber}
 use Rattle.hindsight.specs.Months.{nextValues, rowOfZ, rowsOfZ}
 use Rattle.hindsight.proofs.Numbers.{number-is}
-use Rattle.hindsight.proofs.Steps.{Stepping, step-next, step-all}
+use Rattle.hindsight_laws.proofs.Steps.{Stepping, step-next, step-all}
 use Rattle.series.specs.Series.{allZFit}
 use Rattle.series.proofs.EachZ.{each-fits}
 

@@ -16,7 +16,7 @@ use Rattle.outline.specs.Refusals.{unlessRefused}
 use Rattle.hindsight.specs.Rule.{forwardIndexes, forwardMarks}
 use Rattle.hindsight.specs.Adding.{addAll}
 use Rattle.hindsight.specs.Months.{rowsOfZ}
-use Rattle.hindsight.proofs.Adding.{series-is-adding}
+use Rattle.hindsight_laws.proofs.Adds.{series-is-adding}
 use Rattle.series.specs.Series.{allZFit, listsFit, seriesRefusal, Filled, filled, wholeSeries}
 use Rattle.series.proofs.EachZ.{EachFits, each-fits, all-fit}
 use Rattle.outline.proofs.Tests.{each}

@@ -83,11 +83,11 @@ fn fill(z: &[i32], index: &mut [i32], mark: &mut [u8])
         x1[i] = a;
         x2[i] = b;
         x3[i] = c;
-        by[i] = hindsight::decision_number(d);
+        by[i] = spells::decision_number(d);
         shown[i] = e;
         i += 1;
     }
-    hindsight::look_forward(
+    forward::look_forward(
         &x1[..n],
         &x2[..n],
         &x3[..n],

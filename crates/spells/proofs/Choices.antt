@@ -10,6 +10,7 @@ use lib.IntN.{ℤ, pos, negsuc, natAbs, _-ℤ_, _*ℤ_}
 use lib.Signed.{_≤ℤ_, _<ℤ_, leZ, ltZ}
 use Rattle.exact.specs.Next.{nextOf}
 use Rattle.outline.specs.Numbers.{mostX, mostZ}
+use Rattle.exact.proofs.Orders.{le-is, le-not, lt-is, lt-not}
 use Rattle.exact.proofs.Z.{zs, zs-abs, is-Z, le-yes}
 use Rattle.exact.proofs.NextLaws.{next-within}
 use Rattle.spells.specs.Values.{SidesFit}
@@ -20,18 +21,6 @@ use Rattle.spells.specs.declared.With.the-variants.{X1, X2}
 use Rattle.spells.specs.declared.Decision.the-variants.{Nothing, Decides}
 
 -- ---- the outcome of a test, from the fact
-pub le-is : (a b : ℤ) → a ≤ℤ b → leZ a b ≡ true
-le-is a b = rw (is-Z a, is-Z b) (simp zs (omega arith))
-
-pub le-not : (a b : ℤ) → b <ℤ a → leZ a b ≡ false
-le-not a b = rw (is-Z a, is-Z b) (simp zs (omega arith))
-
-pub lt-is : (a b : ℤ) → a <ℤ b → ltZ a b ≡ true
-lt-is a b = rw (is-Z a, is-Z b) (simp zs (omega arith))
-
-pub lt-not : (a b : ℤ) → b ≤ℤ a → ltZ a b ≡ false
-lt-not a b = rw (is-Z a, is-Z b) (simp zs (omega arith))
-
 pub zero-is : (x : ℤ) → x ≡ pos 0 → isZero x ≡ true
 zero-is x e = ap isZero e
 

@@ -1,4 +1,6 @@
 -- `adding::add_spells` meets its contract: the step and what hindsight writes. Assumes nothing.
+use mathlib.Core.Path.{ap, _∙_}
+use Prim.Native.Nat.{ℕ}
 use native.Mathlib.Omega.{arith}
 use borrow.Author.Needs.{needs}
 use mir.Syntax.{w32}
@@ -6,7 +8,9 @@ use mir.Val.{SFits}
 use mir.Facts.{toZ-ofZ}
 use denote.Ref.{now}
 use Rattle.exact.proofs.Held.{held}
-use Rattle.hindsight.specs.Columns.{rowOf}
+use Rattle.hindsight.specs.Columns.{rowOf, decisionOf}
+use Rattle.hindsight.specs.Months.{markFor}
+use Rattle.hindsight.proofs.Numbers.{mark-of}
 use Rattle.adding.specs.Taken.{heldIn}
 use Rattle.refusals.specs.Columns.{Columns, columns}
 use Rattle.adding.proofs.Taken.{spelled-is, opens-most, settled-most, Wrote}
@@ -28,9 +32,6 @@ started c = c .before .before .before .before .before .before .before .before .b
 
 add-requires : tie.Need-add-requires
 add-requires c κs = let p = started c .pre .0 in (p .opens-fit, p .room, p .x2, p .x3, p .index, p .mark)
-
-figures-of-requires : tie.Need-figures-of-requires
-figures-of-requires c κs = search needs
 
 -- what was handed in, what the step and the decision's number gave, at the place after hindsight's add
 abbrev entered : tie.After-add → tie.Start
@@ -56,7 +57,13 @@ wrote c =
     let f3 : SFits w32 (s .after .x3) = search held in
     let f4 : SFits w32 (s .index) = search held in
     let e = c .add .ensures in
-    (rw (toZ-ofZ f1) at (e .0), rw (toZ-ofZ f2) at (e .1 .0), rw (toZ-ofZ f3) at (e .1 .1 .0), rw (toZ-ofZ f1, toZ-ofZ f2, toZ-ofZ f3, toZ-ofZ f4) at (e .1 .1 .1))
+    (rw (toZ-ofZ f1) at (e .0), rw (toZ-ofZ f2) at (e .1 .0), rw (toZ-ofZ f3) at (e .1 .1 .0), rw (toZ-ofZ f1, toZ-ofZ f2, toZ-ofZ f3, toZ-ofZ f4) at (e .1 .1 .1 .0))
+
+-- the mark that it wrote is the decision's
+figures-of-requires : tie.Need-figures-of-requires
+figures-of-requires c κs =
+    let d = c .before .before .before .before .before .before in
+    d .add .ensures .1 .1 .1 .1 ∙ ap (λ (n : ℕ). markFor (decisionOf n)) (numbered d .decision-number .ensures) ∙ mark-of (stepped d .step .result .decision)
 
 cast-t33 : tie.Need-cast-t33
 cast-t33 c =
