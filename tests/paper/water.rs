@@ -90,7 +90,7 @@ pub fn iowa_chained(tables: &Tables) -> Result<[Part; 2], Fault> {
     Ok([water, index])
 }
 
-/// June 1932, with an empty surface layer: column 5 of table 4 says so. Column 4 is the storage of both layers.
+/// June 1932, with an empty surface layer, which column 5 of table 4 allows. Column 4 is the storage of both layers.
 const KANSAS: When = When::new(1932, 6);
 const KANSAS_CAPACITY: i32 = 6_000;
 
