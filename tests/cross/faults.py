@@ -43,6 +43,7 @@ FAULTS = [
     ('unequal lists of a season refused after the run', '    if p.len() != pe.len() {\n        return Err(Refusal::Lengths);\n    }\n    check(run, k)?;\n', '    check(run, k)?;\n    if p.len() != pe.len() {\n        return Err(Refusal::Lengths);\n    }\n'),
     ('PE of a season read before precipitation', '        let p = listed(p)?;\n        let pe = listed(pe)?;\n', '        let pe = listed(pe)?;\n        let p = listed(p)?;\n'),
     ('a season full before its readings', '        let p = listed(p)?;\n', '        if run.months as usize == k.x1.len() {\n            return Err(Refusal::Full);\n        }\n        let p = listed(p)?;\n'),
+    ('a row cut to 32 binary digits', '    if row >= run.months as usize {\n', '    let row = row as u32 as usize;\n    if row >= run.months as usize {\n'),
     ('exact halves down', 'halfway <= 2.0', 'halfway < 2.0'),
     ('an exact 126 for 127', 'of: 127 }', 'of: 126 }'),
     ("the range's top left out of the exact one", '(0.0..=self.top)', '(0.0..self.top)'),
@@ -66,7 +67,7 @@ def caught(old, new):
             f.write(text.replace(old, new))
     program = ROOM + '/cross'
     build = os.environ['RUSTC'].split() + ['-A', 'warnings', '-C', 'opt-level=3', '-L', 'native=target/staticlib', '-l', 'static=card']
-    subprocess.run(build + [ROOM + '/tests/cross/cross.rs', '-o', program], check=True)
+    subprocess.run(build + [ROOM + '/tests/cross/main.rs', '-o', program], check=True)
     run = subprocess.run(os.environ['RUN'].split() + [program], stdout=subprocess.DEVNULL, stderr=subprocess.DEVNULL)
     return run.returncode == 1
 

@@ -1,0 +1,236 @@
+//! All the calls that take a run, with runs and columns of any content and with several faults at once.
+
+use crate::add::{pick_add, Add, Way};
+use crate::add_water::pick_reading;
+use crate::add_z::STYLES;
+use crate::card::{MonthInches, Reading, Run, Values};
+use crate::check::Check;
+use crate::lists::{Fill, Lists};
+use crate::reference::{MOST_MONTHS, MOST_Z};
+use crate::runs::{
+    any_good_run, good_constants, good_soil, length_faults, limits, run_faults, set_field, FIELDS, NO_RUN,
+};
+use crate::season::Months;
+use crate::whole_series::whole_refusals;
+
+/// All the calls that take a run.
+fn all_calls(c: &mut Check, run: &Run, lists: &mut Lists) {
+    let z = c.random.within(-3_000, 3_000) as i32;
+    c.add(Add::Z(z), run, lists);
+    let (p, pe) = (pick_reading(&mut c.random, 9_000), pick_reading(&mut c.random, 9_000));
+    c.add(Add::Water(p, pe), run, lists);
+    c.add(Add::Inches(MonthInches { p: 2.5, pe: 3.0625 }), run, lists);
+    let season = if c.random.one_in(2) { vec![] } else { vec![700, 2_500] };
+    c.season(&Months { p: season.clone(), pe: season }, run, lists);
+    for row in [0, run.months.wrapping_sub(1) as usize, run.months as usize] {
+        c.row(run, row, lists);
+    }
+    c.untouched(run, lists);
+}
+
+pub fn spoiled_runs(c: &mut Check) {
+    // A fresh run, a settled one, open months without a spell, a drought abating, a wet spell abating, a full one.
+    let beginnings: [&[i32]; 6] = [
+        &[],
+        &[40, 3_000],
+        &[900, -700, 30, -20],
+        &[-9_000, -50, 300, 10],
+        &[9_000, 50, -300, -10],
+        &[-9_000, 700, 30, -20, 10, 5, 5, 5],
+    ];
+    let length = 8;
+    for zs in beginnings {
+        let mut lists = Lists::new(&mut c.random, [length; 5], Fill::AnyBits);
+        let (constants, soil) = (good_constants(&mut c.random), good_soil(&mut c.random));
+        c.kind("runs spoiled, one field");
+        let mut run = c.start(&constants, soil).run;
+        for &z in zs {
+            run = c.add(Add::Z(z), &run, &mut lists).run;
+        }
+        for field in 0..FIELDS + 60 {
+            for value in limits(&run, length) {
+                let mut spoiled = run;
+                set_field(&mut spoiled, field, value);
+                all_calls(c, &spoiled, &mut lists);
+            }
+        }
+        c.kind("runs spoiled, X and V");
+        spoiled_values(c, &run, &mut lists);
+    }
+}
+
+fn spoiled_values(c: &mut Check, run: &Run, lists: &mut Lists) {
+    let most_v = 4_000_150 * i64::from(run.months);
+    for v in [-most_v - 1, -most_v, -151, -1, 0, 1, 151, most_v, most_v + 1] {
+        for x3 in [-13_000_001, -13_000_000, -1_000, -501, -500, -1, 0, 1, 500, 501, 1_000, 13_000_000, 13_000_001]
+        {
+            for x1 in [-1, 0, 1, 13_000_000, 13_000_001] {
+                for x2 in [1, 0, -1, -13_000_000, -13_000_001] {
+                    let mut spoiled = *run;
+                    spoiled.values = Values { x1, x2, x3, v };
+                    all_calls(c, &spoiled, lists);
+                }
+            }
+        }
+    }
+}
+
+pub fn any_runs(c: &mut Check, times: u64) {
+    c.kind("any good run, any columns");
+    for _ in 0..100_000 * times {
+        let most = c.random.pick(&[1, 6, 30, 30, 200]);
+        let length = c.random.within(1, most) as usize;
+        let fill = c.random.pick(&[Fill::AnyBits, Fill::Small, Fill::Small]);
+        let mut lists = Lists::new(&mut c.random, [length; 5], fill);
+        let mut run = any_good_run(&mut c.random, length);
+        for _ in 0..c.random.below(8) {
+            let style = c.random.pick(&STYLES);
+            let what = pick_add(&mut c.random, Way::Mixed, style, &run.values);
+            run = c.add(what, &run, &mut lists).run;
+        }
+        let row = c.random.below(length as u64 + 1) as usize;
+        c.row(&run, row, &mut lists);
+        c.untouched(&run, &mut lists);
+    }
+    c.kind("any numbers as a run");
+    let mut lists = Lists::new(&mut c.random, [9; 5], Fill::AnyBits);
+    for _ in 0..10_000 * times {
+        let mut run = any_good_run(&mut c.random, 9);
+        for _ in 0..c.random.within(1, 3) {
+            let field = c.random.below(FIELDS as u64 + 6) as usize;
+            let value = c.random.bits() as i64 >> c.random.below(64);
+            set_field(&mut run, field, value);
+        }
+        all_calls(c, &run, &mut lists);
+    }
+}
+
+pub fn refusals(c: &mut Check) {
+    c.kind("several refusals, adds and rows");
+    let mut small = Lists::new(&mut c.random, [5; 5], Fill::AnyBits);
+    let (constants, soil) = (good_constants(&mut c.random), good_soil(&mut c.random));
+    let mut run = c.start(&constants, soil).run;
+    for z in [900, -700, 30] {
+        run = c.add(Add::Z(z), &run, &mut small).run;
+    }
+    let readings = [
+        Reading::whole(700),
+        Reading::missing(),
+        Reading::whole(-1),
+        Reading::inches(f32::NAN),
+        Reading::millimetres(2_541.0),
+        Reading { kind: 4, whole: 0, measure: 0.0 },
+    ];
+    for lengths in length_faults() {
+        let mut lists = Lists::new(&mut c.random, lengths, Fill::AnyBits);
+        for run in run_faults(&run) {
+            for p in readings {
+                for pe in readings {
+                    c.add(Add::Water(p, pe), &run, &mut lists);
+                }
+            }
+            for (p, pe) in [(1.0, 1.0), (-1.0, 1.0), (1.0, f32::INFINITY), (f32::NAN, 101.0), (-0.0, 100.0)] {
+                c.add(Add::Inches(MonthInches { p, pe }), &run, &mut lists);
+            }
+            for z in [0, -MOST_Z, MOST_Z, -MOST_Z - 1, MOST_Z + 1, i32::MIN, i32::MAX] {
+                c.add(Add::Z(z), &run, &mut lists);
+            }
+            for row in [0, 2, 3, 4, 5, 6, usize::MAX] {
+                c.row(&run, row, &mut lists);
+            }
+            c.untouched(&run, &mut lists);
+        }
+    }
+    whole_refusals(c);
+}
+
+// ---- What a run's fields and the columns' lengths are tried with besides ------------------------------------
+
+/// Values of a run's field within its range and just past it.
+fn ends(run: &Run, field: usize, length: i64) -> Vec<i64> {
+    let most_v = 4_000_150 * i64::from(run.months);
+    let layer = i64::from(run.soil.capacity) - 1_000;
+    match field {
+        0 => vec![0, 1, length - 1, length, length + 1],
+        1 => vec![0, 1, i64::from(run.months), i64::from(run.months) + 1],
+        2 => vec![0, 1, 12, 13],
+        3 => vec![999, 1_000, 1_001, 30_000, 30_001],
+        4 => vec![0, 1, 1_000, 1_001],
+        5 => vec![0, 1, layer, layer + 1, 29_000, 29_001],
+        6 => vec![-1, 0, 1, 13_000_000, 13_000_001],
+        7 => vec![1, 0, -1, -13_000_000, -13_000_001],
+        8 => vec![-13_000_001, -13_000_000, -501, -500, -1, 0, 1, 500, 501, 13_000_000, 13_000_001],
+        _ => vec![i64::MIN, -most_v - 1, -most_v, -1, 0, 1, most_v, most_v + 1, i64::MAX],
+    }
+}
+
+/// Two fields at once, of which one may make the other good or bad; and a run of zeros, as a refused start hands back.
+pub fn two_fields(c: &mut Check) {
+    c.kind("runs spoiled, two fields");
+    let length = 8;
+    let mut lists = Lists::new(&mut c.random, [length; 5], Fill::AnyBits);
+    for run in [0, 1, 4, 8].map(|months| Run { months, ..any_good_run(&mut c.random, 0) }) {
+        for first in 0..FIELDS {
+            for a in ends(&run, first, length as i64) {
+                let mut once = run;
+                set_field(&mut once, first, a);
+                for second in first + 1..FIELDS {
+                    for b in ends(&once, second, length as i64) {
+                        let mut twice = once;
+                        set_field(&mut twice, second, b);
+                        all_calls(c, &twice, &mut lists);
+                    }
+                }
+            }
+        }
+    }
+    for length in [0, 1, 8, MOST_MONTHS] {
+        let mut lists = Lists::new(&mut c.random, [length; 5], Fill::AnyBits);
+        all_calls(c, &NO_RUN, &mut lists);
+    }
+}
+
+/// Each column of another length than the four, beside short columns and the longest; and five of any lengths.
+pub fn lengths(c: &mut Check) {
+    c.kind("columns of other lengths");
+    for length in [1, 2, 30, MOST_MONTHS] {
+        for column in 0..5 {
+            for other in [0, length - 1, length, length + 1, MOST_MONTHS, MOST_MONTHS + 1] {
+                let mut lengths = [length; 5];
+                lengths[column] = other;
+                let mut lists = Lists::new(&mut c.random, lengths, Fill::AnyBits);
+                for months in 0..2 {
+                    let run = Run { months, opens: 0, ..any_good_run(&mut c.random, 0) };
+                    all_calls(c, &run, &mut lists);
+                }
+            }
+        }
+    }
+    for _ in 0..200 {
+        let lengths = [(); 5].map(|()| c.random.below(MOST_MONTHS as u64 + 2) as usize);
+        let run = any_good_run(&mut c.random, lengths[0].max(1));
+        let mut lists = Lists::new(&mut c.random, lengths, Fill::Sparse);
+        all_calls(c, &run, &mut lists);
+    }
+}
+
+/// Runs whose last months come near the end of long columns of any content, with few and with all months open.
+pub fn long_columns(c: &mut Check, times: u64) {
+    c.kind("any good run, long columns");
+    for number in 0..600 * times {
+        let length = c.random.pick(&[300, MOST_MONTHS - 1, MOST_MONTHS, MOST_MONTHS]);
+        let fill = c.random.pick(&[Fill::AnyBits, Fill::Small, Fill::Sparse, Fill::Sparse]);
+        let mut lists = Lists::new(&mut c.random, [length; 5], fill);
+        let mut run = any_good_run(&mut c.random, length);
+        if number % 2 == 0 {
+            run.months = c.random.within(length as i64 - 10, length as i64) as u32;
+            (run.opens, run.values.v) = (c.random.pick(&[0, 3, run.months - 1, run.months]), 0);
+        }
+        for _ in 0..4 {
+            let style = c.random.pick(&STYLES);
+            let what = pick_add(&mut c.random, Way::Mixed, style, &run.values);
+            run = c.add(what, &run, &mut lists).run;
+        }
+        all_calls(c, &run, &mut lists);
+    }
+}

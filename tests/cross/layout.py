@@ -1,0 +1,103 @@
+#!/usr/bin/env python3
+"""Whether C, Rust and the library mean the same by each call of the card: reads crates/card, include/card.h and
+host/card.rs, and lays out every argument and answer of every call as a list of numbers with their names and types, in
+order. All three lists must be the same: every struct is laid out as C lays it out, so equal lists are equal places.
+No proof sees the order of a struct's fields, and no compiler sees two of these three at once."""
+import glob
+import os
+import re
+import sys
+
+TOP = os.path.join(os.path.dirname(os.path.abspath(__file__)), '..', '..')
+C_TYPES = {'uint8_t': 'u8', 'uint32_t': 'u32', 'int32_t': 'i32', 'int64_t': 'i64', 'float': 'f32', 'size_t': 'usize'}
+
+
+def text(name):
+    with open(os.path.join(TOP, name)) as f:
+        return f.read()
+
+
+def files(names):
+    return [text(name) for name in sorted(glob.glob(names, root_dir=TOP, recursive=True))]
+
+
+class Layouts:
+    """Structs by their names, each a list of (field, type), and calls, each a list of types, the answer's first. A
+    list that is lent is a pointer and a usize."""
+
+    def __init__(self, name):
+        self.name, self.structs, self.calls, self.numbers = name, {}, {}, {}
+
+    def flat(self, kind, path=''):
+        """A type as a list of (place, simple type)."""
+        array = re.fullmatch(r'\[(\w+); (\w+)\]', kind)
+        if array:
+            count = self.numbers.get(array[2], array[2])
+            return [('%s[%s]' % (path, count), array[1])]
+        if kind not in self.structs:
+            return [(path, kind)]
+        return [place for field, inner in self.structs[kind] for place in self.flat(inner, path + '.' + field)]
+
+    def call(self, name):
+        return [place for number, kind in enumerate(self.calls[name]) for place in self.flat(kind, str(number))]
+
+
+def of_rust(name, source, structs):
+    """Of Rattle and Rust alike: structs that are laid out as C's, and the calls of C's."""
+    found = Layouts(name)
+    for part in structs:
+        found.numbers.update(re.findall(r'^(?:pub )?const (\w+): usize = (\d+);', part, re.M))
+        for struct, body in re.findall(r'#\[repr\(C\)\](?:\s*#\[derive\([^)]*\)\])?\s*pub struct (\w+) \{(.*?)^\}', part, re.M | re.S):
+            fields = re.findall(r'pub (\w+): ([^,]+),', re.sub(r'//.*', '', body))
+            if found.structs.setdefault(struct, fields) != fields:
+                sys.exit('layout: %s has two structs %s that are laid out as C lays them out' % (name, struct))
+    for call, arguments, answer in re.findall(r'pub (?:extern "C" )?fn (card_\w+)\(([^)]*)\) -> (\w+)', source):
+        kinds = [re.sub(r'\w+::', '', argument.split(':', 1)[1].strip()) for argument in arguments.split(',') if ':' in argument]
+        found.calls[call] = [answer] + [one for kind in kinds for one in lent(kind)]
+    return found
+
+
+def lent(kind):
+    """A slice as the pointer and the length that it is to C."""
+    slice_of = re.fullmatch(r'&(mut )?\[(\w+)\]', kind)
+    if not slice_of:
+        return [kind]
+    return ['*%s %s' % ('mut' if slice_of[1] else 'const', slice_of[2]), 'usize']
+
+
+def of_c():
+    found = Layouts('include/card.h')
+    source = re.sub(r'/\*.*?\*/', '', text('include/card.h'), flags=re.S)
+    found.numbers.update(re.findall(r'^#define (\w+) (\d+)$', source, re.M))
+    for struct, body in re.findall(r'^typedef struct (\w+) \{(.*?)^\}', source, re.M | re.S):
+        fields = re.findall(r'(\w+) (\w+)(?:\[(\w+)\])?;', body)
+        found.structs[struct] = [(field, '[%s; %s]' % (kind_of_c(kind), many) if many else kind_of_c(kind)) for kind, field, many in fields]
+    for answer, call, arguments in re.findall(r'^(\w+) (card_\w+)\(([^)]*)\);', source, re.M):
+        kinds = [re.fullmatch(r'\s*(const )?(\w+) (\*?)\w+\s*', argument).groups() for argument in arguments.split(',')]
+        found.calls[call] = [kind_of_c(answer)] + [
+            '*%s %s' % ('const' if const else 'mut', kind_of_c(kind)) if pointer else kind_of_c(kind) for const, kind, pointer in kinds]
+    return found
+
+
+def kind_of_c(kind):
+    return C_TYPES.get(kind, kind)
+
+
+def main():
+    rust = text('host/card.rs')
+    sides = [of_rust('the library', ''.join(files('crates/card/src/**/*.rt')), files('crates/*/src/**/*.rt')), of_c(), of_rust('host/card.rs', rust, [rust])]
+    library = sides[0]
+    for other in sides[1:]:
+        if set(other.calls) != set(library.calls) or not library.calls:
+            sys.exit('layout: %s has the calls %s, %s has %s' % (library.name, sorted(library.calls), other.name, sorted(other.calls)))
+        for call in library.calls:
+            ours, theirs = library.call(call), other.call(call)
+            if ours != theirs:
+                first = next((pair for pair in zip(ours, theirs) if pair[0] != pair[1]), (ours[-1:], theirs[-1:]))
+                sys.exit('layout: %s: %s has %s, %s has %s' % (call, library.name, first[0], other.name, first[1]))
+    places = sum(len(library.call(call)) for call in library.calls)
+    print('layout: %d calls, %d places in their arguments and answers, the same to the library, C and Rust' % (len(library.calls), places))
+
+
+if __name__ == '__main__':
+    main()

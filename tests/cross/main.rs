@@ -1,0 +1,63 @@
+//! Calls the library and the reference on the same inputs and compares everything: every field of the answer, the
+//! run handed back, and every place of every list lent, with some places before and after it that nobody lent. A
+//! season is compared with the library's single adds of its months as well, and readings are held to the exact
+//! computation. At the first difference it prints the call, its inputs and the outcomes, and ends with status 1.
+//! An argument multiplies the random cases.
+
+mod add;
+mod add_inches;
+mod add_water;
+mod add_z;
+mod all_calls;
+#[path = "../../host/card.rs"]
+mod card;
+mod check;
+mod conversion;
+mod lists;
+mod random;
+mod read;
+mod reference;
+mod row;
+mod runs;
+mod season;
+mod series;
+mod start;
+mod whole_series;
+mod worked;
+
+use check::Check;
+
+fn main() {
+    let times = match std::env::args().nth(1).map(|text| text.parse::<u64>()) {
+        None => 1,
+        Some(Ok(times)) if times > 0 => times,
+        Some(_) => {
+            eprintln!("cross: the argument is a whole number above 0");
+            std::process::exit(2);
+        }
+    };
+    let mut check = Check::new(0x5eed_0001);
+    worked::worked_months(&mut check);
+    read::readings(&mut check, times);
+    read::readings_exactly(&mut check);
+    start::starts(&mut check, times);
+    series::series(&mut check, times);
+    series::open_to_the_last(&mut check, times);
+    whole_series::whole_lists(&mut check, times);
+    all_calls::spoiled_runs(&mut check);
+    all_calls::any_runs(&mut check, times);
+    add_z::thresholds(&mut check);
+    all_calls::refusals(&mut check);
+    season::seasons(&mut check, times);
+    add_water::readings_in_adds(&mut check);
+    add_water::water_at_ends(&mut check);
+    add_water::constants_in_use(&mut check);
+    add_inches::edges_in_inches(&mut check);
+    add_z::ties(&mut check);
+    add_z::ends_for_years(&mut check);
+    row::rows(&mut check);
+    all_calls::two_fields(&mut check);
+    all_calls::lengths(&mut check);
+    all_calls::long_columns(&mut check, times);
+    check.print();
+}
