@@ -81,14 +81,14 @@ pub never-refused : (r : Run) (a : Ask) (cs : Columns) → Good r cs → Honest 
 unfolding waterRefusal zRefusal month inches
 never-refused r a cs g = subst Honest (sym (refused-add r a cs .0)) (go a)
   where
-    waters : (p pe : ℕ) → Honest p → Honest pe → Honest (waterRefusal (columnsFit cs) (long cs) r p pe)
-    waters p pe h k = or-honest (runRefusal (columnsFit cs) (long cs) r) (orElse p (orElse pe (roomRefusal (long cs) (r .months)))) (not-both _ (good-passes r cs g)) (or-honest p (orElse pe (roomRefusal (long cs) (r .months))) h (or-honest pe (roomRefusal (long cs) (r .months)) k (room-honest (long cs) (r .months))))
+    waters : (p pe : ℕ) → Honest p → Honest pe → Honest (waterRefusal r p pe cs)
+    waters p pe h k = or-honest (runRefusal r cs) (orElse p (orElse pe (roomRefusal (long cs) (r .months)))) (not-both _ (good-passes r cs g)) (or-honest p (orElse pe (roomRefusal (long cs) (r .months))) h (or-honest pe (roomRefusal (long cs) (r .months)) k (room-honest (long cs) (r .months))))
 
     go : (a : Ask) → Honest (numberOf r a cs)
     go (water p pe) = waters (reading p .number) (reading pe .number) (reading-honest p) (reading-honest pe)
     go (both-inches q) = waters (month q .p .number) (month q .pe .number) (converted-honest 100 1000 1 (q .p)) (converted-honest 100 1000 1 (q .pe))
     go (anomaly z) =
-        or-honest (runRefusal (columnsFit cs) (long cs) r) (orElse (cond (zFits z) 0 badZ) (roomRefusal (long cs) (r .months))) (not-both _ (good-passes r cs g))
+        or-honest (runRefusal r cs) (orElse (cond (zFits z) 0 badZ) (roomRefusal (long cs) (r .months))) (not-both _ (good-passes r cs g))
         (or-honest (cond (zFits z) 0 badZ) (roomRefusal (long cs) (r .months)) (two (zFits z) badZ ((λ h. omega arith), (λ h. omega arith))) (room-honest (long cs) (r .months)))
 
 -- from a start on: no sequence of calls on honest columns is ever refused 1 or 7

@@ -228,70 +228,70 @@ module _ (f : Run → ℕ → Columns → Shown) (keeps : (r : Run) (i : ℕ) (c
       let n = sym (worked .no-run) ∙ a (worked .one-fits) (omega arith) in
       omega arith
 
--- ---- EACH REFUSAL, given exactly when: the tests before it passed, and its own did not. The first argument says that the columns fit
-module _ (n : ℕ) (r : Run) where
+-- ---- EACH REFUSAL, given exactly when: the tests before it passed, and its own did not. Where the columns do not fit it is 1
+module _ (r : Run) (cs : Columns) where
   -- at an add of Z: 1, 7, 12, 10
   module _ (z : ℤ) where
-    pub z-refused-1 : zRefusal false n r z ≡ 1
+    pub z-refused-1 : columnsFit cs ≡ false → zRefusal r z cs ≡ 1
     unfolding zRefusal runRefusal
-    z-refused-1 = refl
+    z-refused-1 f = rw f
 
-    pub z-refused-7 : isRun n r ≡ false → zRefusal true n r z ≡ 7
+    pub z-refused-7 : columnsFit cs ≡ true → isRun (long cs) r ≡ false → zRefusal r z cs ≡ 7
     unfolding zRefusal runRefusal
-    z-refused-7 h = rw h
+    z-refused-7 f h = rw (f, h)
 
-    pub z-refused-12 : isRun n r ≡ true → zFits z ≡ false → zRefusal true n r z ≡ 12
+    pub z-refused-12 : columnsFit cs ≡ true → isRun (long cs) r ≡ true → zFits z ≡ false → zRefusal r z cs ≡ 12
     unfolding zRefusal runRefusal
-    z-refused-12 h k = rw (h, k)
+    z-refused-12 f h k = rw (f, h, k)
 
-    pub z-refused-10 : isRun n r ≡ true → zFits z ≡ true → r .months ≡ n → zRefusal true n r z ≡ 10
+    pub z-refused-10 : columnsFit cs ≡ true → isRun (long cs) r ≡ true → zFits z ≡ true → r .months ≡ long cs → zRefusal r z cs ≡ 10
     unfolding zRefusal runRefusal roomRefusal
-    z-refused-10 h k e = rw (h, k, le-ltb (r .months) n (omega arith))
+    z-refused-10 f h k e = rw (f, h, k, le-ltb (r .months) (long cs) (omega arith))
 
-    pub z-not-refused : isRun n r ≡ true → zFits z ≡ true → r .months < n → zRefusal true n r z ≡ 0
+    pub z-not-refused : columnsFit cs ≡ true → isRun (long cs) r ≡ true → zFits z ≡ true → r .months < long cs → zRefusal r z cs ≡ 0
     unfolding zRefusal runRefusal roomRefusal
-    z-not-refused h k l = rw (h, k, lt-ltb (r .months) n l)
+    z-not-refused f h k l = rw (f, h, k, lt-ltb (r .months) (long cs) l)
 
   -- at an add of water: 1, 7, precipitation's, PE's, 10, where p and pe are what the two readings answer
   module _ (p pe : ℕ) where
-    pub water-refused-1 : waterRefusal false n r p pe ≡ 1
+    pub water-refused-1 : columnsFit cs ≡ false → waterRefusal r p pe cs ≡ 1
     unfolding waterRefusal runRefusal
-    water-refused-1 = refl
+    water-refused-1 f = rw f
 
-    pub water-refused-7 : isRun n r ≡ false → waterRefusal true n r p pe ≡ 7
+    pub water-refused-7 : columnsFit cs ≡ true → isRun (long cs) r ≡ false → waterRefusal r p pe cs ≡ 7
     unfolding waterRefusal runRefusal
-    water-refused-7 h = rw h
+    water-refused-7 f h = rw (f, h)
 
-    pub water-refused-p : isRun n r ≡ true → (p ≡ 0 → ⊥) → waterRefusal true n r p pe ≡ p
+    pub water-refused-p : columnsFit cs ≡ true → isRun (long cs) r ≡ true → (p ≡ 0 → ⊥) → waterRefusal r p pe cs ≡ p
     unfolding waterRefusal runRefusal
-    water-refused-p h k = rw h (or-first p _ k)
+    water-refused-p f h k = rw (f, h) (or-first p _ k)
 
-    pub water-refused-pe : isRun n r ≡ true → p ≡ 0 → (pe ≡ 0 → ⊥) → waterRefusal true n r p pe ≡ pe
+    pub water-refused-pe : columnsFit cs ≡ true → isRun (long cs) r ≡ true → p ≡ 0 → (pe ≡ 0 → ⊥) → waterRefusal r p pe cs ≡ pe
     unfolding waterRefusal runRefusal
-    water-refused-pe h e k = rw (h, e) (or-first pe _ k)
+    water-refused-pe f h e k = rw (f, h, e) (or-first pe _ k)
 
-    pub water-refused-10 : isRun n r ≡ true → p ≡ 0 → pe ≡ 0 → r .months ≡ n → waterRefusal true n r p pe ≡ 10
+    pub water-refused-10 : columnsFit cs ≡ true → isRun (long cs) r ≡ true → p ≡ 0 → pe ≡ 0 → r .months ≡ long cs → waterRefusal r p pe cs ≡ 10
     unfolding waterRefusal runRefusal roomRefusal
-    water-refused-10 h a b e = rw (h, a, b, le-ltb (r .months) n (omega arith))
+    water-refused-10 f h a b e = rw (f, h, a, b, le-ltb (r .months) (long cs) (omega arith))
 
-    pub water-not-refused : isRun n r ≡ true → p ≡ 0 → pe ≡ 0 → r .months < n → waterRefusal true n r p pe ≡ 0
+    pub water-not-refused : columnsFit cs ≡ true → isRun (long cs) r ≡ true → p ≡ 0 → pe ≡ 0 → r .months < long cs → waterRefusal r p pe cs ≡ 0
     unfolding waterRefusal runRefusal roomRefusal
-    water-not-refused h a b l = rw (h, a, b, lt-ltb (r .months) n l)
+    water-not-refused f h a b l = rw (f, h, a, b, lt-ltb (r .months) (long cs) l)
 
   -- at a row: 1, 7, 11
   module _ (i : ℕ) where
-    pub row-refused-1 : rowRefusal false n r i ≡ 1
+    pub row-refused-1 : columnsFit cs ≡ false → rowRefusal r i cs ≡ 1
     unfolding rowRefusal runRefusal
-    row-refused-1 = refl
+    row-refused-1 f = rw f
 
-    pub row-refused-7 : isRun n r ≡ false → rowRefusal true n r i ≡ 7
+    pub row-refused-7 : columnsFit cs ≡ true → isRun (long cs) r ≡ false → rowRefusal r i cs ≡ 7
     unfolding rowRefusal runRefusal
-    row-refused-7 h = rw h
+    row-refused-7 f h = rw (f, h)
 
-    pub row-refused-11 : isRun n r ≡ true → r .months ≤ i → rowRefusal true n r i ≡ 11
+    pub row-refused-11 : columnsFit cs ≡ true → isRun (long cs) r ≡ true → r .months ≤ i → rowRefusal r i cs ≡ 11
     unfolding rowRefusal runRefusal
-    row-refused-11 h l = rw (h, le-ltb i (r .months) l)
+    row-refused-11 f h l = rw (f, h, le-ltb i (r .months) l)
 
-    pub row-not-refused : isRun n r ≡ true → i < r .months → rowRefusal true n r i ≡ 0
+    pub row-not-refused : columnsFit cs ≡ true → isRun (long cs) r ≡ true → i < r .months → rowRefusal r i cs ≡ 0
     unfolding rowRefusal runRefusal
-    row-not-refused h l = rw (h, lt-ltb i (r .months) l)
+    row-not-refused f h l = rw (f, h, lt-ltb i (r .months) l)

@@ -24,7 +24,7 @@ use Rattle.outline.specs.Numbers.{lengthFits, zFits}
 use Rattle.runs.specs.declared.Run.{Run}
 use Rattle.refusals.specs.Columns.{Columns, long, lengthsFit, columnsFit}
 use Rattle.refusals.specs.Refusals.{runRefusal, roomRefusal, waterRefusal}
-use Rattle.outline.specs.Refusals.{badLists, notARun}
+use Rattle.outline.specs.Refusals.{badLists, notARun, orElse}
 use Rattle.adding.specs.Figures.{noFigures}
 use Rattle.drought.specs.Calls.{addOutcomes, addWater}
 use Rattle.adding.specs.Taken.{taken, takenWater}
@@ -145,7 +145,7 @@ module _ (r : Run) (ps pes : List ℤ) (cs : Columns) where
   unfolding seasonRefusal runRefusal
   season-refused-1-columns h = rw h (go (eqb (length ps) (length pes)))
     where
-      go : (t : Bool) → cond (t && false) (cond (isRun (long cs) r) 0 notARun) badLists ≡ 1
+      go : (t : Bool) → orElse (cond t 0 badLists) badLists ≡ 1
       go true = refl
       go false = refl
 

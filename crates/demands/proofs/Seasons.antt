@@ -131,8 +131,8 @@ made (p ∷ ps) (pe ∷ pes) t z =
     let u = addEach (next t p pe months) ps pes in
     let k = alone t p pe months .answer .number in
     ⊎-elim
-    (λ e. subst (Made t (ask t p pe months ∷ months)) (sym (on k u (stop t p pe months) e)) (made-more t p pe months u e (made ps pes (next t p pe months) refl)))
-    (λ h. subst (Made t (ask t p pe months ∷ months)) (sym (off k u (stop t p pe months) h)) (made-stop t p pe months h))
+    (λ e. subst (Made t (ask t p pe months ∷ months)) (sym (is-done k u (stop t p pe months) e)) (made-more t p pe months u e (made ps pes (next t p pe months) refl)))
+    (λ h. subst (Made t (ask t p pe months ∷ months)) (sym (is-refused k u (stop t p pe months) h)) (made-stop t p pe months h))
     (zero-or k)
 
 -- ---- from the first month on
@@ -145,11 +145,11 @@ module _ (r : Run) (ps pes : List ℤ) (cs : Columns) where
 
   refused : (seasonRefusal r ps pes cs ≡ 0 → ⊥) → addSeason r ps pes cs ≡ seasonResult (nothing (seasonRefusal r ps pes cs) r) cs
   unfolding addSeason
-  refused h = off (seasonRefusal r ps pes cs) (addEach first ps pes) _ h
+  refused h = is-refused (seasonRefusal r ps pes cs) (addEach first ps pes) _ h
 
   begins : seasonRefusal r ps pes cs ≡ 0 → addSeason r ps pes cs ≡ addEach first ps pes
   unfolding addSeason
-  begins z = on (seasonRefusal r ps pes cs) (addEach first ps pes) _ z
+  begins z = is-done (seasonRefusal r ps pes cs) (addEach first ps pes) _ z
 
   singly : seasonRefusal r ps pes cs ≡ 0 → Singly here (monthsOf ps pes) (addSeason r ps pes cs)
   singly z = subst (Singly here (monthsOf ps pes)) (sym (begins z)) go
@@ -184,7 +184,7 @@ empty : (r : Run) (cs : Columns) → addSeason r [] [] cs ≡ seasonResult (noth
 unfolding addSeason addEach
 empty r cs = go (seasonRefusal r [] [] cs)
   where
-    go : (k : ℕ) → onlyIf k (seasonResult (nothing 0 r) cs) (seasonResult (nothing k r) cs) ≡ seasonResult (nothing k r) cs
+    go : (k : ℕ) → unlessRefused k (seasonResult (nothing 0 r) cs) (seasonResult (nothing k r) cs) ≡ seasonResult (nothing k r) cs
     go zero = refl
     go (suc k) = refl
 
@@ -224,9 +224,9 @@ module _ (r : Run) (a : Ask) (cs : Columns) (t : Took r a cs) where
   unfolding taken
   one-beyond =
       let row = rowFor (stepOf (r .values) (zFor (stationOf r) a)) in
-      let l = lengths-are (long cs) (length (cs .x2)) (length (cs .x3)) (length (cs .index)) (length (cs .mark)) (t .good .fit) in
-      let wi = wrote-index r cs (t .good .fit) (t .good .run) (t .room) row in
-      let wm = wrote-mark r cs (t .good .fit) (t .good .run) (t .room) row in
+      let l = columns-are cs (t .good .fit) in
+      let wi = wrote-index r cs (t .good) (t .room) row in
+      let wm = wrote-mark r cs (t .good) (t .room) row in
       record {
         x1 = λ i h. ap (λ (c : List ℤ). getD c i (pos 0)) (x1-next r a cs t) ∙ getD-set-other (cs .x1) (r .months) i (row .x .x1) (pos 0) (apart i h);
         x2 = λ i h. ap (λ (c : List ℤ). getD c i (pos 0)) (x2-next r a cs t) ∙ getD-set-other (cs .x2) (r .months) i (row .x .x2) (pos 0) (apart i h);
@@ -276,8 +276,8 @@ addEach-honest (p ∷ ps) (pe ∷ pes) t z g =
     let k = alone t p pe months .answer .number in
     let a = ask t p pe months in
     ⊎-elim
-    (λ e. subst (λ (w : SeasonResult). Honest (w .answer .number)) (sym (on k u (stop t p pe months) e)) (addEach-honest ps pes (next t p pe months) refl (good-kept (t .answer .run) a (t .columns) (took (t .answer .run) (t .columns) a e))))
-    (λ h. subst (λ (w : SeasonResult). Honest (w .answer .number)) (sym (off k u (stop t p pe months) h)) (never-refused (t .answer .run) a (t .columns) g))
+    (λ e. subst (λ (w : SeasonResult). Honest (w .answer .number)) (sym (is-done k u (stop t p pe months) e)) (addEach-honest ps pes (next t p pe months) refl (good-kept (t .answer .run) a (t .columns) (took (t .answer .run) (t .columns) a e))))
+    (λ h. subst (λ (w : SeasonResult). Honest (w .answer .number)) (sym (is-refused k u (stop t p pe months) h)) (never-refused (t .answer .run) a (t .columns) g))
     (zero-or k)
 
 season-honest : (r : Run) (ps pes : List ℤ) (cs : Columns) → length ps ≡ length pes → Good r cs → Honest (addSeason r ps pes cs .answer .number)

@@ -8,6 +8,8 @@ use native.Mathlib.Omega.{arith}
 use lib.IntN.{ℤ, pos}
 use lib.ListN.{length, getD, take, replicate, length-append}
 use lib.Seq.{getD-take}
+use Rattle.starts.specs.declared.Started.{Started}
+use Rattle.outline.specs.Refusals.{unlessRefused}
 use Rattle.door.specs.Readings.{reading, month}
 use Rattle.door.specs.declared.Reading.{Reading}
 use Rattle.door.specs.declared.MonthInches.{MonthInches}
@@ -20,7 +22,7 @@ use Rattle.hindsight.specs.Adding.{addAll, addTo, addMonth, settledCount, Histo
 use Rattle.hindsight.specs.Columns.{rowsOf, stateOf as stateAfter}
 use Rattle.hindsight_laws.proofs.Hindsight.{every-index, every-mark, open-exactly, settled-stays, last-are-open, opens-counts, answers-settled, add-append}
 use Rattle.calendar.specs.Calendar.{constantsAt}
-use Rattle.starts.specs.Start.{startRefusal, startOf, freshRun, zeroRun, startedWith}
+use Rattle.starts.specs.Start.{startRefusal, startOf, freshRun, zeroRun, started}
 use Rattle.runs.specs.declared.Run.{Run}
 use Rattle.refusals.specs.Columns.{Columns, long, columnsFit}
 use Rattle.refusals.specs.Refusals.{waterRefusal, zRefusal}
@@ -37,23 +39,26 @@ use Rattle.demands.proofs.Sequence.{held-all, months-all, values-stay, 
 -- ---- 1. "Every reading, constant, month and list gets its answer or a numbered refusal. Nobody has to check beforehand. A refused call
 -- hands back any run it was given and writes nothing."
 
-unless-answers : (k : ℕ) (r : Run) (cs : Columns) (done : Result) → done .answer .number ≡ 0 → Answers r cs k (unless k r cs done)
+unless-answers : (k : ℕ) (r : Run) (cs : Columns) (done : Result) → done .answer .number ≡ 0 → Answers r cs k (answered k r cs done)
 unless-answers zero r cs done h = (h, λ f. absurd (f refl))
 unless-answers (suc k) r cs done h = (refl, λ f. (refl, refl, refl, refl))
 
 -- an add answers with its number, and where that is a refusal it hands the run back and leaves every lent list as it was
 pub refused-add : (r : Run) (a : Ask) (cs : Columns) → Answers r cs (numberOf r a cs) (asked r a cs)
 unfolding addWater addInches addOutcomes addZ takenWater taken
-refused-add r (water p pe) cs = unless-answers (waterRefusal (columnsFit cs) (long cs) r (reading p .number) (reading pe .number)) r cs (takenWater r (reading p .water) (reading pe .water) cs) refl
-refused-add r (inches q) cs = unless-answers (waterRefusal (columnsFit cs) (long cs) r (month q .p .number) (month q .pe .number)) r cs (takenWater r (month q .p .water) (month q .pe .water) cs) refl
-refused-add r (anomaly z) cs = unless-answers (zRefusal (columnsFit cs) (long cs) r z) r cs (takenZ r z cs) refl
+refused-add r (water p pe) cs = unless-answers (waterRefusal r (reading p .number) (reading pe .number) cs) r cs (takenWater r (reading p .water) (reading pe .water) cs) refl
+refused-add r (inches q) cs = unless-answers (waterRefusal r (month q .p .number) (month q .pe .number) cs) r cs (takenWater r (month q .p .water) (month q .pe .water) cs) refl
+refused-add r (anomaly z) cs = unless-answers (zRefusal r z cs) r cs (takenZ r z cs) refl
 
 -- a start answers with its number, and a refused one with a run of all zeros
 pub refused-start : (cs : List ℤ) (c ss su m : ℤ) → (startOf cs c ss su m .number ≡ startRefusal cs c ss su m) × ((startRefusal cs c ss su m ≡ 0 → ⊥) → startOf cs c ss su m .run ≡ zeroRun)
 unfolding startOf
 refused-start cs c ss su m = go (startRefusal cs c ss su m)
   where
-    go : (k : ℕ) → (startedWith k (freshRun cs c ss su m) .number ≡ k) × ((k ≡ 0 → ⊥) → startedWith k (freshRun cs c ss su m) .run ≡ zeroRun)
+    begun : ℕ → Started
+    begun k = unlessRefused k (started 0 (freshRun cs c ss su m)) (started k zeroRun)
+
+    go : (k : ℕ) → (begun k .number ≡ k) × ((k ≡ 0 → ⊥) → begun k .run ≡ zeroRun)
     go zero = (refl, λ f. absurd (f refl))
     go (suc k) = (refl, λ f. refl)
 
@@ -77,7 +82,7 @@ balanced : (r : Run) (a : Ask) (cs : Columns) (p pe : ℕ) → (t : Took r a cs)
     → waterFor (stationOf r) a ≡ waterFigures p pe (watered (stationOf r) p pe) → soilFor (stationOf r) a ≡ soilAfter (r .soil) (watered (stationOf r) p pe) → Balances r (asked r a cs)
 unfolding taken
 balanced r a cs p pe t w s =
-    let f = run-is r cs (t .good .fit) (t .good .run) .soil in
+    let f = run-is r cs (t .good) .soil in
     subst (Balances r) (sym (t .did)) (rw (w, s) (month-water-kept (r .soil) p pe (constantsAt (r .constants) (r .calendar)) f))
 
 pub water-balances : (r : Run) (p pe : Reading) (cs : Columns) → asked r (water p pe) cs .answer .number ≡ 0 → Balances r (asked r (water p pe) cs)

@@ -8,7 +8,8 @@ use native.Mathlib.Omega.{arith}
 use lib.IntN.{ℤ}
 use lib.ListN.{length, take, length-map}
 use borrow.Author.Tests.{lt-ltb}
-use Rattle.hindsight.specs.Rule.{Row}
+use Rattle.outline.specs.Refusals.{unlessRefused}
+use Rattle.hindsight.specs.Rule.{Row, forwardIndexes, forwardMarks}
 use Rattle.hindsight.specs.Adding.{addAll, History}
 use Rattle.hindsight.specs.Columns.{rowsOf}
 use Rattle.hindsight.specs.Months.{nextValues, rowOfZ, rowsOfZ}
@@ -18,7 +19,7 @@ use Rattle.starts.specs.Start.{startRefusal, freshRun}
 use Rattle.runs.specs.declared.Run.{Run}
 use Rattle.outline.proofs.Tests.{first, second}
 use Rattle.starts.proofs.Theorems.{start-is-run}
-use Rattle.series.specs.Series.{allZFit, seriesRefusal, filled, filledWith, wholeSeries}
+use Rattle.series.specs.Series.{allZFit, seriesRefusal, filled, wholeSeries}
 use Rattle.refusals.specs.Columns.{Columns, long, columnsFit}
 use Rattle.refusals.specs.Good.{Good}
 use Rattle.refusals.specs.Refusals.{runRefusal, roomRefusal, zRefusal}
@@ -40,7 +41,7 @@ unfolding zRefusal runRefusal roomRefusal
 accepts-z r cs z g room f = refused-add r (anomaly z) cs .0 ∙ rw (g .fit, g .run, f, lt-ltb _ _ room)
 
 long-after : (r : Run) (cs : Columns) (a : Ask) → Took r a cs → long (asked r a cs .columns) ≡ long cs
-long-after r cs a t = ap (λ (b : Result). long (b .columns)) (t .did) ∙ long-kept r cs (t .good .fit) (t .good .run) (t .room) _ (t .soil) _ _ (t .z)
+long-after r cs a t = ap (λ (b : Result). long (b .columns)) (t .did) ∙ long-kept r cs (t .good) (t .room) _ (t .soil) _ _ (t .z)
 
 -- so are all of a list, while there is room
 accepts-all : (s : State) (zs : List ℤ) → Good (s .run) (s .columns) → s .run .months + length zs ≤ long (s .columns) → allZFit zs ≡ true → Accepted s (map anomaly zs)
@@ -69,7 +70,7 @@ module _ (constants : List ℤ) (c ss su m : ℤ) (cs : Columns) (started : star
       let n : s .run .months ≡ length zs = months-all begun (map anomaly zs) h ∙ zero-more (length (map anomaly zs)) ∙ length-map zs anomaly in
       let u : heldBy (s .run) (s .columns) ≡ addAll (rowsOfZ zs) = held-all begun (map anomaly zs) h ∙ ap addAll (rows-same (stationOf (freshRun constants c ss su m)) zs) in
       let a = series-is-adding (rowsOfZ zs) in
-      ap (λ (k : ℕ). filledWith k (rowsOfZ zs) index mark) none
+      ap (λ (k : ℕ). unlessRefused k (filled 0 (forwardIndexes (rowsOfZ zs)) (forwardMarks (rowsOfZ zs))) (filled k index mark)) none
       ∙ ap₂ (λ (i : List ℤ) (k : List ℕ). filled 0 i k) (a .0 ∙ sym (ap (λ (v : History). v .index) u)) (a .1 ∙ sym (ap (λ (v : History). v .mark) u))
       ∙ ap (λ (k : ℕ). filled 0 (take k (s .columns .index)) (take k (s .columns .mark))) n
     where

@@ -56,10 +56,10 @@ module _ (r : Run) (cs : Columns) where
   took (water p pe) h = took-water (water p pe) (reading p) (reading pe) (reading-most p) (reading-most pe) refl refl refl refl h
   took (inches q) h = took-water (inches q) (month q .p) (month q .pe) (inches-most (q .p)) (inches-most (q .pe)) refl refl refl refl h
   took (anomaly z) h =
-      let u = unless-zero (zRefusal (columnsFit cs) (long cs) r z) r cs (takenZ r z cs) h in
-      let g = z-passes (columnsFit cs) (long cs) r z (u .0) in
-      let f = run-is r cs (g .0 .0) (g .0 .1) in
-      record { good = record { fit = g .0 .0; run = g .0 .1 }; room = g .1; soil = f .soil; z = g .2; did = u .1 }
+      let u = answered-zero (zRefusal r z cs) r cs (takenZ r z cs) h in
+      let g = z-passes r cs z (u .0) in
+      let f = run-is r cs (g .0) in
+      record { good = g .0; room = g .1; soil = f .soil; z = g .2; did = u .1 }
 
 -- ---- what a taken month leaves
 module _ (r : Run) (a : Ask) (cs : Columns) (t : Took r a cs) where
@@ -102,11 +102,11 @@ module _ (r : Run) (a : Ask) (cs : Columns) (t : Took r a cs) where
   unfolding taken
   held-next =
       let s = stepOf (r .values) (zFor (stationOf r) a) in
-      let l = lengths-are (long cs) (length (cs .x2)) (length (cs .x3)) (length (cs .index)) (length (cs .mark)) (t .good .fit) in
+      let l = columns-are cs (t .good .fit) in
       let q = row-is s (decisionNumber (s .decision)) refl in
       let row = rowOf (s .after .x1) (s .after .x2) (s .after .x3) (decisionNumber (s .decision)) (s .index) in
-      let i = wrote-index r cs (t .good .fit) (t .good .run) (t .room) row in
-      let m = wrote-mark r cs (t .good .fit) (t .good .run) (t .room) row in
+      let i = wrote-index r cs (t .good) (t .room) row in
+      let m = wrote-mark r cs (t .good) (t .room) row in
       let h = t .room in
       ap (λ (b : Result). heldBy (b .answer .run) (b .columns)) (t .did)
       ∙ subst (λ (row : Row). historyIn (set (cs .x1) (r .months) (s .after .x1)) (set (cs .x2) (r .months) (s .after .x2)) (set (cs .x3) (r .months) (s .after .x3)) (addMonth (heldBy r cs) row .index ++ drop (suc (r .months)) (cs .index)) (addMonth (heldBy r cs) row .mark ++ drop (suc (r .months)) (cs .mark)) (suc (r .months)) (addMonth (heldBy r cs) row .opens) ≡ addMonth (heldBy r cs) row) q

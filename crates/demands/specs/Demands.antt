@@ -31,9 +31,9 @@ use Rattle.demands.specs.Months.{Ask, water, inches, anomaly, asked, Sta
 
 -- the number that an add gives: 0, or the first refusal in the paper's order
 abbrev pub numberOf : Run → Ask → Columns → ℕ
-numberOf r (water p pe) cs = waterRefusal (columnsFit cs) (long cs) r (reading p .number) (reading pe .number)
-numberOf r (inches q) cs = waterRefusal (columnsFit cs) (long cs) r (month q .p .number) (month q .pe .number)
-numberOf r (anomaly z) cs = zRefusal (columnsFit cs) (long cs) r z
+numberOf r (water p pe) cs = waterRefusal r (reading p .number) (reading pe .number) cs
+numberOf r (inches q) cs = waterRefusal r (month q .p .number) (month q .pe .number) cs
+numberOf r (anomaly z) cs = zRefusal r z cs
 
 -- an answer with that number; a refusal hands back the run, leaves the columns, settles nothing, and its figures are all 0
 abbrev pub Answers : Run → Columns → ℕ → Result → Type 0
