@@ -1,14 +1,15 @@
--- `layout::read_heading`: each of the four parts is digits, or the heading is malformed. Assumes nothing.
+-- `layout::read_heading`: each of the four parts is digits, or the first that is not is told. Assumes nothing.
 use borrow.Author.Needs.{needs}
 use mathlib.Core.Path.{_≡_, sym, _∙_}
 use mathlib.Core.Bool.{true}
 use mathlib.Core.List.{List}
 use Prim.Native.Nat.{ℕ}
 use Rattle.text.specs.Bytes.{allDigits, natural}
-use Rattle.layout.specs.Columns.{state, division, element, year}
+use Rattle.months.specs.Columns.{state, division, element, year}
 use Rattle.layout.specs.Rainfall.{headed}
+use Rattle.layout.specs.Fault.{firstTold, headingFault}
 use Rattle.layout.specs.Steps.{headingOf}
-use Rattle.layout.proofs.Naturals.{made-digits, other-digits}
+use Rattle.fields.proofs.Naturals.{made-digits, other-digits}
 use Rattle.layout.proofs.read_heading.Statement.{statement}
 use Rattle.layout.proofs.read_heading.Tie as tie
 
@@ -81,7 +82,7 @@ enum-told : tie.Need-enum-told
 enum-told c = search needs
 
 returns : tie.Need-returns
-unfolding headingOf headed
+unfolding headingOf headed headingFault firstTold
 returns c = rw (other-digits _ (sym (c .before .before .number-of .ensures) ∙ c .enum-told .given .1))
 
 sub-number-of-2 : tie.Need-sub-number-of-2
@@ -103,7 +104,7 @@ enum-told-2 : tie.Need-enum-told-2
 enum-told-2 c = search needs
 
 returns-2 : tie.Need-returns-2
-unfolding headingOf headed
+unfolding headingOf headed headingFault firstTold
 returns-2 c =
     let n = c .before .before in
     rw (states (first n) .0, other-digits _ (sym (n .number-of2 .ensures) ∙ c .enum-told2 .given .1))
@@ -127,7 +128,7 @@ enum-told-3 : tie.Need-enum-told-3
 enum-told-3 c = search needs
 
 returns-3 : tie.Need-returns-3
-unfolding headingOf headed
+unfolding headingOf headed headingFault firstTold
 returns-3 c =
     let n = c .before .before in
     let d = second n in
@@ -152,7 +153,7 @@ enum-told-4 : tie.Need-enum-told-4
 enum-told-4 c = search needs
 
 returns-4 : tie.Need-returns-4
-unfolding headingOf headed
+unfolding headingOf headed headingFault firstTold
 returns-4 c =
     let n = c .before .before in
     let e = third n in
