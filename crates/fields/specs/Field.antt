@@ -1,24 +1,17 @@
 -- A value: "Fortran F7.2: seven characters, right-justified, blank-padded on the left, the decimal point in the fifth column of the field, two
 -- decimals after it". As other writers print it, "a zero before the point may be left out". So the four columns before the point hold spaces,
 -- then perhaps a minus, then the digits of a whole number with no zero too many in front, or no digit. Assumes nothing.
-use Prim.Native.Nat.{ℕ, _+_, _*_, _-_}
+use Prim.Native.Nat.{ℕ, _+_, _*_}
 use mathlib.Core.Bool.{Bool, true, cond, not, _&&_}
 use mathlib.Core.List.{List, [], _∷_}
-use lib.ListN.{take, drop, getD}
+use lib.ListN.{getD}
 use lib.Dec.{eqb}
 use Rattle.text.specs.Bytes.{space, point, digitZero, allDigits, negative, body, natural}
+use Rattle.fields.specs.Columns.{columns}
 use Rattle.fields.specs.declared.Digits.{Digits}
 use Rattle.fields.specs.declared.Digits.the-variants.{Make, Other}
 use Rattle.fields.specs.declared.Field.{Field}
 use Rattle.fields.specs.declared.Field.the-variants.{Number, Malformed}
-
--- the columns from one to another, both counted from 1, both within
-abbrev pub columns : ℕ → ℕ → List ℕ → List ℕ
-columns from to line = take (to + 1 - from) (drop (from - 1) line)
-
--- "seven characters"
-abbrev pub width : ℕ
-width = 7
 
 -- the number that bytes make, if they are digits
 unfoldable pub digitsOf : List ℕ → Digits

@@ -1,13 +1,15 @@
-// A field of the nClimDiv layout: a value of seven characters, and the digits that stand without a point.
+// The fields of a line in the nClimDiv layout, each by itself: digits, values of seven characters, and spaces.
 //
-// Document 02, E1: "values of seven characters". What a value is stands in specs/Field.antt. Everything here is for
-// the crates that read a line, which hand in parts of the length that is asked for.
+// Document 02, E1: "state, division, element and year in the first ten columns, then twelve values of seven
+// characters". What stands in which column is specs/Columns.antt, and what a value is specs/Field.antt. Everything here
+// is for the crates that read a line, which hand in parts of the length that is asked for.
 
 ghost use mathlib.Core.Path.{_≡_};
 ghost use Prim.Native.Nat.{_≤_};
 ghost use lib.ListN.{length};
 ghost use Rattle.text.specs.Bytes.{allSpaces, negative, body};
-ghost use Rattle.fields.specs.Field.{width, digitsOf, unpadded, plain, fieldOf};
+ghost use Rattle.fields.specs.Columns.{width};
+ghost use Rattle.fields.specs.Field.{digitsOf, unpadded, plain, fieldOf};
 
 // What a value's seven characters say: whether there is a minus, and the hundredths.
 pub enum Field {
@@ -21,8 +23,21 @@ pub enum Digits {
     Other,
 }
 
-// The characters of a value.
+// The layout: the columns before the first value, the values, the columns of a value, and the last column of the last.
+pub const HEADING: usize = 10;
+
+pub const MONTHS: usize = 12;
+
 pub const WIDTH: usize = 7;
+
+pub const LAST_COLUMN: usize = 94;
+
+// The refusals: no line of the layout or no precipitation, another state, division or element, and not the year.
+pub const MALFORMED: u8 = 14;
+
+pub const OTHER_LINE: u8 = 15;
+
+pub const NOT_THE_YEAR: u8 = 16;
 
 // ---- digits and spaces
 

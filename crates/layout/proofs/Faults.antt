@@ -3,54 +3,25 @@
 use mathlib.Core.Path.{_≡_, refl, sym, _∙_}
 use mathlib.Core.Bool.{Bool, true, false, not, _&&_, and-false}
 use mathlib.Core.List.{List, [], _∷_, map}
-use Prim.Native.Nat.{ℕ, zero, suc, _+_, _≤_, _<_}
+use Prim.Native.Nat.{ℕ, _+_, _≤_, _<_}
 use native.Mathlib.Omega.{arith}
-use lib.Dec.{leb, eqb, eqb·suc-zero}
+use lib.Dec.{leb, eqb}
 use lib.ListN.{length}
-use borrow.Author.Tests.{ne-eqb, eqb-true, eqb-false, le-leb, lt-leb}
-use Rattle.text.specs.Bytes.{allDigits, allSpaces, natural}
-use Rattle.fields.specs.Field.{width}
-use Rattle.months.specs.Columns.{state, division, element, year, firstValue, lastColumn, after}
+use borrow.Author.Tests.{ne-eqb, eqb-true, le-leb, lt-leb}
+use Rattle.text.specs.Bytes.{allSpaces, natural}
+use Rattle.fields.specs.Columns.{element, firstValue, width, lastColumn, after}
 use Rattle.months.specs.Months.{monthsOf, isMalformed, isOutside, some, firstBad}
 use Rattle.months.specs.Steps.{foundIn}
 use Rattle.months.specs.declared.Found.{Found}
 use Rattle.months.specs.declared.Month.{Month}
 use Rattle.months.specs.declared.Month.the-variants.{Amount, Missing, Outside, Malformed}
-use Rattle.layout.specs.Rainfall.{precipitation, headed, isLine, rainFits}
-use Rattle.layout.specs.Fault.{unless, firstTold, headingFault, monthsFault, faultOf}
+use Rattle.heading.specs.Heading.{precipitation, headed, unless, firstTold, headingFault}
+use Rattle.heading.proofs.Headings.{told-first, told-on, told-none, unless-none, heading-tells, heading-told}
+use Rattle.layout.specs.Rainfall.{isLine, rainFits}
+use Rattle.layout.specs.Fault.{monthsFault, faultOf}
 use Rattle.layout.specs.Steps.{foundFault, restFault}
 
--- ---- the first column that is told
-told-first : (k : ℕ) (ks : List ℕ) → (k ≡ 0 → ⊥) → firstTold (k ∷ ks) ≡ k
-unfolding firstTold
-told-first zero ks h = absurd (h refl)
-told-first (suc k) ks h = refl
-
-told-on : (ks : List ℕ) → firstTold (0 ∷ ks) ≡ firstTold ks
-unfolding firstTold
-told-on ks = refl
-
-told-none : (k : ℕ) (ks : List ℕ) → eqb (firstTold (k ∷ ks)) 0 ≡ (eqb k 0 && eqb (firstTold ks) 0)
-unfolding firstTold
-told-none zero ks = refl
-told-none (suc k) ks = rw (eqb·suc-zero k)
-
-unless-none : (good : Bool) (k : ℕ) → eqb (unless good (k + 1)) 0 ≡ good
-unless-none true k = refl
-unless-none false k = ne-eqb (k + 1) 0 (λ e. omega arith)
-
-parts-tell : (s d e y : Bool) → eqb (firstTold (unless s 1 ∷ unless d 3 ∷ unless e 5 ∷ unless y 7 ∷ [])) 0 ≡ (s && d && e && y)
-unfolding firstTold
-parts-tell false d e y = refl
-parts-tell true false e y = refl
-parts-tell true true false y = refl
-parts-tell true true true false = refl
-parts-tell true true true true = refl
-
-heading-tells : (line : List ℕ) → eqb (headingFault line) 0 ≡ headed line
-unfolding headingFault headed
-heading-tells line = parts-tell (allDigits (state line)) (allDigits (division line)) (allDigits (element line)) (allDigits (year line))
-
+-- ---- months at fault
 months-tell : (rain : Bool) (k : ℕ) (ms : List Month) → 1 ≤ k → eqb (firstBad rain k ms) 0 ≡ (not (some (map isMalformed ms)) && not (rain && some (map isOutside ms)))
 unfolding firstBad some
 months-tell true k [] h = refl
@@ -65,9 +36,6 @@ months-tell rain k (Malformed ∷ ms) h = ne-eqb k 0 (λ e. omega arith)
 pub at-length : (line : List ℕ) → length line < lastColumn → faultOf line ≡ length line + 1
 unfolding faultOf
 at-length line h = rw (lt-leb lastColumn (length line) h) (told-first (length line + 1) _ (λ e. omega arith))
-
-pub heading-told : (line : List ℕ) → headed line ≡ false → headingFault line ≡ 0 → ⊥
-heading-told line e = eqb-false (headingFault line) 0 (heading-tells line ∙ e)
 
 module _ (line : List ℕ) (h : lastColumn ≤ length line) where
   pub at-heading : headed line ≡ false → faultOf line ≡ headingFault line

@@ -8,19 +8,14 @@ use mathlib.Core.List.{List, map}
 use lib.ListN.{length, replicate}
 use lib.Dec.{leb, eqb}
 use Rattle.text.specs.Bytes.{allDigits, allSpaces, natural}
-use Rattle.months.specs.Columns.{state, division, element, year, headingColumns, monthsOfYear, lastColumn, after}
+use Rattle.fields.specs.Columns.{state, division, element, year, headingColumns, monthsOfYear, lastColumn, after}
+use Rattle.fields.specs.Refusals.{malformed, another, notTheYear}
 use Rattle.months.specs.Months.{monthsOf, isMalformed, isOutside, isPresent, amountOf, some, setOf, countOf, firstMissing}
 use Rattle.months.specs.declared.Month.{Month}
+use Rattle.heading.specs.Heading.{precipitation, headed}
 use Rattle.layout.specs.declared.Year.{Year}
 
 -- ---- the refusals
--- "Precipitation is element 01"
-abbrev pub precipitation : ℕ
-precipitation = 1
-
-unfoldable pub headed : List ℕ → Bool
-headed line = allDigits (state line) && allDigits (division line) && allDigits (element line) && allDigits (year line)
-
 -- "spaces after the last value are ignored"
 unfoldable pub isLine : List ℕ → Bool
 isLine line = leb lastColumn (length line) && headed line && not (some (map isMalformed (monthsOf line))) && allSpaces (after line)
@@ -34,15 +29,6 @@ isNamed line s d = eqb (natural (state line)) s && eqb (natural (division line))
 
 unfoldable pub isYear : List ℕ → ℕ → Bool
 isYear line y = eqb (natural (year line)) y
-
-abbrev pub malformed : ℕ
-malformed = 14
-
-abbrev pub another : ℕ
-another = 15
-
-abbrev pub notTheYear : ℕ
-notTheYear = 16
 
 -- "in that order"
 unfoldable pub refusal : List ℕ → ℕ → ℕ → ℕ → ℕ

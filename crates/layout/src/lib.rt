@@ -2,22 +2,26 @@
 //
 // Document 02, E1: "Read precipitation lines one a call, without the line feed, for a named state, division and
 // expected year; spaces after the last value are ignored." What a line says is specs/Rainfall.antt, and where it is at
-// fault specs/Fault.antt; the values and their months are read by the crates `fields` and `months`.
+// fault specs/Fault.antt; its heading, its values and their months are read by the crates below.
 use fields::Digits;
+use fields::HEADING;
+use fields::LAST_COLUMN;
+use fields::MALFORMED;
+use fields::MONTHS;
+use heading::Heading;
+use heading::PRECIPITATION;
 use months::Found;
-use months::HEADING;
-use months::MONTHS;
 ghost use mathlib.Core.Path.{_≡_};
 ghost use Prim.Native.Nat.{_≤_};
 ghost use lib.ListN.{length};
 ghost use Rattle.text.specs.Bytes.{natural};
-ghost use Rattle.months.specs.Columns.{element, lastColumn};
+ghost use Rattle.fields.specs.Columns.{element, lastColumn};
 ghost use Rattle.months.specs.Months.{monthsOf};
 ghost use Rattle.months.specs.Steps.{foundIn};
 ghost use Rattle.layout.specs.Rainfall.{refusal, yearSaid, yearOf};
 ghost use Rattle.layout.specs.Rainfall.{refused as refusedYear};
 ghost use Rattle.layout.specs.Fault.{faultOf};
-ghost use Rattle.layout.specs.Steps.{headingOf, foundFault, restFault, headingRefusal};
+ghost use Rattle.layout.specs.Steps.{foundFault, restFault};
 
 // What a line says of its year.
 pub struct Year {
@@ -33,50 +37,7 @@ pub struct Year {
     pub first_missing: u32,
 }
 
-// The first ten columns.
-enum Heading {
-    // State, division, element and year.
-    Of(u32, u32, u32, u32),
-    // The column where the first part begins that is no digits.
-    At(u32),
-}
-
-// The last column of the last value.
-pub const LAST_COLUMN: usize = 94;
-
-const PRECIPITATION: u32 = 1;
-
-// The refusals.
-pub const MALFORMED: u8 = 14;
-
-pub const OTHER_LINE: u8 = 15;
-
-pub const NOT_THE_YEAR: u8 = 16;
-
-// ---- the fields of a line, in their order
-
-fn read_heading(line: &[u8]) -> Heading
-    requires { ⌜ lastColumn ≤ length (now line) ⌝ }
-    ensures { λ r. ⌜ r ≡ headingOf (now (line .entry)) ⌝ }
-{
-    let first = fields::number_of(&line[0..2]);
-    let Digits::Make(state) = first else {
-        return Heading::At(1);
-    };
-    let second = fields::number_of(&line[2..4]);
-    let Digits::Make(division) = second else {
-        return Heading::At(3);
-    };
-    let third = fields::number_of(&line[4..6]);
-    let Digits::Make(element) = third else {
-        return Heading::At(5);
-    };
-    let fourth = fields::number_of(&line[6..10]);
-    let Digits::Make(year) = fourth else {
-        return Heading::At(7);
-    };
-    Heading::Of(state, division, element, year)
-}
+// ---- where a line is at fault
 
 // The column where the first month at fault begins, or 0: only the values of a precipitation line have a range.
 fn months_fault(found: Found, e: u32) -> u32
@@ -107,39 +68,20 @@ fn rest_fault(line: &[u8], found: Found, e: u32) -> u32
 
 // ---- the refusals
 
-// 15 or 16, or 0, of a heading's state s, division d, element e and year y, and what is asked for.
-fn heading_refusal(s: u32, d: u32, e: u32, y: u32, state: u32, division: u32, year: u32) -> u8
-    ensures { λ r. ⌜ r ≡ headingRefusal s d e y state division year ⌝ }
-{
-    if s != state {
-        return OTHER_LINE;
-    }
-    if d != division {
-        return OTHER_LINE;
-    }
-    if e != PRECIPITATION {
-        return OTHER_LINE;
-    }
-    if y != year {
-        return NOT_THE_YEAR;
-    }
-    0
-}
-
 // The refusal of a line that is long enough, whose months are found.
 fn line_refusal(line: &[u8], found: Found, state: u32, division: u32, year: u32) -> u8
     requires { ⌜ lastColumn ≤ length (now line) ⌝ }
     requires { ⌜ found ≡ foundIn (monthsOf (now line)) ⌝ }
     ensures { λ r. ⌜ r ≡ refusal (now (line .entry)) state division year ⌝ }
 {
-    let heading = read_heading(line);
+    let heading = heading::read_heading(line);
     let Heading::Of(s, d, e, y) = heading else {
         return MALFORMED;
     };
     if rest_fault(line, found, e) != 0 {
         return MALFORMED;
     }
-    heading_refusal(s, d, e, y, state, division, year)
+    heading::heading_refusal(s, d, e, y, state, division, year)
 }
 
 // ---- the answers
@@ -204,7 +146,7 @@ pub fn fault(line: &[u8]) -> u32
     if line.len() < LAST_COLUMN {
         return line.len() as u32 + 1;
     }
-    let heading = read_heading(line);
+    let heading = heading::read_heading(line);
     match heading {
         Heading::At(column) => column,
         Heading::Of(_, _, e, _) => {

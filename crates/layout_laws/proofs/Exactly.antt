@@ -8,12 +8,13 @@ use native.Mathlib.Nat.{pow-suc, mul-comm, div-div-eq-div-mul}
 use native.Mathlib.Omega.{arith}
 use lib.Dec.{eqb}
 use lib.ListN.{length, getD, length-map, List·getD-map}
-use Rattle.months.specs.Columns.{monthsOfYear}
+use Rattle.fields.specs.Columns.{monthsOfYear}
+use Rattle.fields.specs.Refusals.{malformed, another, notTheYear}
 use Rattle.months.specs.Months.{monthsOf, isPresent, amountOf, bit, setOf}
 use Rattle.months.specs.declared.Month.the-variants.{Missing, Malformed}
 use Rattle.months.proofs.Sets.{first-rest}
 use Rattle.months.proofs.Months.{months-twelve}
-use Rattle.layout.specs.Rainfall.{isLine, rainFits, isNamed, isYear, malformed, another, notTheYear, refusal, told, answered, yearSaid}
+use Rattle.layout.specs.Rainfall.{isLine, rainFits, isNamed, isYear, refusal, told, answered, yearSaid}
 use Rattle.layout.specs.Fault.{faultOf}
 use Rattle.layout.specs.declared.Year.{Year}
 use Rattle.layout.proofs.Faults.{fault-tells}

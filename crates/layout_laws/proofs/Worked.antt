@@ -7,10 +7,12 @@ use Prim.Native.Nat.{ℕ}
 use lib.ListN.{take, set}
 use Rattle.text.specs.Bytes.{isDigit, allDigits, allSpaces, negative, body, natural}
 use Rattle.fields.specs.Field.{unpadded, plain, ahead, units, wellFormed, hundredths, fieldOf}
-use Rattle.months.specs.Columns.{values}
+use Rattle.fields.specs.Columns.{values}
+use Rattle.fields.specs.Refusals.{another, notTheYear}
 use Rattle.months.specs.Months.{isMark, inRange, rainOf, monthOf, monthsOf, some, setOf, countOf, firstMissing, firstBad}
-use Rattle.layout.specs.Rainfall.{another, notTheYear, headed, isLine, rainFits, isNamed, isYear, refusal, refused, yearSaid, yearOf}
-use Rattle.layout.specs.Fault.{firstTold, headingFault, monthsFault, faultOf}
+use Rattle.heading.specs.Heading.{headed, firstTold, headingFault}
+use Rattle.layout.specs.Rainfall.{isLine, rainFits, isNamed, isYear, refusal, refused, yearSaid, yearOf}
+use Rattle.layout.specs.Fault.{monthsFault, faultOf}
 use Rattle.months.specs.declared.Month.the-variants.{Amount, Missing, Outside, Malformed}
 
 abbrev pub published : List ℕ

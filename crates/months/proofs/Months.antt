@@ -5,8 +5,7 @@ use mathlib.Core.List.{List, [], _∷_, _++_, map, map-append}
 use Prim.Native.Nat.{ℕ, zero, suc, _+_, _*_, _^_, _≤_, _<_}
 use native.Mathlib.Omega.{arith}
 use lib.ListN.{length, take, drop, getD, length-map}
-use Rattle.fields.specs.Field.{width}
-use Rattle.months.specs.Columns.{values, headingColumns, firstValue, monthsOfYear}
+use Rattle.fields.specs.Columns.{values, headingColumns, firstValue, monthsOfYear, width}
 use Rattle.months.specs.Months.{monthOf, monthsOf, isPresent, setOf, badMonth, firstBad}
 use Rattle.months.specs.Steps.{foundIn, earlier, andMonth}
 use Rattle.months.specs.declared.Found.{Found}

@@ -11,7 +11,7 @@ use lib.Dec.{eqb}
 use lib.ListN.{length}
 use borrow.Author.Tests.{eqb-true, eqb-false}
 use Rattle.months.specs.Months.{bit, setOf, countOf, firstMissing}
-use Rattle.months.specs.Columns.{monthsOfYear}
+use Rattle.fields.specs.Columns.{monthsOfYear}
 use Rattle.months.specs.Steps.{allMonths, lowestMissing}
 
 -- ---- the set's range, and one month more

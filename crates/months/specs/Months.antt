@@ -5,10 +5,10 @@ use Prim.Native.Nat.{ℕ, _+_, _*_}
 use mathlib.Core.Bool.{Bool, true, false, cond, not, _&&_, _||_}
 use mathlib.Core.List.{List, [], _∷_, map}
 use lib.Dec.{leb, eqb}
-use Rattle.fields.specs.Field.{width, fieldOf}
+use Rattle.fields.specs.Columns.{width, values}
+use Rattle.fields.specs.Field.{fieldOf}
 use Rattle.fields.specs.declared.Field.{Field}
 use Rattle.fields.specs.declared.Field.the-variants as field
-use Rattle.months.specs.Columns.{values}
 use Rattle.months.specs.declared.Month.{Month}
 use Rattle.months.specs.declared.Month.the-variants.{Amount, Missing, Outside, Malformed}
 

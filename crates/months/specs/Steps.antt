@@ -5,7 +5,7 @@ use mathlib.Core.Bool.{true, false, cond}
 use mathlib.Core.List.{List, map}
 use lib.Count.{trailingZeros}
 use lib.Dec.{eqb}
-use Rattle.months.specs.Columns.{firstValue}
+use Rattle.fields.specs.Columns.{firstValue}
 use Rattle.months.specs.Months.{isPresent, setOf, firstBad}
 use Rattle.months.specs.declared.Month.{Month}
 use Rattle.months.specs.declared.Month.the-variants.{Amount, Missing, Outside, Malformed}

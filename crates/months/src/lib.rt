@@ -1,16 +1,16 @@
 // The twelve values of a line of the nClimDiv layout, read as months of precipitation.
 //
-// Document 02, E1: "twelve values of seven characters". What stands in which column is specs/Columns.antt, what a
-// value says of its month and what the months make specs/Months.antt. Everything here is for the crate `layout`, which
-// hands in lines that are long enough.
+// Document 02, E1: "twelve values of seven characters". What a value says of its month and what the months make is
+// specs/Months.antt. Everything here is for the crate `layout`, which hands in lines that are long enough.
 use fields::Field;
+use fields::HEADING;
+use fields::MONTHS;
 use fields::WIDTH;
 ghost use mathlib.Core.Path.{_≡_};
 ghost use mathlib.Core.List.{map};
 ghost use Prim.Native.Nat.{_+_, _≤_, _<_, _^_};
 ghost use lib.ListN.{length};
-ghost use Rattle.fields.specs.Field.{width};
-ghost use Rattle.months.specs.Columns.{monthsOfYear, lastColumn};
+ghost use Rattle.fields.specs.Columns.{width, monthsOfYear, lastColumn};
 ghost use Rattle.months.specs.Months.{rainOf, monthOf, monthsOf, amountOf};
 ghost use Rattle.months.specs.Steps.{earlier, andMonth, foundIn, allMonths, lowestMissing};
 
@@ -35,12 +35,6 @@ pub struct Found {
     // The set of months present.
     pub present: u32,
 }
-
-// The months of a year.
-pub const MONTHS: usize = 12;
-
-// The columns before the first value.
-pub const HEADING: usize = 10;
 
 // The missing mark's size, -9.99 inches, and the most that a month may have, 100 inches.
 const MARK: u32 = 999;

@@ -4,11 +4,12 @@ use mathlib.Core.Path.{_≡_, sym, _∙_}
 use mathlib.Core.List.{List}
 use Prim.Native.Nat.{ℕ}
 use Rattle.text.specs.Bytes.{natural}
-use Rattle.months.specs.Columns.{state, division, element, year}
+use Rattle.fields.specs.Columns.{state, division, element, year}
 use Rattle.layout.specs.Fault.{faultOf}
-use Rattle.layout.specs.Steps.{headingRefusal}
-use Rattle.layout.proofs.Faults.{heading-told, at-heading, at-rest}
-use Rattle.layout.proofs.Refusals.{Heads, heads, headless, at-fault, faultless}
+use Rattle.heading.specs.Steps.{headingRefusal}
+use Rattle.heading.proofs.Headings.{heading-told, Heads, heads, headless}
+use Rattle.layout.proofs.Faults.{at-heading, at-rest}
+use Rattle.layout.proofs.Refusals.{at-fault, faultless}
 use Rattle.layout.proofs.line_refusal.Statement.{statement}
 use Rattle.layout.proofs.line_refusal.Tie as tie
 

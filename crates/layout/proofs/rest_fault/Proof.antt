@@ -7,7 +7,7 @@ use Prim.Native.Nat.{ℕ}
 use borrow.Author.Tests.{not-true, not-false}
 use Rattle.text.specs.Bytes.{allSpaces}
 use Rattle.fields.proofs.Parts.{to-end}
-use Rattle.months.specs.Columns.{lastColumn, after}
+use Rattle.fields.specs.Columns.{lastColumn, after}
 use Rattle.layout.specs.Fault.{monthsFault}
 use Rattle.layout.proofs.Faults.{found-fault, at-month, at-end}
 use Rattle.layout.proofs.rest_fault.Statement.{statement}

@@ -9,8 +9,7 @@ use native.Mathlib.Omega.{arith}
 use lib.ListN.{length, take, drop, set, length-drop, length-map, length-set}
 use lib.Pow.{pow-mono}
 use lib.Seq.{take-suc, take-suc-set, take-all, length-take-le}
-use Rattle.fields.specs.Field.{width}
-use Rattle.months.specs.Columns.{headingColumns, firstValue, monthsOfYear}
+use Rattle.fields.specs.Columns.{headingColumns, firstValue, monthsOfYear, width}
 use Rattle.months.specs.Months.{monthOf, monthsOf, amountOf, isPresent, setOf, firstBad}
 use Rattle.months.specs.Steps.{foundIn, andMonth}
 use Rattle.months.specs.declared.Month.{Month}

@@ -1,17 +1,16 @@
--- `layout::read_heading`: each of the four parts is digits, or the first that is not is told. Assumes nothing.
+-- `heading::read_heading`: each of the four parts is digits, or the first that is not is told. Assumes nothing.
 use borrow.Author.Needs.{needs}
 use mathlib.Core.Path.{_≡_, sym, _∙_}
 use mathlib.Core.Bool.{true}
 use mathlib.Core.List.{List}
 use Prim.Native.Nat.{ℕ}
 use Rattle.text.specs.Bytes.{allDigits, natural}
-use Rattle.months.specs.Columns.{state, division, element, year}
-use Rattle.layout.specs.Rainfall.{headed}
-use Rattle.layout.specs.Fault.{firstTold, headingFault}
-use Rattle.layout.specs.Steps.{headingOf}
+use Rattle.fields.specs.Columns.{state, division, element, year}
+use Rattle.heading.specs.Heading.{headed, firstTold, headingFault}
+use Rattle.heading.specs.Steps.{headingOf}
 use Rattle.fields.proofs.Naturals.{made-digits, other-digits}
-use Rattle.layout.proofs.read_heading.Statement.{statement}
-use Rattle.layout.proofs.read_heading.Tie as tie
+use Rattle.heading.proofs.read_heading.Statement.{statement}
+use Rattle.heading.proofs.read_heading.Tie as tie
 
 -- ---- the four parts, where they are digits
 -- the heading's start, and the part before, from each part

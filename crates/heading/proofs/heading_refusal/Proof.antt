@@ -1,8 +1,8 @@
--- `layout::heading_refusal`: its tests are those of the definition, in their order. Assumes nothing.
+-- `heading::heading_refusal`: its tests are those of the definition, in their order. Assumes nothing.
 use borrow.Author.Tests.{eq-eqb, ne-eqb}
-use Rattle.layout.specs.Steps.{headingRefusal}
-use Rattle.layout.proofs.heading_refusal.Statement.{statement}
-use Rattle.layout.proofs.heading_refusal.Tie as tie
+use Rattle.heading.specs.Steps.{headingRefusal}
+use Rattle.heading.proofs.heading_refusal.Statement.{statement}
+use Rattle.heading.proofs.heading_refusal.Tie as tie
 
 returns : tie.Need-returns
 unfolding headingRefusal
