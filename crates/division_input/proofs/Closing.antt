@@ -5,7 +5,8 @@ use Prim.Native.Nat.{ℕ, zero, suc}
 use lib.ListN.{take}
 use borrow.Author.Tests.{eq-eqb, ne-eqb}
 use Rattle.text.specs.Bytes.{lineFeed}
-use Rattle.layout.specs.Rainfall.{another, yearSaid}
+use Rattle.fields.specs.Refusals.{another}
+use Rattle.layout.specs.Rainfall.{yearSaid}
 use Rattle.layout.specs.declared.Year.{Year}
 use Rattle.rows.specs.Text.{laid}
 use Rattle.division_input.specs.ByLines.{expected, going}

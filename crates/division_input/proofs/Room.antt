@@ -1,5 +1,5 @@
 -- What the program lends is enough, whatever the input. The idea: a line that is taken has a year of four digits, no less than the year that
--- had to follow, so the rows so far end 154 bytes before the room does, and no row is longer than that. Assumes nothing.
+-- had to follow, so the rows so far end a row before the room does, and no row is longer than that. Assumes nothing.
 use mathlib.Core.Path.{_≡_, refl, sym, _∙_}
 use mathlib.Core.Bool.{Bool, true, false, cond, _&&_, and-false}
 use mathlib.Core.List.{List, [], _∷_, map, foldl}
@@ -7,23 +7,28 @@ use Prim.Native.Nat.{ℕ, zero, suc, _+_, _*_, _/_, _%_, _≤_, _<_}
 use native.Mathlib.Omega.{arith}
 use lib.Dec.{leb, eqb}
 use lib.ListN.{length, take, drop, set, length-append, length-take, length-drop, length-set, length-map}
-use borrow.Author.Tests.{leb-true, leb-false, le-ltb, eqb-true, ne-eqb}
+use borrow.Author.Tests.{leb-true, eqb-true}
 use Rattle.text.specs.Bytes.{lineFeed, minusSign, allDigits, natural}
 use Rattle.text.proofs.Digits.{apart}
-use Rattle.layout.specs.Columns.{year, values}
-use Rattle.layout.specs.Field.{fieldOf}
-use Rattle.layout.specs.Rainfall.{isMark, inRange, rainOf, monthSaid, monthOf, monthsOf, isPresent, amountOf, countOf, headed, isLine, rainFits, isNamed, isYear, another, refusal, yearSaid}
-use Rattle.layout.specs.declared.Field.{Field}
-use Rattle.layout.specs.declared.Field.the-variants as field
-use Rattle.layout.specs.declared.Month.{Month}
-use Rattle.layout.specs.declared.Month.the-variants.{Amount, Missing, Outside}
-use Rattle.layout.proofs.Exactly.{number-is}
-use Rattle.layout.proofs.Naturals.{natural-small}
-use Rattle.layout.proofs.Months.{months-twelve}
-use Rattle.rows.specs.Text.{numeral, monthText, monthsText, yearText, laid}
+use Rattle.fields.specs.Columns.{year, values, monthsOfYear}
+use Rattle.fields.specs.Field.{fieldOf}
+use Rattle.fields.specs.Refusals.{another}
+use Rattle.fields.specs.declared.Field.{Field}
+use Rattle.fields.specs.declared.Field.the-variants as field
+use Rattle.fields.proofs.Naturals.{natural-small}
+use Rattle.months.specs.Months.{mostHundredths, isMark, inRange, rainOf, monthSaid, monthOf, monthsOf, isPresent, amountOf, countOf}
+use Rattle.months.specs.declared.Month.{Month}
+use Rattle.months.specs.declared.Month.the-variants.{Amount, Missing, Outside}
+use Rattle.months.proofs.Months.{months-twelve}
+use Rattle.heading.specs.Heading.{headed}
+use Rattle.layout.specs.Rainfall.{isLine, rainFits, isNamed, isYear, refusal, yearSaid}
+use Rattle.layout.proofs.Refusals.{number-is}
+use Rattle.kept.specs.Kept.{mostKept, isKept, keptCount, keptLine}
+use Rattle.kept.proofs.Parts.{kept-within}
+use Rattle.rows.specs.Text.{numeral, monthText, monthsText, yearText, laid, mostYear}
 use Rattle.rows.proofs.Digits.{numeral-length}
 use Rattle.division_input.specs.ByLines.{expected, going}
-use Rattle.division_input.specs.Input.{State, Held, isKept, keptCount, keptLine, byteKept, Closed, closed, rowText, closedBy, lineClosed, byteFed, lastClosed, withRefusal, noneFound, inputEnded}
+use Rattle.division_input.specs.Input.{State, Held, mostYears, byteKept, Closed, closed, rowText, closedBy, lineClosed, byteFed, lastClosed, withRefusal, noneFound, inputEnded}
 use Rattle.division_input.specs.declared.Session.{Session}
 
 -- ---- what is so of both ways is so
@@ -36,12 +41,12 @@ unrefused-so P zero t next p q = q
 unrefused-so P (suc k) t next p q = p
 
 -- ---- a line that is taken has a year of four digits
-year-by : (line : List ℕ) (t : Bool) → allDigits (year line) ≡ t → isLine line ≡ true → natural (year line) < 10000
+year-by : (line : List ℕ) (t : Bool) → allDigits (year line) ≡ t → isLine line ≡ true → natural (year line) < mostYears
 unfolding isLine headed
 year-by line true e h = natural-small (year line) (omega (arith, length-take 4 (drop 6 line))) e
 year-by line false e h = absurd (apart (simp (e, and-false) at h))
 
-accepted-by : (line : List ℕ) (s d y : ℕ) (a b c t : Bool) → isLine line ≡ a → rainFits line ≡ b → isNamed line s d ≡ c → isYear line y ≡ t → refusal line s d y ≡ 0 → y < 10000
+accepted-by : (line : List ℕ) (s d y : ℕ) (a b c t : Bool) → isLine line ≡ a → rainFits line ≡ b → isNamed line s d ≡ c → isYear line y ≡ t → refusal line s d y ≡ 0 → y < mostYears
 unfolding refusal isYear
 accepted-by line s d y true true true true e f g i h = omega (arith, year-by line _ refl e, eqb-true (natural (year line)) y i)
 accepted-by line s d y true true true false e f g i h = absurd (omega (arith, rw (e, f, g, i) at h))
@@ -49,15 +54,15 @@ accepted-by line s d y true true false t e f g i h = absurd (omega (arith, rw (e
 accepted-by line s d y true false c t e f g i h = absurd (omega (arith, rw (e, f) at h))
 accepted-by line s d y false b c t e f g i h = absurd (omega (arith, rw e at h))
 
-pub accepted-year : (line : List ℕ) (s d y : ℕ) → refusal line s d y ≡ 0 → y < 10000
+pub accepted-year : (line : List ℕ) (s d y : ℕ) → refusal line s d y ≡ 0 → y < mostYears
 accepted-year line s d y = accepted-by line s d y _ _ _ _ refl refl refl refl
 
 -- ---- its row: a month has at most 100,000 thousandths, and at most twelve are present
-rain-by : (minus : Bool) (n : ℕ) (t : Bool) → leb n 10000 ≡ t → amountOf (rainOf minus n) ≤ 100000
+rain-by : (minus : Bool) (n : ℕ) (t : Bool) → leb n mostHundredths ≡ t → amountOf (rainOf minus n) ≤ 100000
 unfolding rainOf inRange
 rain-by minus n true e =
     let small : Month → Type 0 = λ m. amountOf m ≤ 100000 in
-    let h = leb-true n 10000 e in
+    let h = leb-true n mostHundredths e in
     cond-so small (isMark minus n) Missing _ (omega arith) (cond-so small (inRange minus n) (Amount (10 * n)) Outside (omega arith) (omega arith))
 rain-by minus n false e = rw e (cond-so (λ m. amountOf m ≤ 100000) (isMark minus n) Missing Outside (omega arith) (omega arith))
 
@@ -82,14 +87,14 @@ count-short [] = omega arith
 count-short (true ∷ bs) = omega (arith, count-short bs)
 count-short (false ∷ bs) = omega (arith, count-short bs)
 
-told-short : (fs : List (List ℕ)) (y set : ℕ) → length (map monthOf fs) ≡ 12 → y < 10000 → length (yearText y (map amountOf (map monthOf fs)) set (countOf (map isPresent (map monthOf fs)))) ≤ 154
+told-short : (fs : List (List ℕ)) (y set : ℕ) → length (map monthOf fs) ≡ monthsOfYear → y < mostYears → length (yearText y (map amountOf (map monthOf fs)) set (countOf (map isPresent (map monthOf fs)))) ≤ mostYear
 unfolding yearText
 told-short fs y set l h =
     let bs = map isPresent (map monthOf fs) in
-    let n : countOf bs ≤ 12 = omega (arith, count-short bs, length-map (map monthOf fs) isPresent) in
+    let n : countOf bs ≤ monthsOfYear = omega (arith, count-short bs, length-map (map monthOf fs) isPresent) in
     simp length-append (omega (arith, length-map fs monthOf, numeral-length y (omega arith), months-short fs set, numeral-length (countOf bs) (omega arith)))
 
-pub row-short : (line : List ℕ) (s d y : ℕ) → refusal line s d y ≡ 0 → length (rowText (yearSaid line s d y) y) ≤ 154
+pub row-short : (line : List ℕ) (s d y : ℕ) → refusal line s d y ≡ 0 → length (rowText (yearSaid line s d y) y) ≤ mostYear
 unfolding yearSaid monthsOf
 row-short line s d y h = rw h (told-short (values line) y _ (months-twelve line) (accepted-year line s d y h))
 
@@ -117,7 +122,7 @@ abbrev yearFor : Session → List ℕ → ℕ
 yearFor s line = expected (s .next) (read s line)
 
 module _ (s : Session) (line out : List ℕ) (h : Held s line out) where
-  pub room-for-row : refusal (take (s .kept) line) (s .state) (s .division) (expected (s .next) (take (s .kept) line)) ≡ 0 → s .end + 154 ≤ length out
+  pub room-for-row : refusal (take (s .kept) line) (s .state) (s .division) (expected (s .next) (take (s .kept) line)) ≡ 0 → s .end + mostYear ≤ length out
   room-for-row e = omega (arith, accepted-year _ _ _ _ e, follows (s .next) (read s line))
 
   closed-by : (n : ℕ) → let year = yearSaid (read s line) (s .state) (s .division) (yearFor s line) in year .number ≡ n → HeldBy line (closedBy n s out year (yearFor s line))
@@ -134,18 +139,7 @@ module _ (s : Session) (line out : List ℕ) (h : Held s line out) where
   held-closed = closed-by (yearSaid (read s line) (s .state) (s .division) (yearFor s line) .number) refl
 
 -- ---- whatever comes
-within-by : (kept b : ℕ) (t : Bool) → leb kept 94 ≡ t → isKept kept b ≡ true → kept < 95
-unfolding isKept
-within-by kept b true e h = omega (arith, leb-true kept 94 e)
-within-by kept b false e h =
-    let l = leb-false kept 94 e in
-    absurd (apart (rw (le-ltb kept 94 (omega arith), ne-eqb kept 94 (λ f. omega arith)) at h))
-
--- a byte is kept within the line's buffer
-pub kept-within : (kept b : ℕ) → isKept kept b ≡ true → kept < 95
-kept-within kept b = within-by kept b _ refl
-
-count-by : (kept b : ℕ) (t : Bool) → isKept kept b ≡ t → kept ≤ 95 → keptCount kept b ≤ 95
+count-by : (kept b : ℕ) (t : Bool) → isKept kept b ≡ t → kept ≤ mostKept → keptCount kept b ≤ mostKept
 unfolding keptCount
 count-by kept b true e h = rw e (omega (arith, kept-within kept b e))
 count-by kept b false e h = rw e h

@@ -6,7 +6,8 @@ use mathlib.Core.Bool.{cond, _&&_}
 use mathlib.Core.List.{List, [], _++_, foldl}
 use lib.Dec.{eqb}
 use Rattle.text.specs.Lines.{linesOf}
-use Rattle.layout.specs.Rainfall.{another, yearSaid, yearOf}
+use Rattle.fields.specs.Refusals.{another}
+use Rattle.layout.specs.Rainfall.{yearSaid, yearOf}
 use Rattle.layout.specs.declared.Year.{Year}
 use Rattle.rows.specs.Text.{yearText}
 

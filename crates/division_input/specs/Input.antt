@@ -1,19 +1,20 @@
--- What the program `division` holds while it reads, byte by byte: the line so far, in a buffer of 95 bytes, and the rows so far, in a buffer
--- with room for every year of four digits. Of a line the first 94 bytes are kept, and after them the first that is no space: that is enough
--- to tell what the whole line says (`kept-same`, proofs/Kept.antt), so a line of any length is read within fixed memory. Assumes nothing.
+-- A proof's vocabulary, here since contracts cite it: what a reader believes is ByLines, which `by-lines`, of the crate `division_laws`, compares
+-- this with. What the program `division` holds while it reads, byte by byte: the line so far, of which the bytes of Kept are kept, and the rows
+-- so far, in a buffer with room for every year of four digits. Only `namedOf` is believed as it stands. Assumes nothing.
 use Prim.Native.Nat.{ℕ, zero, suc, _+_, _*_, _≤_}
 use mathlib.Core.Path.{_≡_}
-use mathlib.Core.Bool.{Bool, true, false, cond, not, _&&_, _||_}
-use mathlib.Core.List.{List, [], _∷_, _++_, foldl}
-use lib.Dec.{leb, ltb, eqb}
-use lib.ListN.{length, take, set}
-use Rattle.text.specs.Bytes.{lineFeed, space}
-use Rattle.layout.specs.Columns.{lastColumn}
-use Rattle.layout.specs.Rainfall.{another, yearSaid}
-use Rattle.layout.specs.Steps.{digitsOf}
-use Rattle.layout.specs.declared.Digits.{Digits}
-use Rattle.layout.specs.declared.Digits.the-variants.{Other}
+use mathlib.Core.Bool.{Bool, true, false, cond, _&&_}
+use mathlib.Core.List.{List, [], _∷_, _++_}
+use lib.Dec.{leb, eqb}
+use lib.ListN.{length, take}
+use Rattle.text.specs.Bytes.{lineFeed}
+use Rattle.fields.specs.Field.{digitsOf}
+use Rattle.fields.specs.Refusals.{another}
+use Rattle.fields.specs.declared.Digits.{Digits}
+use Rattle.fields.specs.declared.Digits.the-variants.{Other}
+use Rattle.layout.specs.Rainfall.{yearSaid}
 use Rattle.layout.specs.declared.Year.{Year}
+use Rattle.kept.specs.Kept.{mostKept, keptCount, keptLine}
 use Rattle.rows.specs.Text.{yearText, laid, mostYear}
 use Rattle.division_input.specs.ByLines.{counted, expected, going}
 use Rattle.division_input.specs.declared.Session.{Session}
@@ -34,48 +35,24 @@ pub record State : Type 0 where
 abbrev pub held : Session → List ℕ → List ℕ → State
 held s line out = record { session = s; line = line; out = out }
 
--- the bytes that a line is told by
-abbrev pub mostKept : ℕ
-mostKept = 95
-
 -- room for the years 0 to 9999
+abbrev pub mostYears : ℕ
+mostYears = 10000
+
 abbrev pub room : ℕ
-room = 1540000
+room = mostYears * mostYear
 
 -- what the program lends, and what is always so of what it holds: a row for each year before the next, at most
 abbrev pub Held : Session → List ℕ → List ℕ → Type 0
 Held s line out =
-    (s .kept ≤ mostKept) × (s .next ≤ 10000) × (s .end ≤ s .next * mostYear) × (length line ≡ mostKept) × (length out ≡ room)
+    (s .kept ≤ mostKept) × (s .next ≤ mostYears) × (s .end ≤ s .next * mostYear) × (length line ≡ mostKept) × (length out ≡ room)
 
 -- ---- one byte of a line
-unfoldable pub isKept : ℕ → ℕ → Bool
-isKept kept b = ltb kept lastColumn || (eqb kept lastColumn && not (eqb b space))
-
-unfoldable pub keptCount : ℕ → ℕ → ℕ
-keptCount kept b = cond (isKept kept b) (kept + 1) kept
-
-unfoldable pub keptLine : ℕ → ℕ → List ℕ → List ℕ
-keptLine kept b line = cond (isKept kept b) (set line kept b) line
-
 abbrev pub withKept : Session → ℕ → Session
 withKept s k = record { state = s .state; division = s .division; kept = k; lines = s .lines; refused = s .refused; next = s .next; end = s .end }
 
 abbrev pub byteKept : State → ℕ → State
 byteKept t b = held (withKept (t .session) (keptCount (t .session .kept) b)) (keptLine (t .session .kept) b (t .line)) (t .out)
-
--- ---- a part of a line, byte by byte: how many bytes are kept, and where
-pub record Kept : Type 0 where
-  pub count : ℕ
-  pub line : List ℕ
-
-abbrev pub keptOf : ℕ → List ℕ → Kept
-keptOf count line = record { count = count; line = line }
-
-abbrev pub byteInto : Kept → ℕ → Kept
-byteInto k b = keptOf (keptCount (k .count) b) (keptLine (k .count) b (k .line))
-
-unfoldable pub partKept : Kept → List ℕ → Kept
-partKept k part = foldl byteInto k part
 
 -- ---- a line closed: the session, and the rows
 pub record Closed : Type 0 where
@@ -120,11 +97,7 @@ byteFed t b =
     going (t .session .refused) t
     (cond (eqb b lineFeed) (afterLine t (lineClosed (t .session) (take (t .session .kept) (t .line)) (t .out))) (byteKept t b))
 
--- ---- what a piece of the input has of one line: the bytes before its first line feed, and these with a line feed or without
-unfoldable pub untilFeed : List ℕ → List ℕ
-untilFeed [] = []
-untilFeed (b ∷ bs) = cond (eqb b lineFeed) [] (b ∷ untilFeed bs)
-
+-- ---- what a piece of the input has of one line: bytes with a line feed or without
 abbrev pub ended : Bool → List ℕ → List ℕ
 ended true part = part ++ lineFeed ∷ []
 ended false part = part

@@ -1,4 +1,4 @@
--- What the contracts of `division_input` cite: what the program `division` holds while it reads (Input). And the same said of whole lines, which
--- the theorem of proofs/ByLines.antt compares it with (ByLines).
-pub mod Input
+-- What a reader must believe: what the program `division` makes of its lines (ByLines), and an argument (`namedOf`, Input). The rest, Input, is a
+-- proof's vocabulary.
 pub mod ByLines
+pub mod Input

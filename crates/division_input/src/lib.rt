@@ -3,17 +3,19 @@
 //
 // Document 02, E1: "We take on stations with a century of rain already published in the nClimDiv fixed-width layout".
 // What the program makes of an input is `divisionOf`, specs/ByLines.antt, said of whole lines; here it is said byte by
-// byte, for an input that comes in pieces, and `by-lines`, proofs/ByLines.antt, says that this is the same. Everything
-// here is for the program, which lends a line of 95 bytes and room for 10,000 rows.
-use layout::Digits;
+// byte, for an input that comes in pieces, and `by-lines`, of the crate `division_laws`, says that this is the same.
+// Everything here is for the program, which lends a line and room for the rows.
+use fields::Digits;
+use fields::OTHER_LINE;
 use layout::Year;
 ghost use mathlib.Core.Path.{_≡_};
 ghost use mathlib.Core.List.{foldl};
-ghost use Prim.Native.Nat.{_+_, _-_, _≤_, _<_, min};
-ghost use lib.ListN.{length, take, drop};
+ghost use Prim.Native.Nat.{_+_, _≤_, _<_};
+ghost use lib.ListN.{length, take};
 ghost use Rattle.division_input.specs.ByLines.{counted, expected};
-ghost use Rattle.rows.specs.Text.{laid};
-ghost use Rattle.division_input.specs.Input.{namedOf, begun, held, Held, isKept, keptCount, keptLine, keptOf, partKept, closed, rowText, withRow, passed, stopped, lineClosed, byteFed, untilFeed, ended, lastClosed, noneFound, inputEnded};
+ghost use Rattle.kept.specs.Kept.{untilFeed};
+ghost use Rattle.rows.specs.Text.{laid, mostYear};
+ghost use Rattle.division_input.specs.Input.{namedOf, begun, held, Held, mostYears, closed, rowText, withRow, passed, stopped, lineClosed, byteFed, ended, lastClosed, noneFound, inputEnded};
 
 pub struct Session {
     // What is asked for.
@@ -31,13 +33,10 @@ pub struct Session {
     pub end: usize,
 }
 
-// The columns up to the end of the last value.
-const LAST_COLUMN: usize = 94;
-
 const MOST_LINES: u32 = 4_294_967_295;
 
-// Another state, division or element.
-const OTHER_LINE: u8 = 15;
+// Room for the rows of the years 0 to 9999.
+pub const ROOM: usize = 1_540_000;
 
 // A state or a division as a person writes it: one or two digits.
 pub fn named(part: &[u8]) -> Digits
@@ -49,7 +48,7 @@ pub fn named(part: &[u8]) -> Digits
     if part.len() > 2 {
         return Digits::Other;
     }
-    layout::number_of(part)
+    fields::number_of(part)
 }
 
 // Before the first byte.
@@ -65,83 +64,6 @@ pub fn begin(state: u32, division: u32) -> Session
         next: 0,
         end: 0,
     }
-}
-
-// Whether the next byte of a line is kept, of which so many are: the first 94 are, and after them the first that is
-// no space.
-fn is_kept(kept: usize, b: u8) -> bool
-    ensures { λ r. ⌜ r ≡ isKept kept b ⌝ }
-{
-    if kept < LAST_COLUMN {
-        return true;
-    }
-    if kept > LAST_COLUMN {
-        return false;
-    }
-    b != b' '
-}
-
-// One byte more of a line, of which so many bytes are kept; how many then are.
-fn keep_byte(kept: usize, b: u8, line: &mut [u8]) -> usize
-    requires { ⌜ length (now line) ≡ 95 ⌝ }
-    ensures { λ r. ⌜ r ≡ keptCount kept b ⌝ }
-    ensures { λ _. ⌜ now (line .exit) ≡ keptLine kept b (now (line .entry)) ⌝ }
-{
-    if !is_kept(kept, b) {
-        return kept;
-    }
-    line[kept] = b;
-    kept + 1
-}
-
-// How many of so many bytes, which follow those kept, stand in the first 94 columns.
-fn in_columns(kept: usize, bytes: usize) -> usize
-    ensures { λ r. ⌜ r ≡ min bytes (94 - kept) ⌝ }
-{
-    if kept > LAST_COLUMN {
-        return 0;
-    }
-    let left = LAST_COLUMN - kept;
-    if bytes < left {
-        return bytes;
-    }
-    left
-}
-
-// A part that stands in the first 94 columns. `keep_rest` would do the same; this loop is compiled to one copy, and
-// nearly all of an input goes through it.
-fn keep_columns(kept: usize, part: &[u8], line: &mut [u8])
-    requires { ⌜ length (now part) ≤ 94 - kept ⌝ }
-    requires { ⌜ length (now line) ≡ 95 ⌝ }
-    ensures { λ _. ⌜ keptOf (kept + length (now (part .entry))) (now (line .exit)) ≡ partKept (keptOf kept (now (line .entry))) (now (part .entry)) ⌝ }
-{
-    let mut i = 0;
-    while i < part.len() {
-        line[kept + i] = part[i];
-        i += 1;
-    }
-}
-
-fn keep_rest(kept: usize, part: &[u8], line: &mut [u8]) -> usize
-    requires { ⌜ length (now line) ≡ 95 ⌝ }
-    ensures { λ r. ⌜ keptOf r (now (line .exit)) ≡ partKept (keptOf kept (now (line .entry))) (now (part .entry)) ⌝ }
-{
-    let mut n = kept;
-    let mut i = 0;
-    while i < part.len() {
-        n = keep_byte(n, part[i], line);
-        i += 1;
-    }
-    n
-}
-
-fn keep_part(kept: usize, part: &[u8], line: &mut [u8]) -> usize
-    requires { ⌜ length (now line) ≡ 95 ⌝ }
-    ensures { λ r. ⌜ keptOf r (now (line .exit)) ≡ partKept (keptOf kept (now (line .entry))) (now (part .entry)) ⌝ }
-{
-    let n = in_columns(kept, part.len());
-    keep_columns(kept, &part[..n], line);
-    keep_rest(kept + n, &part[n..], line)
 }
 
 // ---- a line closed
@@ -196,8 +118,8 @@ fn stop(s: Session, number: u8) -> Session
 }
 
 fn add_row(s: Session, year: Year, y: u32, out: &mut [u8]) -> Session
-    requires { ⌜ y < 10000 ⌝ }
-    requires { ⌜ s .end + 154 ≤ length (now out) ⌝ }
+    requires { ⌜ y < mostYears ⌝ }
+    requires { ⌜ s .end + mostYear ≤ length (now out) ⌝ }
     ensures { λ r. ⌜ r ≡ withRow s year y ⌝ }
     ensures { λ _. ⌜ now (out .exit) ≡ laid (rowText year y) (s .end) (now (out .entry)) ⌝ }
 {
@@ -235,21 +157,6 @@ fn close_line(s: Session, line: &[u8], out: &mut [u8]) -> Session
 
 // ---- the input
 
-// Where the line ends that goes on at `from`: at its line feed, or where the piece ends.
-fn line_end(piece: &[u8], from: usize) -> usize
-    requires { ⌜ from ≤ length (now piece) ⌝ }
-    ensures { λ r. ⌜ r ≡ from + length (untilFeed (drop from (now (piece .entry)))) ⌝ }
-{
-    let mut i = from;
-    while i < piece.len() {
-        if piece[i] == b'\n' {
-            return i;
-        }
-        i += 1;
-    }
-    i
-}
-
 // A part of a line, with the line feed that ends it or without.
 fn take_line(s: Session, part: &[u8], ends: bool, line: &mut [u8], out: &mut [u8]) -> Session
     requires { ⌜ Held s (now line) (now out) ⌝ }
@@ -259,7 +166,7 @@ fn take_line(s: Session, part: &[u8], ends: bool, line: &mut [u8], out: &mut [u8
     if s.refused != 0 {
         return s;
     }
-    let kept = keep_part(s.kept, part, line);
+    let kept = kept::keep_part(s.kept, part, line);
     let t = Session {
         state: s.state,
         division: s.division,
@@ -284,7 +191,7 @@ pub fn take(s: Session, piece: &[u8], line: &mut [u8], out: &mut [u8]) -> Sessio
     let mut t = s;
     let mut i = 0;
     while i < piece.len() {
-        let end = line_end(piece, i);
+        let end = kept::line_end(piece, i);
         t = take_line(t, &piece[i..end], end < piece.len(), line, out);
         i = end + 1;
     }

@@ -8,7 +8,7 @@ use lib.ListN.{take}
 use lib.Seq.{length-take-le}
 use Rattle.layout.specs.Rainfall.{refusal, yearSaid}
 use Rattle.layout.specs.declared.Year.{Year}
-use Rattle.layout.proofs.Exactly.{number-is}
+use Rattle.layout.proofs.Refusals.{number-is}
 use Rattle.division_input.specs.ByLines.{expected}
 use Rattle.division_input.specs.Input.{closed, closedWith, lineClosed}
 use Rattle.division_input.specs.declared.Session.{Session}

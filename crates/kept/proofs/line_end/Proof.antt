@@ -1,12 +1,12 @@
--- `division_input::line_end`: what is still to be passed ends where the line does. Assumes nothing.
+-- `kept::line_end`: what is still to be passed ends where the line does. Assumes nothing.
 use mathlib.Core.Path.{_≡_, refl, ap}
 use Prim.Native.Nat.{_+_, _-_, _≤_}
 use native.Mathlib.Omega.{arith}
 use lib.ListN.{length, drop}
-use Rattle.division_input.specs.Input.{untilFeed}
-use Rattle.division_input.proofs.Part.{feed-here, feed-later, feed-none}
-use Rattle.division_input.proofs.line_end.Statement.{statement}
-use Rattle.division_input.proofs.line_end.Tie as tie
+use Rattle.kept.specs.Kept.{untilFeed}
+use Rattle.kept.proofs.Parts.{feed-here, feed-later, feed-none}
+use Rattle.kept.proofs.line_end.Statement.{statement}
+use Rattle.kept.proofs.line_end.Tie as tie
 
 abbrev Inv-loop : tie.InvT-loop
 Inv-loop piece from i₀ i =

@@ -12,14 +12,16 @@ use lib.Seq.{take-append-seam}
 use borrow.Author.Tests.{eqb-true, eqb-false}
 use Rattle.text.specs.Bytes.{lineFeed}
 use Rattle.text.specs.Lines.{lastLine, cut, linesOf}
-use Rattle.layout.specs.Rainfall.{another, yearSaid, yearOf}
+use Rattle.fields.specs.Refusals.{another}
+use Rattle.layout.specs.Rainfall.{yearSaid, yearOf}
 use Rattle.layout.specs.declared.Year.{Year}
+use Rattle.kept.specs.Kept.{mostKept}
 use Rattle.division_input.specs.ByLines.{expected, Made, nothing, madeBy, madeWith, lineMade, atEnd, divisionOf}
 use Rattle.division_input.specs.Input.{begun, State, held, byteKept, Closed, closed, rowText, closedBy, lineClosed, byteFed, lastClosed, noneFound, inputEnded}
 use Rattle.division_input.specs.declared.Session.{Session}
 use Rattle.division_input.proofs.Closing.{refused-stays, goes-on, byte-closes, byte-within}
-use Rattle.division_input.proofs.Kept.{kept-same}
+use Rattle.division_laws.proofs.Kept.{kept-same}
 use Rattle.division_input.proofs.Part.{fed-refused}
 
 -- ---- the end
 last-closes : (x : Session) (line out : List ℕ) → x .refused ≡ 0 → eqb (x .kept) 0 ≡ false → lastClosed x line out ≡ lineClosed x (take (x .kept) line) out
@@ -99,7 +101,7 @@ module _ (s d : ℕ) where
   ends m c a = rw (a .session) (ends-by m (c .session .kept) (c .out) _ _ refl refl (a .rows))
 
   -- ---- a line that is coming, where m was made before it
-  module _ (m : Made) (z : m .refused ≡ 0) (line out : List ℕ) (l : length line ≡ 95) (r : First m out) where
+  module _ (m : Made) (z : m .refused ≡ 0) (line out : List ℕ) (l : length line ≡ mostKept) (r : First m out) where
     within-refused : (come : List ℕ) → within s d m line out come .session .refused ≡ 0
     within-refused come = ap (λ (x : Session). x .refused) (kept-same (between s d m 0) line out come l .3) ∙ z
 
@@ -129,9 +131,9 @@ module _ (s d : ℕ) where
   fed-first m t b rest ls e h = subst (λ (v : State). Makes m v rest ls) (sym e) h
 
   abbrev Coming : List ℕ → Type 0
-  Coming input = (m : Made) → m .refused ≡ 0 → (line out : List ℕ) → length line ≡ 95 → First m out → (come : List ℕ) → Makes m (within s d m line out come) input (cut come input)
+  Coming input = (m : Made) → m .refused ≡ 0 → (line out : List ℕ) → length line ≡ mostKept → First m out → (come : List ℕ) → Makes m (within s d m line out come) input (cut come input)
 
-  starting : (input : List ℕ) → Coming input → (m : Made) (c : Closed) (line : List ℕ) → Agrees s d m c → length line ≡ 95 → (k : ℕ) → m .refused ≡ k → Makes m (held (c .session) line (c .out)) input (cut [] input)
+  starting : (input : List ℕ) → Coming input → (m : Made) (c : Closed) (line : List ℕ) → Agrees s d m c → length line ≡ mostKept → (k : ℕ) → m .refused ≡ k → Makes m (held (c .session) line (c .out)) input (cut [] input)
   unfolding inputEnded
   starting input coming m c line a l zero e = rw (a .session ∙ ap (between s d m) (a .fresh e)) (coming m e line (c .out) l (a .rows) [])
   starting input coming m c line a l (suc n) e =
@@ -158,7 +160,7 @@ module _ (s d : ℕ) where
   coming (b ∷ rest) = followed b rest (eqb b lineFeed) refl (coming rest)
 
 -- whatever stands in what the program lends; that no row goes beyond it is Room's to show
-pub by-lines : (s d : ℕ) (input line out : List ℕ) → length line ≡ 95 →
+pub by-lines : (s d : ℕ) (input line out : List ℕ) → length line ≡ mostKept →
     let t = foldl byteFed (held (begun s d) line out) input in
     let c = inputEnded (t .session) (t .line) (t .out) in
     let m = divisionOf s d input in

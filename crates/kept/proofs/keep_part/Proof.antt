@@ -1,4 +1,4 @@
--- `division_input::keep_part`: what stands in the first 94 columns is kept, and then the rest. Assumes nothing.
+-- `kept::keep_part`: what stands in the layout's columns is kept, and then the rest. Assumes nothing.
 use borrow.Author.Needs.{needs}
 use mathlib.Core.Path.{_≡_, sym, _∙_}
 use mathlib.Core.List.{List, foldl-append}
@@ -6,10 +6,10 @@ use Prim.Native.Nat.{ℕ, _+_, _-_, _≤_}
 use native.Mathlib.Omega.{arith}
 use lib.ListN.{length, take, drop, take-append-drop}
 use lib.Seq.{length-take-le}
-use Rattle.layout.proofs.Parts.{to-end}
-use Rattle.division_input.specs.Input.{Kept, keptOf, byteInto, partKept}
-use Rattle.division_input.proofs.keep_part.Statement.{statement}
-use Rattle.division_input.proofs.keep_part.Tie as tie
+use Rattle.fields.proofs.Parts.{to-end}
+use Rattle.kept.specs.Kept.{Kept, keptOf, byteInto, partKept}
+use Rattle.kept.proofs.keep_part.Statement.{statement}
+use Rattle.kept.proofs.keep_part.Tie as tie
 
 in-two : (k : Kept) (part : List ℕ) (n : ℕ) → partKept (partKept k (take n part)) (drop n part) ≡ partKept k part
 unfolding partKept

@@ -1,12 +1,12 @@
--- `division_input::keep_rest`: what is still to be kept takes what is kept to where the whole part takes it. Assumes nothing.
+-- `kept::keep_rest`: what is still to be kept takes what is kept to where the whole part takes it. Assumes nothing.
 use mathlib.Core.Path.{_≡_, refl, sym, ap, ap₂, _∙_}
 use Prim.Native.Nat.{_+_, _-_, _≤_}
 use native.Mathlib.Omega.{arith}
 use lib.ListN.{length, drop}
-use Rattle.division_input.specs.Input.{keptOf, partKept}
-use Rattle.division_input.proofs.Part.{part-on, part-end}
-use Rattle.division_input.proofs.keep_rest.Statement.{statement}
-use Rattle.division_input.proofs.keep_rest.Tie as tie
+use Rattle.kept.specs.Kept.{keptOf, partKept}
+use Rattle.kept.proofs.Parts.{part-on, part-end}
+use Rattle.kept.proofs.keep_rest.Statement.{statement}
+use Rattle.kept.proofs.keep_rest.Tie as tie
 
 abbrev Inv-loop : tie.InvT-loop
 Inv-loop kept part line₀ n₀ i₀ line n i =

@@ -1,13 +1,13 @@
--- `division_input::keep_byte`: a byte that is kept goes to the next place, and else nothing changes. Assumes nothing.
+-- `kept::keep_byte`: a byte that is kept goes to the next place, and else nothing changes. Assumes nothing.
 use borrow.Author.Needs.{needs}
 use native.Mathlib.Omega.{arith}
 use mathlib.Core.Path.{_≡_, sym, _∙_}
 use mathlib.Core.Bool.{true}
 use borrow.Author.Tests.{not-true, not-false}
-use Rattle.division_input.specs.Input.{isKept, keptCount, keptLine}
-use Rattle.division_input.proofs.Room.{kept-within}
-use Rattle.division_input.proofs.keep_byte.Statement.{statement}
-use Rattle.division_input.proofs.keep_byte.Tie as tie
+use Rattle.kept.specs.Kept.{isKept, keptCount, keptLine}
+use Rattle.kept.proofs.Parts.{kept-within}
+use Rattle.kept.proofs.keep_byte.Statement.{statement}
+use Rattle.kept.proofs.keep_byte.Tie as tie
 
 told : (c : tie.Else1) → isKept (c .before .before .before .args .kept) (c .before .before .before .args .b) ≡ true
 told c = sym (c .before .is-kept .ensures) ∙ not-false _ (c .if1 .left)

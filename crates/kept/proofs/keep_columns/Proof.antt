@@ -1,19 +1,20 @@
--- `division_input::keep_columns`: what is still to be kept takes what is kept to where the whole part takes it. Assumes nothing.
+-- `kept::keep_columns`: what is still to be kept takes what is kept to where the whole part takes it. Assumes nothing.
 use mathlib.Core.Path.{_≡_, refl, sym, _∙_}
 use mathlib.Core.List.{List}
 use Prim.Native.Nat.{ℕ, _+_, _-_, _≤_, _<_}
 use native.Mathlib.Omega.{arith}
 use lib.ListN.{length, drop, set, getD, length-set}
 use borrow.Author.Tests.{lt-ltb}
-use Rattle.division_input.specs.Input.{isKept, keptCount, keptLine, keptOf, byteInto, partKept}
-use Rattle.division_input.proofs.Part.{part-on, part-end}
-use Rattle.division_input.proofs.keep_columns.Statement.{statement}
-use Rattle.division_input.proofs.keep_columns.Tie as tie
+use Rattle.fields.specs.Columns.{lastColumn}
+use Rattle.kept.specs.Kept.{isKept, keptCount, keptLine, keptOf, byteInto, partKept}
+use Rattle.kept.proofs.Parts.{part-on, part-end}
+use Rattle.kept.proofs.keep_columns.Statement.{statement}
+use Rattle.kept.proofs.keep_columns.Tie as tie
 
--- each of the first 94 bytes is kept
-column : (k b : ℕ) (line : List ℕ) → k < 94 → byteInto (keptOf k line) b ≡ keptOf (k + 1) (set line k b)
+-- each of those bytes is kept
+column : (k b : ℕ) (line : List ℕ) → k < lastColumn → byteInto (keptOf k line) b ≡ keptOf (k + 1) (set line k b)
 unfolding isKept keptCount keptLine
-column k b line h = rw (lt-ltb k 94 h)
+column k b line h = rw (lt-ltb k lastColumn h)
 
 module _ (kept : ℕ) (part line₀ : List ℕ) where
   abbrev Going : List ℕ → ℕ → Type 0
@@ -22,7 +23,7 @@ module _ (kept : ℕ) (part line₀ : List ℕ) where
   going-first : Going line₀ 0
   going-first = let z : kept + 0 ≡ kept = omega arith in rw z
 
-  going-next : (line : List ℕ) (i : ℕ) → i < length part → kept + i < 94 → Going line i → Going (set line (kept + i) (getD part i 0)) (i + 1)
+  going-next : (line : List ℕ) (i : ℕ) → i < length part → kept + i < lastColumn → Going line i → Going (set line (kept + i) (getD part i 0)) (i + 1)
   going-next line i h l g =
       let s : kept + (i + 1) ≡ kept + i + 1 = omega arith in
       rw (s, ← column (kept + i) (getD part i 0) line l) (sym (part-on part i h (keptOf (kept + i) line)) ∙ g)
