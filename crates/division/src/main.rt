@@ -5,7 +5,7 @@
 use division_input::ROOM;
 use division_input::Session;
 use fields::Digits;
-use fields::HEADING;
+use fields::FIRST_VALUE;
 use fields::LAST_COLUMN;
 use fields::NOT_THE_YEAR;
 use fields::OTHER_LINE;
@@ -24,12 +24,9 @@ const MOST_ROW: usize = 72;
 // The program's name and its two arguments.
 const WORDS: usize = 3;
 
-// The column where the first value begins, and the last column of the last.
-const FIRST_VALUE: u32 = HEADING as u32 + 1;
-
+// The last column of the last value, and the columns of a value.
 const LAST: u32 = LAST_COLUMN as u32;
 
-// The columns of a value.
 const VALUE: u32 = WIDTH as u32;
 
 // What a byte order mark begins with.

@@ -23,8 +23,11 @@ pub enum Digits {
     Other,
 }
 
-// The layout: the columns before the first value, the values, the columns of a value, and the last column of the last.
+// The layout: the columns before the first value, where that begins, counted from 1, the values, the columns of a value,
+// and the last column of the last.
 pub const HEADING: usize = 10;
+
+pub const FIRST_VALUE: u32 = HEADING as u32 + 1;
 
 pub const MONTHS: usize = 12;
 

@@ -15,6 +15,7 @@ use Rattle.months.specs.Steps.{foundIn}
 use Rattle.months.specs.declared.Found.{Found}
 use Rattle.months.specs.declared.Month.{Month}
 use Rattle.months.specs.declared.Month.the-variants.{Amount, Missing, Outside, Malformed}
+use Rattle.months.proofs.Months.{first-bad}
 use Rattle.heading.specs.Heading.{precipitation, headed, unless, firstTold, headingFault}
 use Rattle.heading.proofs.Headings.{told-first, told-on, told-none, unless-none, heading-tells, heading-told}
 use Rattle.layout.specs.Rainfall.{isLine, rainFits}
@@ -49,8 +50,8 @@ module _ (line : List ℕ) (h : lastColumn ≤ length line) where
 -- ---- what is told of what follows the heading
 found-by : (line : List ℕ) (rain : Bool) → eqb (natural (element line)) precipitation ≡ rain → foundFault (foundIn (monthsOf line)) (natural (element line)) ≡ monthsFault line
 unfolding foundFault foundIn monthsFault
-found-by line true e = rw e
-found-by line false e = rw e
+found-by line true e = rw e (first-bad true line)
+found-by line false e = rw e (first-bad false line)
 
 pub found-fault : (line : List ℕ) (f : Found) (e : ℕ) → f ≡ foundIn (monthsOf line) → e ≡ natural (element line) → foundFault f e ≡ monthsFault line
 found-fault line f e p q = rw (p, q) (found-by line (eqb (natural (element line)) precipitation) refl)

@@ -5,13 +5,14 @@ use mathlib.Core.List.{List, [], _∷_}
 use lib.Dec.{eqb}
 use Rattle.text.specs.Bytes.{allSpaces}
 use Rattle.fields.specs.Columns.{lastColumn, after}
+use Rattle.months.specs.Steps.{columnOf}
 use Rattle.months.specs.declared.Found.{Found}
 use Rattle.heading.specs.Heading.{precipitation, unless, firstTold}
 use Rattle.layout.specs.Fault.{monthsFault}
 
 -- the months' fault, of a line of an element
 unfoldable pub foundFault : Found → ℕ → ℕ
-foundFault f e = cond (eqb e precipitation) (f .bad) (f .malformed)
+foundFault f e = columnOf (cond (eqb e precipitation) (f .bad) (f .malformed))
 
 -- the fault of months and end
 unfoldable pub restFault : List ℕ → ℕ

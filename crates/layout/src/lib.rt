@@ -44,9 +44,9 @@ fn months_fault(found: Found, e: u32) -> u32
     ensures { λ r. ⌜ r ≡ foundFault found e ⌝ }
 {
     if e == PRECIPITATION {
-        return found.bad;
+        return months::first_column(found.bad);
     }
-    found.malformed
+    months::first_column(found.malformed)
 }
 
 // The column where what follows the heading is first at fault, or 0, of a line of element e whose months are found.

@@ -2,6 +2,7 @@
 //
 // Document 02, E1: "twelve values of seven characters". What a value says of its month and what the months make is
 // specs/Months.antt. Everything here is for the crate `layout`, which hands in lines that are long enough.
+use fields::FIRST_VALUE;
 use fields::Field;
 use fields::HEADING;
 use fields::MONTHS;
@@ -12,7 +13,7 @@ ghost use Prim.Native.Nat.{_+_, _≤_, _<_, _^_};
 ghost use lib.ListN.{length};
 ghost use Rattle.fields.specs.Columns.{width, monthsOfYear, lastColumn};
 ghost use Rattle.months.specs.Months.{rainOf, monthOf, monthsOf, amountOf};
-ghost use Rattle.months.specs.Steps.{earlier, andMonth, foundIn, allMonths, lowestMissing};
+ghost use Rattle.months.specs.Steps.{andMonth, foundIn, allMonths, lowestMissing, columnOf};
 
 // What a value says as a month's precipitation.
 pub enum Month {
@@ -26,13 +27,13 @@ pub enum Month {
     Malformed,
 }
 
-// The months read so far.
+// Sets of the months read so far: January is bit 0, December bit 11.
 pub struct Found {
-    // The column where the first malformed value begins, or 0.
+    // Those whose value is malformed.
     pub malformed: u32,
-    // The column where the first value begins that is malformed or outside its range, or 0.
+    // Those whose value is malformed or outside its range.
     pub bad: u32,
-    // The set of months present.
+    // Those that are present.
     pub present: u32,
 }
 
@@ -40,6 +41,9 @@ pub struct Found {
 const MARK: u32 = 999;
 
 const MOST: u32 = 10_000;
+
+// The columns of a value.
+const VALUE: u32 = WIDTH as u32;
 
 // The set that holds all twelve months.
 const ALL: u32 = 4_095;
@@ -90,20 +94,12 @@ fn amount(month: Month) -> u32
 
 // ---- the months of a line
 
-// A column that is told, or the one here where none is.
-fn earlier_of(told: u32, here: u32) -> u32
-    ensures { λ r. ⌜ r ≡ earlier told here ⌝ }
-{
-    if told == 0 {
-        return here;
-    }
-    told
-}
-
-// The months so far and one more, whose bit of the set and whose first column these are.
-fn and_month(found: Found, month: Month, bit: u32, here: u32) -> Found
+// The months so far and one more, whose bit of the sets this is.
+fn and_month(found: Found, month: Month, bit: u32) -> Found
+    requires { ⌜ found .malformed + bit < 2 ^ 32 ⌝ }
+    requires { ⌜ found .bad + bit < 2 ^ 32 ⌝ }
     requires { ⌜ found .present + bit < 2 ^ 32 ⌝ }
-    ensures { λ r. ⌜ r ≡ andMonth found month bit here ⌝ }
+    ensures { λ r. ⌜ r ≡ andMonth found month bit ⌝ }
 {
     match month {
         Month::Amount(_) => Found {
@@ -114,12 +110,12 @@ fn and_month(found: Found, month: Month, bit: u32, here: u32) -> Found
         Month::Missing => found,
         Month::Outside => Found {
             malformed: found.malformed,
-            bad: earlier_of(found.bad, here),
+            bad: found.bad + bit,
             present: found.present,
         },
         Month::Malformed => Found {
-            malformed: earlier_of(found.malformed, here),
-            bad: earlier_of(found.bad, here),
+            malformed: found.malformed + bit,
+            bad: found.bad + bit,
             present: found.present,
         },
     }
@@ -143,7 +139,7 @@ pub fn read_months(line: &[u8], amounts: &mut [u32]) -> Found
         let at = HEADING + WIDTH * m;
         let month = read_month(&line[at..at + WIDTH]);
         amounts[m] = amount(month);
-        found = and_month(found, month, bit, at as u32 + 1);
+        found = and_month(found, month, bit);
         bit = 2 * bit;
         m += 1;
     }
@@ -160,4 +156,14 @@ pub fn first_missing(present: u32) -> u32
         return 0;
     }
     u32::trailing_zeros(ALL - present) + 1
+}
+
+// The column where the first month of a set begins, or 0 where it has none.
+pub fn first_column(set: u32) -> u32
+    ensures { λ r. ⌜ r ≡ columnOf set ⌝ }
+{
+    if set == 0 {
+        return 0;
+    }
+    FIRST_VALUE + VALUE * u32::trailing_zeros(set)
 }

@@ -6,16 +6,15 @@ use Prim.Native.Nat.{ℕ, _+_, _-_, _*_, _^_, _≤_, _<_}
 use native.Mathlib.Nat.{pow-suc}
 use native.Mathlib.Numerals.{add-one}
 use native.Mathlib.Omega.{arith}
-use lib.ListN.{length, take, drop, set, length-drop, length-map, length-set}
+use lib.ListN.{length, take, drop, set, length-drop, length-set}
 use lib.Pow.{pow-mono}
 use lib.Seq.{take-suc, take-suc-set, take-all, length-take-le}
-use Rattle.fields.specs.Columns.{headingColumns, firstValue, monthsOfYear, width}
-use Rattle.months.specs.Months.{monthOf, monthsOf, amountOf, isPresent, setOf, firstBad}
+use Rattle.fields.specs.Columns.{headingColumns, monthsOfYear, width}
+use Rattle.months.specs.Months.{monthOf, monthsOf, amountOf, setOf}
 use Rattle.months.specs.Steps.{foundIn, andMonth}
 use Rattle.months.specs.declared.Month.{Month}
 use Rattle.months.specs.declared.Month.the-variants.{Malformed}
-use Rattle.months.proofs.Sets.{set-below}
-use Rattle.months.proofs.Months.{months-twelve, field, month-at, found-more, found-present}
+use Rattle.months.proofs.Months.{months-twelve, field, month-at, found-more, found-below}
 use Rattle.months.proofs.read_months.Statement.{statement}
 use Rattle.months.proofs.read_months.Tie as tie
 
@@ -36,12 +35,9 @@ module _ (line : List ℕ) (m : ℕ) (h : m < monthsOfYear) where
       rw (add-one m)
       (take-suc (monthsOf line) m Malformed (omega (arith, months-twelve line)) ∙ ap (λ (x : Month). take m (monthsOf line) ++ x ∷ []) (month-at line m h))
 
-  column : headingColumns + width * m + 1 ≡ firstValue + width * m
-  column = omega arith
-
-  found-next : andMonth (foundIn (take m (monthsOf line))) (monthOf (field line m)) (2 ^ m) (headingColumns + width * m + 1) ≡ foundIn (take (m + 1) (monthsOf line))
+  found-next : andMonth (foundIn (take m (monthsOf line))) (monthOf (field line m)) (2 ^ m) ≡ foundIn (take (m + 1) (monthsOf line))
   found-next =
-      ap (andMonth (foundIn (take m (monthsOf line))) (monthOf (field line m)) (2 ^ m)) column ∙ ap (λ (n : ℕ). andMonth (foundIn (take m (monthsOf line))) (monthOf (field line m)) (2 ^ n) (firstValue + width * n)) (sym so-many)
+      ap (λ (n : ℕ). andMonth (foundIn (take m (monthsOf line))) (monthOf (field line m)) (2 ^ n)) (sym so-many)
       ∙ found-more (take m (monthsOf line)) (monthOf (field line m)) ∙ ap foundIn (sym next)
 
   amounts-next : (a : List ℕ) → length a ≡ monthsOfYear → take m a ≡ map amountOf (take m (monthsOf line)) → take (m + 1) (set a m (amountOf (monthOf (field line m)))) ≡ map amountOf (take (m + 1) (monthsOf line))
@@ -51,10 +47,6 @@ module _ (line : List ℕ) (m : ℕ) (h : m < monthsOfYear) where
       ∙ sym (map-append amountOf (take m (monthsOf line)) (monthOf (field line m) ∷ []))
       ∙ ap (map amountOf) (sym next)
 
-  present-below : setOf (map isPresent (take m (monthsOf line))) < 2 ^ m
-  present-below =
-      rw (length-map (take m (monthsOf line)) isPresent, so-many) at (set-below (map isPresent (take m (monthsOf line))))
-
   bit-below : 2 ^ m ≤ 2048
   bit-below = pow-mono {i = m} {j = 11} (omega arith)
 
@@ -62,16 +54,16 @@ pow-next : (m : ℕ) → 2 ^ (m + 1) ≡ 2 ^ m * 2
 pow-next m = rw (add-one m) (pow-suc 2 m)
 
 -- ---- the columns that are read
-seven : (k : ℕ) → k + 7 - k ≡ 7
+seven : (k : ℕ) → k + width - k ≡ width
 seven k = omega arith
 
-month-is : (c : tie.After-read-month Inv-loop μ-loop) → let a = c .before .before .before in c .read-month .result ≡ monthOf (take 7 (drop (10 + 7 * a .loop .m) (a .before .before .before .args .line .now)))
+month-is : (c : tie.After-read-month Inv-loop μ-loop) → let a = c .before .before .before in c .read-month .result ≡ monthOf (field (a .before .before .before .args .line .now) (a .loop .m))
 month-is c =
     let a = c .before .before .before in
-    c .read-month .ensures ∙ ap (λ (n : ℕ). monthOf (take n (drop (10 + 7 * a .loop .m) (a .before .before .before .args .line .now)))) (seven (10 + 7 * a .loop .m))
+    c .read-month .ensures ∙ ap (λ (n : ℕ). monthOf (take n (drop (headingColumns + width * a .loop .m) (a .before .before .before .args .line .now)))) (seven (headingColumns + width * a .loop .m))
 
 loop-holds : tie.Need-loop-holds Inv-loop μ-loop
-unfolding foundIn firstBad setOf
+unfolding foundIn setOf
 loop-holds c = (omega arith, refl, refl, refl, refl)
 
 mul-at : tie.Need-mul-at Inv-loop μ-loop
@@ -96,8 +88,8 @@ read-month-requires : tie.Need-read-month-requires Inv-loop μ-loop
 read-month-requires c κs =
     let a = c .before .before in
     let l = a .before .before .before .args .line .now in
-    let k = 10 + 7 * a .loop .m in
-    rw (seven k) (length-take-le 7 (drop k l) (omega (arith, length-drop k l, c .before .loop-test .taken, a .before .before .before .pre .0)))
+    let k = headingColumns + width * a .loop .m in
+    rw (seven k) (length-take-le width (drop k l) (omega (arith, length-drop k l, c .before .loop-test .taken, a .before .before .before .pre .0)))
 
 amount-requires : tie.Need-amount-requires Inv-loop μ-loop
 amount-requires c κs = search needs
@@ -110,19 +102,17 @@ slice-write-amounts c =
     let a = c .before .before .before .before in
     omega (arith, c .before .before .before .loop-test .taken, a .loop .inv .1, a .before .before .before .pre .1)
 
-cast-and-month : tie.Need-cast-and-month Inv-loop μ-loop
-cast-and-month c = record { fits = omega (arith, c .before .before .before .loop-test .taken) }
-
-add-and-month : tie.Need-add-and-month Inv-loop μ-loop
-add-and-month c = record { fits = omega (arith, c .before .before .before .loop-test .taken) }
-
 and-month-requires : tie.Need-and-month-requires Inv-loop μ-loop
 and-month-requires c κs =
     let a = c .before .before .before .before in
     let l = a .before .before .before .args .line .now in
     let h = c .before .before .before .loop-test .taken in
-    let p = found-present (take (a .loop .m) (monthsOf l)) (a .loop .found) (a .loop .inv .3) in
-    omega (arith, p, present-below l (a .loop .m) h, bit-below l (a .loop .m) h, a .loop .inv .2)
+    let b = found-below (take (a .loop .m) (monthsOf l)) (a .loop .found) (a .loop .inv .3) in
+    let n = so-many l (a .loop .m) h in
+    let p = bit-below l (a .loop .m) h in
+    let t = a .loop .inv .2 in
+    let w = rw n at b in
+    (omega (arith, w .0, p, t), (omega (arith, w .1, p, t), omega (arith, w .2, p, t)))
 
 mul-bit : tie.Need-mul-bit Inv-loop μ-loop
 mul-bit c =
@@ -178,8 +168,6 @@ read-months-spec =
     amount-requires
     mul-amounts
     slice-write-amounts
-    cast-and-month
-    add-and-month
     and-month-requires
     mul-bit
     add-m
