@@ -2,8 +2,6 @@
 // row a year, as year, twelve amounts in thousandths of an inch or a dash, months present. Where the reading stops,
 // only which line was refused and why. `division_input` reads, `layout` judges a line, `rows` lays out; here bytes are only
 // moved, and a refusal is put in words.
-use division_input::ROOM;
-use division_input::Session;
 use fields::Digits;
 use fields::FIRST_VALUE;
 use fields::LAST_COLUMN;
@@ -14,10 +12,12 @@ use kept::KEPT;
 use libc::STDERR_FILENO;
 use libc::STDIN_FILENO;
 use libc::STDOUT_FILENO;
+use session::ROOM;
+use session::Session;
 ghost use Prim.Native.Nat.{_≤_, _<_};
 ghost use mathlib.Core.Path.{_≡_};
 ghost use lib.ListN.{length};
-ghost use Rattle.division_input.specs.Input.{Held, room};
+ghost use Rattle.session.specs.Session.{Held, room};
 
 const MOST_ROW: usize = 72;
 
@@ -267,7 +267,7 @@ fn run(state: u32, division: u32) {
     let mut line = [0u8; KEPT];
     let mut out = make_room();
     run_with(
-        division_input::begin(state, division),
+        session::begin(state, division),
         &mut buffer,
         &mut line,
         &mut out,

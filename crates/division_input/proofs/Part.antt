@@ -11,9 +11,9 @@ use lib.Seq.{drop-drop}
 use borrow.Author.Tests.{eqb-true, eqb-false, ltb-true, ltb-false}
 use Rattle.text.specs.Bytes.{lineFeed}
 use Rattle.kept.specs.Kept.{untilFeed, Kept, keptOf, partKept}
-use Rattle.division_input.specs.Input.{State, held, withKept, byteKept, Closed, lineClosed, byteFed, ended}
-use Rattle.division_input.proofs.Closing.{byte-refused, byte-closes, byte-within}
-use Rattle.division_input.proofs.Room.{HeldIn, held-bytes}
+use Rattle.session.specs.Session.{Closed, lineClosed}
+use Rattle.division_input.specs.Input.{State, held, withKept, byteKept, byteFed, ended}
+use Rattle.division_input.proofs.Fed.{byte-refused, byte-closes, byte-within, HeldIn, held-bytes}
 
 -- ---- a part with no line feed in it
 no-feed-by : (b : ℕ) (bs : List ℕ) (t : Bool) → eqb b lineFeed ≡ t → untilFeed (b ∷ bs) ≡ b ∷ bs → (b ≡ lineFeed → ⊥) × (untilFeed bs ≡ bs)

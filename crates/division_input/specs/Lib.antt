@@ -1,4 +1,2 @@
--- What a reader must believe: what the program `division` makes of its lines (ByLines), and an argument (`namedOf`, Input). The rest, Input, is a
--- proof's vocabulary.
-pub mod ByLines
+-- What a reader must believe is an argument (`namedOf`, Input). The rest of Input is a proof's vocabulary.
 pub mod Input

@@ -16,10 +16,12 @@ use Rattle.fields.specs.Refusals.{another}
 use Rattle.layout.specs.Rainfall.{yearSaid, yearOf}
 use Rattle.layout.specs.declared.Year.{Year}
 use Rattle.kept.specs.Kept.{mostKept}
-use Rattle.division_input.specs.ByLines.{expected, Made, nothing, madeBy, madeWith, lineMade, atEnd, divisionOf}
-use Rattle.division_input.specs.Input.{begun, State, held, byteKept, Closed, closed, rowText, closedBy, lineClosed, byteFed, lastClosed, noneFound, inputEnded}
-use Rattle.division_input.specs.declared.Session.{Session}
-use Rattle.division_input.proofs.Closing.{refused-stays, goes-on, byte-closes, byte-within}
+use Rattle.session.specs.ByLines.{expected, Made, nothing, madeBy, madeWith, lineMade, atEnd, divisionOf}
+use Rattle.session.specs.Session.{begun, Closed, closed, rowText, closedBy, lineClosed, lastClosed, noneFound}
+use Rattle.session.specs.declared.Session.{Session}
+use Rattle.session.proofs.Closing.{refused-stays, goes-on}
+use Rattle.division_input.specs.Input.{State, held, byteKept, byteFed, inputEnded}
+use Rattle.division_input.proofs.Fed.{byte-closes, byte-within}
 use Rattle.division_laws.proofs.Kept.{kept-same}
 use Rattle.division_input.proofs.Part.{fed-refused}
 

@@ -21,7 +21,7 @@ use Rattle.layout.specs.Rainfall.{isLine, rainFits, isNamed, isYear, refusal, y
 use Rattle.kept.specs.Kept.{mostKept, isKept, keptCount, keptLine}
 use Rattle.kept.proofs.Parts.{kept-within}
 use Rattle.division_input.specs.Input.{State, held, withKept, byteKept}
-use Rattle.division_input.specs.declared.Session.{Session}
+use Rattle.session.specs.declared.Session.{Session}
 
 -- ---- what is kept of bytes, where n of their line are kept already
 keptOf : ℕ → List ℕ → List ℕ

@@ -1,9 +1,9 @@
--- `division_input::count_line`: its test is the least of the definition. Assumes nothing.
+-- `session::count_line`: its test is the least of the definition. Assumes nothing.
 use borrow.Author.Needs.{needs}
 use native.Mathlib.Omega.{arith}
-use Rattle.division_input.specs.ByLines.{counted}
-use Rattle.division_input.proofs.count_line.Statement.{statement}
-use Rattle.division_input.proofs.count_line.Tie as tie
+use Rattle.session.specs.ByLines.{counted}
+use Rattle.session.proofs.count_line.Statement.{statement}
+use Rattle.session.proofs.count_line.Tie as tie
 
 add-result : tie.Need-add-result
 add-result c = search needs

@@ -1,12 +1,12 @@
--- `division_input::expected_year`: the next year, or the line's own where that is 0. Assumes nothing.
+-- `session::expected_year`: the next year, or the line's own where that is 0. Assumes nothing.
 use borrow.Author.Needs.{needs}
 use mathlib.Core.Path.{_≡_, refl, sym, _∙_}
 use mathlib.Core.List.{List}
 use Prim.Native.Nat.{ℕ, zero, suc}
-use Rattle.division_input.specs.ByLines.{expected}
+use Rattle.session.specs.ByLines.{expected}
 use Rattle.layout.specs.Rainfall.{yearOf}
-use Rattle.division_input.proofs.expected_year.Statement.{statement}
-use Rattle.division_input.proofs.expected_year.Tie as tie
+use Rattle.session.proofs.expected_year.Statement.{statement}
+use Rattle.session.proofs.expected_year.Tie as tie
 
 first : (n : ℕ) (line : List ℕ) → n ≡ 0 → expected n line ≡ yearOf line
 unfolding expected

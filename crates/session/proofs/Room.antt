@@ -2,13 +2,13 @@
 -- had to follow, so the rows so far end a row before the room does, and no row is longer than that. Assumes nothing.
 use mathlib.Core.Path.{_≡_, refl, sym, _∙_}
 use mathlib.Core.Bool.{Bool, true, false, cond, _&&_, and-false}
-use mathlib.Core.List.{List, [], _∷_, map, foldl}
+use mathlib.Core.List.{List, [], _∷_, map}
 use Prim.Native.Nat.{ℕ, zero, suc, _+_, _*_, _/_, _%_, _≤_, _<_}
 use native.Mathlib.Omega.{arith}
 use lib.Dec.{leb, eqb}
-use lib.ListN.{length, take, drop, set, length-append, length-take, length-drop, length-set, length-map}
+use lib.ListN.{length, take, drop, length-append, length-take, length-drop, length-map}
 use borrow.Author.Tests.{leb-true, eqb-true}
-use Rattle.text.specs.Bytes.{lineFeed, minusSign, allDigits, natural}
+use Rattle.text.specs.Bytes.{minusSign, allDigits, natural}
 use Rattle.text.proofs.Digits.{apart}
 use Rattle.fields.specs.Columns.{year, values, monthsOfYear}
 use Rattle.fields.specs.Field.{fieldOf}
@@ -23,20 +23,18 @@ use Rattle.months.proofs.Months.{months-twelve}
 use Rattle.heading.specs.Heading.{headed}
 use Rattle.layout.specs.Rainfall.{isLine, rainFits, isNamed, isYear, refusal, yearSaid}
 use Rattle.layout.proofs.Refusals.{number-is}
-use Rattle.kept.specs.Kept.{mostKept, isKept, keptCount, keptLine}
-use Rattle.kept.proofs.Parts.{kept-within}
 use Rattle.rows.specs.Text.{numeral, monthText, monthsText, yearText, laid, mostYear}
 use Rattle.rows.proofs.Digits.{numeral-length}
-use Rattle.division_input.specs.ByLines.{expected, going}
-use Rattle.division_input.specs.Input.{State, Held, mostYears, byteKept, Closed, closed, rowText, closedBy, lineClosed, byteFed, lastClosed, withRefusal, noneFound, inputEnded}
-use Rattle.division_input.specs.declared.Session.{Session}
+use Rattle.session.specs.ByLines.{expected, going}
+use Rattle.session.specs.Session.{Held, mostYears, Closed, closed, rowText, closedBy, lineClosed, lastClosed}
+use Rattle.session.specs.declared.Session.{Session}
 
 -- ---- what is so of both ways is so
-cond-so : {A : Type 0} (P : A → Type 0) (t : Bool) (x y : A) → P x → P y → P (cond t x y)
+pub cond-so : {A : Type 0} (P : A → Type 0) (t : Bool) (x y : A) → P x → P y → P (cond t x y)
 cond-so P true x y p q = p
 cond-so P false x y p q = q
 
-unrefused-so : {A : Type 0} (P : A → Type 0) (k : ℕ) (t next : A) → P t → P next → P (going k t next)
+pub unrefused-so : {A : Type 0} (P : A → Type 0) (k : ℕ) (t next : A) → P t → P next → P (going k t next)
 unrefused-so P zero t next p q = q
 unrefused-so P (suc k) t next p q = p
 
@@ -107,10 +105,7 @@ follows (suc n) line = omega arith
 laid-length : (text : List ℕ) (at : ℕ) (out : List ℕ) → at + length text ≤ length out → length (laid text at out) ≡ length out
 laid-length text at out h = simp (length-append, length-take, length-drop) (omega arith)
 
--- what is held, of a whole state, and of what a line closed leaves beside the line
-abbrev pub HeldIn : State → Type 0
-HeldIn t = Held (t .session) (t .line) (t .out)
-
+-- what is held, of what a line closed leaves beside the line
 abbrev pub HeldBy : List ℕ → Closed → Type 0
 HeldBy line c = Held (c .session) line (c .out)
 
@@ -138,35 +133,8 @@ module _ (s : Session) (line out : List ℕ) (h : Held s line out) where
   unfolding lineClosed
   held-closed = closed-by (yearSaid (read s line) (s .state) (s .division) (yearFor s line) .number) refl
 
--- ---- whatever comes
-count-by : (kept b : ℕ) (t : Bool) → isKept kept b ≡ t → kept ≤ mostKept → keptCount kept b ≤ mostKept
-unfolding keptCount
-count-by kept b true e h = rw e (omega (arith, kept-within kept b e))
-count-by kept b false e h = rw e h
-
-length-kept : (kept b : ℕ) (line : List ℕ) → length (keptLine kept b line) ≡ length line
-unfolding keptLine
-length-kept kept b line = cond-so (λ l. length l ≡ length line) (isKept kept b) (set line kept b) line (length-set line kept b) refl
-
-pub held-byte : (t : State) (b : ℕ) → HeldIn t → HeldIn (byteFed t b)
-unfolding byteFed
-held-byte t b h =
-    let kept = t .session .kept in
-    unrefused-so HeldIn (t .session .refused) t _ h
-    (cond-so HeldIn (eqb b lineFeed) _ (byteKept t b) (held-closed _ (t .line) _ h) (omega (arith, count-by kept b _ refl (h .0), length-kept kept b (t .line))))
-
-pub held-bytes : (t : State) (bs : List ℕ) → HeldIn t → HeldIn (foldl byteFed t bs)
-held-bytes t [] h = h
-held-bytes t (b ∷ bs) h = held-bytes (byteFed t b) bs (held-byte t b h)
-
+-- ---- the end
 pub held-last : (s : Session) (line out : List ℕ) → Held s line out → HeldBy line (lastClosed s line out)
 unfolding lastClosed
 held-last s line out h =
     unrefused-so (HeldBy line) (s .refused) (closed s out) _ h (cond-so (HeldBy line) (eqb (s .kept) 0) (closed s out) _ h (held-closed s line out h))
-
-pub held-ended : (s : Session) (line out : List ℕ) → Held s line out → HeldBy line (inputEnded s line out)
-unfolding inputEnded noneFound
-held-ended s line out h =
-    let u = lastClosed s line out .session in
-    let l = held-last s line out h in
-    cond-so (λ (v : Session). Held v line (lastClosed s line out .out)) (eqb (u .refused) 0 && eqb (u .next) 0) (withRefusal u another) u l l

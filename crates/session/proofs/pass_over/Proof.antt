@@ -1,7 +1,7 @@
--- `division_input::pass_over`: the line is counted, and nothing kept of it. Assumes nothing.
+-- `session::pass_over`: the line is counted, and nothing kept of it. Assumes nothing.
 use borrow.Author.Needs.{needs}
-use Rattle.division_input.proofs.pass_over.Statement.{statement}
-use Rattle.division_input.proofs.pass_over.Tie as tie
+use Rattle.session.proofs.pass_over.Statement.{statement}
+use Rattle.session.proofs.pass_over.Tie as tie
 
 count-line-requires : tie.Need-count-line-requires
 count-line-requires c κs = search needs

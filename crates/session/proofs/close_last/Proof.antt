@@ -1,11 +1,11 @@
--- `division_input::close_last`: a line of which anything has come is closed. Assumes nothing.
+-- `session::close_last`: a line of which anything has come is closed. Assumes nothing.
 use borrow.Author.Needs.{needs}
 use mathlib.Core.Path.{sym, _∙_}
 use borrow.Author.Tests.{eq-eqb, ne-eqb}
-use Rattle.division_input.specs.Input.{closed, lastClosed}
-use Rattle.division_input.proofs.Closing.{refused-stays, goes-on}
-use Rattle.division_input.proofs.close_last.Statement.{statement}
-use Rattle.division_input.proofs.close_last.Tie as tie
+use Rattle.session.specs.Session.{closed, lastClosed}
+use Rattle.session.proofs.Closing.{refused-stays, goes-on}
+use Rattle.session.proofs.close_last.Statement.{statement}
+use Rattle.session.proofs.close_last.Tie as tie
 
 returns : tie.Need-returns
 unfolding lastClosed

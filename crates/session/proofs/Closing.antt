@@ -1,17 +1,15 @@
--- A line that is closed, by its number; and a byte, by what came before. Assumes nothing.
+-- A line that is closed, by its number; and what a refusal leaves. Assumes nothing.
 use mathlib.Core.Path.{_≡_, refl, ap, ap₂, _∙_}
 use mathlib.Core.List.{List}
 use Prim.Native.Nat.{ℕ, zero, suc}
-use lib.ListN.{take}
-use borrow.Author.Tests.{eq-eqb, ne-eqb}
-use Rattle.text.specs.Bytes.{lineFeed}
+use borrow.Author.Tests.{ne-eqb}
 use Rattle.fields.specs.Refusals.{another}
 use Rattle.layout.specs.Rainfall.{yearSaid}
 use Rattle.layout.specs.declared.Year.{Year}
 use Rattle.rows.specs.Text.{laid}
-use Rattle.division_input.specs.ByLines.{expected, going}
-use Rattle.division_input.specs.Input.{State, closed, rowText, withRow, passed, stopped, closedBy, closedWith, lineClosed, afterLine, byteKept, byteFed}
-use Rattle.division_input.specs.declared.Session.{Session}
+use Rattle.session.specs.ByLines.{expected, going}
+use Rattle.session.specs.Session.{closed, rowText, withRow, passed, stopped, closedBy, closedWith, lineClosed}
+use Rattle.session.specs.declared.Session.{Session}
 
 -- ---- a line closed
 module _ (s : Session) (out : List ℕ) (year : Year) (y : ℕ) where
@@ -39,16 +37,3 @@ refused-stays (suc k) t next e = refl
 
 pub goes-on : {A : Type 0} (k : ℕ) (t next : A) → k ≡ 0 → going k t next ≡ next
 goes-on k t next e = rw e
-
-module _ (t : State) (b : ℕ) where
-  pub byte-refused : (t .session .refused ≡ 0 → ⊥) → byteFed t b ≡ t
-  unfolding byteFed
-  byte-refused e = refused-stays _ t _ e
-
-  pub byte-closes : t .session .refused ≡ 0 → b ≡ lineFeed → byteFed t b ≡ afterLine t (lineClosed (t .session) (take (t .session .kept) (t .line)) (t .out))
-  unfolding byteFed
-  byte-closes e f = goes-on _ t _ e ∙ rw (eq-eqb b lineFeed f)
-
-  pub byte-within : t .session .refused ≡ 0 → (b ≡ lineFeed → ⊥) → byteFed t b ≡ byteKept t b
-  unfolding byteFed
-  byte-within e f = goes-on _ t _ e ∙ rw (ne-eqb b lineFeed f)

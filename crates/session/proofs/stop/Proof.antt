@@ -1,7 +1,7 @@
--- `division_input::stop`: the line is counted, and the number told. Assumes nothing.
+-- `session::stop`: the line is counted, and the number told. Assumes nothing.
 use borrow.Author.Needs.{needs}
-use Rattle.division_input.proofs.stop.Statement.{statement}
-use Rattle.division_input.proofs.stop.Tie as tie
+use Rattle.session.proofs.stop.Statement.{statement}
+use Rattle.session.proofs.stop.Tie as tie
 
 count-line-requires : tie.Need-count-line-requires
 count-line-requires c κs = search needs

@@ -1,4 +1,4 @@
--- `division_input::close_line`: the line is taken, passed over or stops the reading, by its number. Assumes nothing.
+-- `session::close_line`: the line is taken, passed over or stops the reading, by its number. Assumes nothing.
 use borrow.Author.Needs.{needs}
 use mathlib.Core.Path.{_≡_, sym, ap, ap₂, _∙_}
 use mathlib.Core.List.{List}
@@ -9,13 +9,13 @@ use lib.Seq.{length-take-le}
 use Rattle.layout.specs.Rainfall.{refusal, yearSaid}
 use Rattle.layout.specs.declared.Year.{Year}
 use Rattle.layout.proofs.Refusals.{number-is}
-use Rattle.division_input.specs.ByLines.{expected}
-use Rattle.division_input.specs.Input.{closed, closedWith, lineClosed}
-use Rattle.division_input.specs.declared.Session.{Session}
-use Rattle.division_input.proofs.Closing.{closing-row, closing-passed, closing-stopped, closing}
-use Rattle.division_input.proofs.Room.{accepted-year, room-for-row}
-use Rattle.division_input.proofs.close_line.Statement.{statement}
-use Rattle.division_input.proofs.close_line.Tie as tie
+use Rattle.session.specs.ByLines.{expected}
+use Rattle.session.specs.Session.{closed, closedWith, lineClosed}
+use Rattle.session.specs.declared.Session.{Session}
+use Rattle.session.proofs.Closing.{closing-row, closing-passed, closing-stopped, closing}
+use Rattle.session.proofs.Room.{accepted-year, room-for-row}
+use Rattle.session.proofs.close_line.Statement.{statement}
+use Rattle.session.proofs.close_line.Tie as tie
 
 -- ---- what was read
 abbrev start : tie.After-read → tie.Start

@@ -1,7 +1,7 @@
--- `division_input::add_row`: the year's row is laid where the rows end, and the line counted. Assumes nothing.
+-- `session::add_row`: the year's row is laid where the rows end, and the line counted. Assumes nothing.
 use borrow.Author.Needs.{needs}
-use Rattle.division_input.proofs.add_row.Statement.{statement}
-use Rattle.division_input.proofs.add_row.Tie as tie
+use Rattle.session.proofs.add_row.Statement.{statement}
+use Rattle.session.proofs.add_row.Tie as tie
 
 count-line-requires : tie.Need-count-line-requires
 count-line-requires c κs = search needs

@@ -1,8 +1,8 @@
--- `division_input::none_found`: its tests are those of the definition. Assumes nothing.
+-- `session::none_found`: its tests are those of the definition. Assumes nothing.
 use borrow.Author.Tests.{eq-eqb, ne-eqb}
-use Rattle.division_input.specs.Input.{noneFound}
-use Rattle.division_input.proofs.none_found.Statement.{statement}
-use Rattle.division_input.proofs.none_found.Tie as tie
+use Rattle.session.specs.Session.{noneFound}
+use Rattle.session.proofs.none_found.Statement.{statement}
+use Rattle.session.proofs.none_found.Tie as tie
 
 returns : tie.Need-returns
 unfolding noneFound
