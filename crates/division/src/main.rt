@@ -2,42 +2,35 @@
 // row a year, as year, twelve amounts in thousandths of an inch or a dash, months present. Where the reading stops,
 // only which line was refused and why. `division_input` reads, `layout` judges a line, `rows` lays out; here bytes are only
 // moved, and a refusal is put in words.
-use division_input::Session;
-use layout::Digits;
+use fields::Digits;
+use fields::FIRST_VALUE;
+use fields::LAST_COLUMN;
+use fields::NOT_THE_YEAR;
+use fields::OTHER_LINE;
+use fields::WIDTH;
+use kept::KEPT;
 use libc::STDERR_FILENO;
 use libc::STDIN_FILENO;
 use libc::STDOUT_FILENO;
+use session::ROOM;
+use session::Session;
 ghost use Prim.Native.Nat.{_≤_, _<_};
 ghost use mathlib.Core.Path.{_≡_};
 ghost use lib.ListN.{length};
-ghost use Rattle.division_input.specs.Input.{Held};
-
-// What `division_input` asks to be lent: a line's first bytes, and the rows of the years 0 to 9999.
-const KEPT: usize = 95;
-
-const ROOM: usize = 1_540_000;
+ghost use Rattle.session.specs.Session.{Held, room};
 
 const MOST_ROW: usize = 72;
 
 // The program's name and its two arguments.
 const WORDS: usize = 3;
 
-// The layout: where the first value begins, the columns of a value, where the last one ends, and what comes after it.
-const FIRST_VALUE: u32 = 11;
+// The last column of the last value, and the columns of a value.
+const LAST: u32 = LAST_COLUMN as u32;
 
-const WIDTH: u32 = 7;
-
-const LAST_COLUMN: usize = 94;
-
-const AFTER_VALUES: u32 = 95;
+const VALUE: u32 = WIDTH as u32;
 
 // What a byte order mark begins with.
 const BYTE_ORDER_MARK: u8 = 0xEF;
-
-// The refusals.
-const OTHER_LINE: u8 = 15;
-
-const NOT_THE_YEAR: u8 = 16;
 
 // What has been read: how many reads may follow (0: the input has ended or a line is refused), whether a read failed,
 // and the session.
@@ -107,7 +100,9 @@ fn say_number(n: u32) {
 fn explain_end(kept: u32) {
     say(b": it ends after column ");
     say_number(kept);
-    say(b", and the layout has 94\n");
+    say(b", and the layout has ");
+    say_number(LAST);
+    say(b"\n");
 }
 
 // 14, of what stands in the first ten columns, the line's first byte given.
@@ -138,9 +133,9 @@ fn explain_field(column: u32, first: u8, after: u8) {
         explain_heading(first);
         return;
     }
-    if column < AFTER_VALUES {
+    if column <= LAST {
         say(b": month ");
-        say_number((column - FIRST_VALUE) / WIDTH + 1);
+        say_number((column - FIRST_VALUE) / VALUE + 1);
         say(b" is neither -9.99 nor 0.00 to 100.00 inches, as the layout has them\n");
         return;
     }
@@ -261,7 +256,7 @@ fn usage() {
 
 // Room for the rows. Its `ensures` gives only the length, which lending it needs.
 fn make_room() -> [u8; ROOM]
-    ensures { λ r. ⌜ 1540000 ≡ length r ⌝ }
+    ensures { λ r. ⌜ room ≡ length r ⌝ }
 {
     [0; ROOM]
 }
@@ -272,7 +267,7 @@ fn run(state: u32, division: u32) {
     let mut line = [0u8; KEPT];
     let mut out = make_room();
     run_with(
-        division_input::begin(state, division),
+        session::begin(state, division),
         &mut buffer,
         &mut line,
         &mut out,

@@ -1,8 +1,4 @@
--- What the proofs share: a line that is closed, and a byte (Closing), that what is lent is enough (Room), and a part of a line (Part). What is
--- proved of the reading beside its promises: the bytes kept of a line tell all that the line tells (Kept), and the reading is by lines
--- (ByLines).
-pub mod Closing
-pub mod Room
+-- What the proofs share: a byte more, and that what is lent is enough (Fed), and a part of a line (Part). That the reading is by lines is
+-- proved in the crate `division_laws`.
+pub mod Fed
 pub mod Part
-pub mod Kept
-pub mod ByLines

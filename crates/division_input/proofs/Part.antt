@@ -4,42 +4,16 @@ use mathlib.Core.Path.{_≡_, refl, sym, ap, subst, _∙_}
 use mathlib.Core.Bool.{Bool, true, false}
 use mathlib.Core.List.{List, [], _∷_, _++_, append-assoc, append-nil, foldl, foldl-append}
 use Prim.Native.Nat.{ℕ, suc, _+_, _-_, _≤_, _<_}
-use native.Mathlib.Numerals.{add-one}
 use native.Mathlib.Omega.{arith}
 use lib.Dec.{eqb, ltb}
-use lib.ListN.{length, take, drop, getD, length-take, length-drop, drop-of-length-le}
-use lib.Seq.{drop-cons, drop-drop}
-use borrow.Author.Tests.{eq-eqb, ne-eqb, eqb-true, eqb-false, ltb-true, ltb-false}
+use lib.ListN.{length, take, drop, length-take, length-drop, drop-of-length-le}
+use lib.Seq.{drop-drop}
+use borrow.Author.Tests.{eqb-true, eqb-false, ltb-true, ltb-false}
 use Rattle.text.specs.Bytes.{lineFeed}
-use Rattle.division_input.specs.Input.{State, held, withKept, Kept, keptOf, byteInto, partKept, byteKept, Closed, lineClosed, byteFed, untilFeed, ended}
-use Rattle.division_input.proofs.Closing.{byte-refused, byte-closes, byte-within}
-use Rattle.division_input.proofs.Room.{HeldIn, held-bytes}
-
--- ---- what is left at a place: its first byte and those after it, or nothing
-module _ (s : List ℕ) (i : ℕ) (h : i < length s) where
-  left : drop i s ≡ getD s i 0 ∷ drop (i + 1) s
-  left = rw (add-one i) (drop-cons s i 0 h)
-
-  pub part-on : (k : Kept) → partKept k (drop i s) ≡ partKept (byteInto k (getD s i 0)) (drop (i + 1) s)
-  unfolding partKept
-  part-on k = rw left
-
-  pub feed-here : getD s i 0 ≡ lineFeed → untilFeed (drop i s) ≡ []
-  unfolding untilFeed
-  feed-here e = rw (left, eq-eqb (getD s i 0) lineFeed e)
-
-  pub feed-later : (getD s i 0 ≡ lineFeed → ⊥) → untilFeed (drop i s) ≡ getD s i 0 ∷ untilFeed (drop (i + 1) s)
-  unfolding untilFeed
-  feed-later e = rw (left, ne-eqb (getD s i 0) lineFeed e)
-
-module _ (s : List ℕ) (i : ℕ) (h : length s ≤ i) where
-  pub part-end : (k : Kept) → partKept k (drop i s) ≡ k
-  unfolding partKept
-  part-end k = rw (drop-of-length-le s h)
-
-  pub feed-none : untilFeed (drop i s) ≡ []
-  unfolding untilFeed
-  feed-none = rw (drop-of-length-le s h)
+use Rattle.kept.specs.Kept.{untilFeed, Kept, keptOf, partKept}
+use Rattle.session.specs.Session.{Closed, lineClosed}
+use Rattle.division_input.specs.Input.{State, held, withKept, byteKept, byteFed, ended}
+use Rattle.division_input.proofs.Fed.{byte-refused, byte-closes, byte-within, HeldIn, held-bytes}
 
 -- ---- a part with no line feed in it
 no-feed-by : (b : ℕ) (bs : List ℕ) (t : Bool) → eqb b lineFeed ≡ t → untilFeed (b ∷ bs) ≡ b ∷ bs → (b ≡ lineFeed → ⊥) × (untilFeed bs ≡ bs)

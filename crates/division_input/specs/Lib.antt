@@ -1,4 +1,2 @@
--- What the contracts of `division_input` cite: what the program `division` holds while it reads (Input). And the same said of whole lines, which
--- the theorem of proofs/ByLines.antt compares it with (ByLines).
+-- What a reader must believe is an argument (`namedOf`, Input). The rest of Input is a proof's vocabulary.
 pub mod Input
-pub mod ByLines

@@ -2,42 +2,16 @@
 // why the reading stopped.
 //
 // Document 02, E1: "We take on stations with a century of rain already published in the nClimDiv fixed-width layout".
-// What the program makes of an input is `divisionOf`, specs/ByLines.antt, said of whole lines; here it is said byte by
-// byte, for an input that comes in pieces, and `by-lines`, proofs/ByLines.antt, says that this is the same. Everything
-// here is for the program, which lends a line of 95 bytes and room for 10,000 rows.
-use layout::Digits;
-use layout::Year;
+// What the program makes of an input is `divisionOf`, ByLines of the crate `session`, said of whole lines; here it is
+// said byte by byte, for an input that comes in pieces, and `by-lines`, of the crate `division_laws`, says that this is
+// the same. Everything here is for the program, which lends a line and room for the rows.
+use fields::Digits;
+use session::Session;
 ghost use mathlib.Core.Path.{_≡_};
 ghost use mathlib.Core.List.{foldl};
-ghost use Prim.Native.Nat.{_+_, _-_, _≤_, _<_, min};
-ghost use lib.ListN.{length, take, drop};
-ghost use Rattle.division_input.specs.ByLines.{counted, expected};
-ghost use Rattle.rows.specs.Text.{laid};
-ghost use Rattle.division_input.specs.Input.{namedOf, begun, held, Held, isKept, keptCount, keptLine, keptOf, partKept, closed, rowText, withRow, passed, stopped, lineClosed, byteFed, untilFeed, ended, lastClosed, noneFound, inputEnded};
-
-pub struct Session {
-    // What is asked for.
-    pub state: u32,
-    pub division: u32,
-    // How many bytes of the line so far are kept.
-    pub kept: usize,
-    // How many lines have been closed.
-    pub lines: u32,
-    // 0, or the refusal that stopped the reading: 14, 15 or 16.
-    pub refused: u8,
-    // The year that must follow, or 0 where no line has been taken yet.
-    pub next: u32,
-    // Where the rows so far end.
-    pub end: usize,
-}
-
-// The columns up to the end of the last value.
-const LAST_COLUMN: usize = 94;
-
-const MOST_LINES: u32 = 4_294_967_295;
-
-// Another state, division or element.
-const OTHER_LINE: u8 = 15;
+ghost use Rattle.kept.specs.Kept.{untilFeed};
+ghost use Rattle.session.specs.Session.{Held, closed};
+ghost use Rattle.division_input.specs.Input.{namedOf, held, byteFed, ended, inputEnded};
 
 // A state or a division as a person writes it: one or two digits.
 pub fn named(part: &[u8]) -> Digits
@@ -49,206 +23,10 @@ pub fn named(part: &[u8]) -> Digits
     if part.len() > 2 {
         return Digits::Other;
     }
-    layout::number_of(part)
-}
-
-// Before the first byte.
-pub fn begin(state: u32, division: u32) -> Session
-    ensures { λ r. ⌜ r ≡ begun state division ⌝ }
-{
-    Session {
-        state,
-        division,
-        kept: 0,
-        lines: 0,
-        refused: 0,
-        next: 0,
-        end: 0,
-    }
-}
-
-// Whether the next byte of a line is kept, of which so many are: the first 94 are, and after them the first that is
-// no space.
-fn is_kept(kept: usize, b: u8) -> bool
-    ensures { λ r. ⌜ r ≡ isKept kept b ⌝ }
-{
-    if kept < LAST_COLUMN {
-        return true;
-    }
-    if kept > LAST_COLUMN {
-        return false;
-    }
-    b != b' '
-}
-
-// One byte more of a line, of which so many bytes are kept; how many then are.
-fn keep_byte(kept: usize, b: u8, line: &mut [u8]) -> usize
-    requires { ⌜ length (now line) ≡ 95 ⌝ }
-    ensures { λ r. ⌜ r ≡ keptCount kept b ⌝ }
-    ensures { λ _. ⌜ now (line .exit) ≡ keptLine kept b (now (line .entry)) ⌝ }
-{
-    if !is_kept(kept, b) {
-        return kept;
-    }
-    line[kept] = b;
-    kept + 1
-}
-
-// How many of so many bytes, which follow those kept, stand in the first 94 columns.
-fn in_columns(kept: usize, bytes: usize) -> usize
-    ensures { λ r. ⌜ r ≡ min bytes (94 - kept) ⌝ }
-{
-    if kept > LAST_COLUMN {
-        return 0;
-    }
-    let left = LAST_COLUMN - kept;
-    if bytes < left {
-        return bytes;
-    }
-    left
-}
-
-// A part that stands in the first 94 columns. `keep_rest` would do the same; this loop is compiled to one copy, and
-// nearly all of an input goes through it.
-fn keep_columns(kept: usize, part: &[u8], line: &mut [u8])
-    requires { ⌜ length (now part) ≤ 94 - kept ⌝ }
-    requires { ⌜ length (now line) ≡ 95 ⌝ }
-    ensures { λ _. ⌜ keptOf (kept + length (now (part .entry))) (now (line .exit)) ≡ partKept (keptOf kept (now (line .entry))) (now (part .entry)) ⌝ }
-{
-    let mut i = 0;
-    while i < part.len() {
-        line[kept + i] = part[i];
-        i += 1;
-    }
-}
-
-fn keep_rest(kept: usize, part: &[u8], line: &mut [u8]) -> usize
-    requires { ⌜ length (now line) ≡ 95 ⌝ }
-    ensures { λ r. ⌜ keptOf r (now (line .exit)) ≡ partKept (keptOf kept (now (line .entry))) (now (part .entry)) ⌝ }
-{
-    let mut n = kept;
-    let mut i = 0;
-    while i < part.len() {
-        n = keep_byte(n, part[i], line);
-        i += 1;
-    }
-    n
-}
-
-fn keep_part(kept: usize, part: &[u8], line: &mut [u8]) -> usize
-    requires { ⌜ length (now line) ≡ 95 ⌝ }
-    ensures { λ r. ⌜ keptOf r (now (line .exit)) ≡ partKept (keptOf kept (now (line .entry))) (now (part .entry)) ⌝ }
-{
-    let n = in_columns(kept, part.len());
-    keep_columns(kept, &part[..n], line);
-    keep_rest(kept + n, &part[n..], line)
-}
-
-// ---- a line closed
-
-fn count_line(lines: u32) -> u32
-    ensures { λ r. ⌜ r ≡ counted lines ⌝ }
-{
-    if lines < MOST_LINES {
-        return lines + 1;
-    }
-    lines
-}
-
-// The year that a line must have: the one that follows, or its own where it is the first.
-fn expected_year(next: u32, line: &[u8]) -> u32
-    ensures { λ r. ⌜ r ≡ expected next (now (line .entry)) ⌝ }
-{
-    if next == 0 {
-        return layout::year_of(line);
-    }
-    next
-}
-
-fn pass_over(s: Session) -> Session
-    ensures { λ r. ⌜ r ≡ passed s ⌝ }
-{
-    let lines = count_line(s.lines);
-    Session {
-        state: s.state,
-        division: s.division,
-        kept: 0,
-        lines,
-        refused: s.refused,
-        next: s.next,
-        end: s.end,
-    }
-}
-
-fn stop(s: Session, number: u8) -> Session
-    ensures { λ r. ⌜ r ≡ stopped s number ⌝ }
-{
-    let lines = count_line(s.lines);
-    Session {
-        state: s.state,
-        division: s.division,
-        kept: s.kept,
-        lines,
-        refused: number,
-        next: s.next,
-        end: s.end,
-    }
-}
-
-fn add_row(s: Session, year: Year, y: u32, out: &mut [u8]) -> Session
-    requires { ⌜ y < 10000 ⌝ }
-    requires { ⌜ s .end + 154 ≤ length (now out) ⌝ }
-    ensures { λ r. ⌜ r ≡ withRow s year y ⌝ }
-    ensures { λ _. ⌜ now (out .exit) ≡ laid (rowText year y) (s .end) (now (out .entry)) ⌝ }
-{
-    let lines = count_line(s.lines);
-    let amounts = year.amounts;
-    let end = rows::lay_year(y, &amounts, year.present, year.count, s.end, out);
-    Session {
-        state: s.state,
-        division: s.division,
-        kept: 0,
-        lines,
-        refused: 0,
-        next: y + 1,
-        end,
-    }
-}
-
-// A line is taken, passed over, or stops the reading.
-fn close_line(s: Session, line: &[u8], out: &mut [u8]) -> Session
-    requires { ⌜ Held s (now line) (now out) ⌝ }
-    ensures { λ r. ⌜ closed r (now (out .exit)) ≡ lineClosed s (take (s .kept) (now (line .entry))) (now (out .entry)) ⌝ }
-{
-    let kept = s.kept;
-    let y = expected_year(s.next, &line[..kept]);
-    let year = layout::read(&line[..kept], s.state, s.division, y);
-    let number = year.number;
-    if number == OTHER_LINE {
-        return pass_over(s);
-    }
-    if number != 0 {
-        return stop(s, number);
-    }
-    add_row(s, year, y, out)
+    fields::number_of(part)
 }
 
 // ---- the input
-
-// Where the line ends that goes on at `from`: at its line feed, or where the piece ends.
-fn line_end(piece: &[u8], from: usize) -> usize
-    requires { ⌜ from ≤ length (now piece) ⌝ }
-    ensures { λ r. ⌜ r ≡ from + length (untilFeed (drop from (now (piece .entry)))) ⌝ }
-{
-    let mut i = from;
-    while i < piece.len() {
-        if piece[i] == b'\n' {
-            return i;
-        }
-        i += 1;
-    }
-    i
-}
 
 // A part of a line, with the line feed that ends it or without.
 fn take_line(s: Session, part: &[u8], ends: bool, line: &mut [u8], out: &mut [u8]) -> Session
@@ -259,7 +37,7 @@ fn take_line(s: Session, part: &[u8], ends: bool, line: &mut [u8], out: &mut [u8
     if s.refused != 0 {
         return s;
     }
-    let kept = keep_part(s.kept, part, line);
+    let kept = kept::keep_part(s.kept, part, line);
     let t = Session {
         state: s.state,
         division: s.division,
@@ -272,7 +50,7 @@ fn take_line(s: Session, part: &[u8], ends: bool, line: &mut [u8], out: &mut [u8
     if !ends {
         return t;
     }
-    close_line(t, line, out)
+    session::close_line(t, line, out)
 }
 
 // A piece of the input more. Whatever was lent is lent again.
@@ -284,46 +62,11 @@ pub fn take(s: Session, piece: &[u8], line: &mut [u8], out: &mut [u8]) -> Sessio
     let mut t = s;
     let mut i = 0;
     while i < piece.len() {
-        let end = line_end(piece, i);
+        let end = kept::line_end(piece, i);
         t = take_line(t, &piece[i..end], end < piece.len(), line, out);
         i = end + 1;
     }
     t
-}
-
-// A last line that no line feed closes.
-fn close_last(s: Session, line: &[u8], out: &mut [u8]) -> Session
-    requires { ⌜ Held s (now line) (now out) ⌝ }
-    ensures { λ r. ⌜ closed r (now (out .exit)) ≡ lastClosed s (now (line .entry)) (now (out .entry)) ⌝ }
-{
-    if s.refused != 0 {
-        return s;
-    }
-    if s.kept == 0 {
-        return s;
-    }
-    close_line(s, line, out)
-}
-
-// 15 where no line was taken.
-fn none_found(s: Session) -> Session
-    ensures { λ r. ⌜ r ≡ noneFound s ⌝ }
-{
-    if s.refused != 0 {
-        return s;
-    }
-    if s.next != 0 {
-        return s;
-    }
-    Session {
-        state: s.state,
-        division: s.division,
-        kept: s.kept,
-        lines: s.lines,
-        refused: OTHER_LINE,
-        next: s.next,
-        end: s.end,
-    }
 }
 
 // The input ends.
@@ -332,6 +75,6 @@ pub fn finish(s: Session, line: &[u8], out: &mut [u8]) -> Session
     ensures { λ r. ⌜ closed r (now (out .exit)) ≡ inputEnded s (now (line .entry)) (now (out .entry)) ⌝ }
     ensures { λ r. ⌜ Held r (now (line .entry)) (now (out .exit)) ⌝ }
 {
-    let last = close_last(s, line, out);
-    none_found(last)
+    let last = session::close_last(s, line, out);
+    session::none_found(last)
 }

@@ -1,8 +1,6 @@
--- What the contracts of `layout` cite: a line by its columns (Columns), a value by its seven characters (Field), and what a line says of a
--- year's precipitation, or why it is refused (Rainfall). The steps in between, which only the functions inside speak of, are in Steps. And
--- where a person must look when a line is refused with 14 (Fault).
-pub mod Columns
-pub mod Field
+-- What a reader must believe: what a line says of a year's precipitation, or why it is refused (Rainfall), and where a person must look when
+-- it is refused with 14 (Fault). They speak of Columns, Field and Refusals, of the crate `fields`, of Months, of `months`, and of Heading, of
+-- `heading`. The rest, Steps, is a proof's vocabulary.
 pub mod Rainfall
-pub mod Steps
 pub mod Fault
+pub mod Steps

@@ -3,6 +3,7 @@
 // A line of the input is what is asked for, two digits of a state, two of a division and four of a year, then a bar,
 // and then the line itself, closed by a line feed. The answer is the number, the twelve amounts, the set of months
 // present, its count and the first missing month.
+use fields::MONTHS;
 use layout::Year;
 use libc::STDIN_FILENO;
 use libc::STDOUT_FILENO;
@@ -36,7 +37,7 @@ fn show(n: u32) {
 fn show_year(year: Year) {
     io::print_decimal(STDOUT_FILENO, year.number as u64);
     let mut m = 0;
-    while m < 12 {
+    while m < MONTHS {
         show(year.amounts[m]);
         m += 1;
     }

@@ -4,7 +4,8 @@ use mathlib.Core.List.{List, foldl}
 use Prim.Native.Nat.{ℕ, _-_, _≤_}
 use native.Mathlib.Omega.{arith}
 use lib.ListN.{length, drop, drop-of-length-le}
-use Rattle.division_input.specs.Input.{State, held, Held, byteFed}
+use Rattle.session.specs.Session.{Held}
+use Rattle.division_input.specs.Input.{State, held, byteFed}
 use Rattle.division_input.proofs.Part.{part-unbroken, end-within, line-fed}
 use Rattle.division_input.proofs.take.Statement.{statement}
 use Rattle.division_input.proofs.take.Tie as tie

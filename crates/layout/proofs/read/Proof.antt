@@ -3,31 +3,38 @@
 use borrow.Author.Needs.{needs}
 use mathlib.Core.Path.{_≡_, refl, sym, ap, _∙_}
 use mathlib.Core.List.{List, map}
-use Prim.Native.Nat.{ℕ, zero, suc, _<_}
+use Prim.Native.Nat.{ℕ, zero, suc, _≤_, _<_}
 use native.Mathlib.Omega.{arith}
 use lib.Count.{ones}
 use lib.ListN.{length, length-map}
-use Rattle.layout.specs.Rainfall.{monthsOf, isPresent, amountOf, setOf, refused, told, answered, yearSaid}
-use Rattle.layout.specs.Steps.{foundIn, lowestMissing}
-use Rattle.layout.specs.declared.Found.{Found}
-use Rattle.layout.specs.declared.Month.{Month}
-use Rattle.layout.proofs.Sets.{set-below, ones-count, lowest-first}
-use Rattle.layout.proofs.Months.{months-twelve, found-present}
-use Rattle.layout.proofs.Refusals.{too-short}
+use Rattle.fields.specs.Columns.{lastColumn, monthsOfYear}
+use Rattle.fields.specs.Refusals.{malformed}
+use Rattle.months.specs.Months.{monthsOf, isPresent, amountOf, setOf}
+use Rattle.months.specs.Steps.{foundIn, allMonths, lowestMissing}
+use Rattle.months.specs.declared.Found.{Found}
+use Rattle.months.specs.declared.Month.{Month}
+use Rattle.months.proofs.Sets.{set-below, ones-count, lowest-first}
+use Rattle.months.proofs.Months.{months-twelve, found-present}
+use Rattle.layout.specs.Rainfall.{refusal, refused, told, answered, yearSaid}
+use Rattle.layout.proofs.Faults.{at-length}
+use Rattle.layout.proofs.Refusals.{at-fault}
 use Rattle.layout.proofs.read.Statement.{statement}
 use Rattle.layout.proofs.read.Tie as tie
 
 -- ---- the answer, by the refusal
+too-short : (line : List ℕ) (s d y : ℕ) → length line < lastColumn → refusal line s d y ≡ malformed
+too-short line s d y h = at-fault line s d y (λ e. omega (arith, sym (at-length line h) ∙ e))
+
 answer-refused : (k : ℕ) (ms : List Month) → (k ≡ 0 → ⊥) → answered k ms ≡ refused k
 answer-refused zero ms h = absurd (h refl)
 answer-refused (suc k) ms h = refl
 
 -- the figures that are made from the set of months present
-flags-twelve : (line : List ℕ) → length (map isPresent (monthsOf line)) ≡ 12
+flags-twelve : (line : List ℕ) → length (map isPresent (monthsOf line)) ≡ monthsOfYear
 flags-twelve line = length-map (monthsOf line) isPresent ∙ months-twelve line
 
-flags-below : (line : List ℕ) → setOf (map isPresent (monthsOf line)) < 4096
-flags-below line = rw (flags-twelve line) at (set-below (map isPresent (monthsOf line)))
+flags-below : (line : List ℕ) → setOf (map isPresent (monthsOf line)) ≤ allMonths
+flags-below line = omega (arith, rw (flags-twelve line) at (set-below (map isPresent (monthsOf line))))
 
 -- and those that are read
 told-is : (line am : List ℕ) (f : Found) (gap : ℕ) → am ≡ map amountOf (monthsOf line) → f ≡ foundIn (monthsOf line) → gap ≡ lowestMissing (f .present) → record { number = 0; amounts = am; present = f .present; count = ones (f .present); «first_missing» = gap } ≡ told (monthsOf line)

@@ -3,7 +3,7 @@ use borrow.Author.Needs.{needs}
 use mathlib.Core.Path.{sym, _∙_}
 use borrow.Author.Tests.{le-leb, lt-leb}
 use Rattle.layout.specs.Rainfall.{yearOf}
-use Rattle.layout.proofs.Naturals.{made-digits, other-digits}
+use Rattle.fields.proofs.Naturals.{made-digits, other-digits}
 use Rattle.layout.proofs.year_of.Statement.{statement}
 use Rattle.layout.proofs.year_of.Tie as tie
 

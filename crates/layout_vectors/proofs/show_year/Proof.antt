@@ -1,14 +1,15 @@
 -- `layout_vectors::show_year`: twelve amounts are shown. Assumes nothing.
 use Prim.Native.Nat.{_≤_, _-_}
 use borrow.Author.Needs.{needs}
+use Rattle.fields.specs.Columns.{monthsOfYear}
 use Rattle.layout_vectors.proofs.show_year.Statement.{statement}
 use Rattle.layout_vectors.proofs.show_year.Tie as tie
 
 abbrev Inv-loop : tie.InvT-loop
-Inv-loop year m₀ t4 m = m ≤ 12
+Inv-loop year m₀ t4 m = m ≤ monthsOfYear
 
 abbrev μ-loop : tie.MeasureT-loop
-μ-loop year m₀ t4 m = 12 - m
+μ-loop year m₀ t4 m = monthsOfYear - m
 
 cast-print-decimal : tie.Need-cast-print-decimal Inv-loop μ-loop
 cast-print-decimal c = search needs

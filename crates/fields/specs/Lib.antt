@@ -1,0 +1,5 @@
+-- What a reader must believe: a line by its columns (Columns), digits and a value by its seven characters (Field), and the numbers of the
+-- refusals (Refusals).
+pub mod Columns
+pub mod Field
+pub mod Refusals

@@ -1,0 +1,2 @@
+-- What the contracts of `kept` cite (Kept).
+pub mod Kept
