@@ -1,4 +1,6 @@
 // What a month's work asks of the calendar: the month's five constants, and which month is next.
+//
+// `constants_at` is for the crate above, which holds the constants and the month in range before it calls.
 use outline::LAST_MONTH;
 use outline::MANY_OF_A_MONTH;
 use water::Constants;
