@@ -1,6 +1,6 @@
-// The ranges of what is handed in: tests of a number between two ends, and of the outline's own.
+// The ranges of what is handed in: a number between two ends, the lengths, Z, the calendar and the sixty constants.
 //
-// The functions that are `pub` with a `requires` are for the crates above, which hold it before they call.
+// All that is `pub` is for the crates above, which see to what a function `requires` before they call it.
 use outline::LAST_MONTH;
 use outline::MANY_CONSTANTS;
 use outline::MANY_OF_A_MONTH;
@@ -8,7 +8,7 @@ use outline::MOST_MONTHS;
 use outline::MOST_Z;
 ghost use mathlib.Core.Path.{_≡_};
 ghost use mathlib.Core.Bool.{_&&_};
-ghost use Prim.Native.Nat.{ℕ, _+_, _%_, _≤_, _<_};
+ghost use Prim.Native.Nat.{_+_, _%_, _≤_, _<_};
 ghost use lib.IntN.{pos, natAbs};
 ghost use lib.Signed.{_≤ℤ_, leZ};
 ghost use lib.Dec.{leb};
@@ -48,7 +48,7 @@ pub fn signed_between(least: u32, n: i32, most: u32) -> bool
     between(least, n as u32, most)
 }
 
-// At most so much in size.
+// At most so much in size, where so much is not below zero.
 pub fn within(x: i64, most: i64) -> bool
     requires { ⌜ pos 0 ≤ℤ most ⌝ }
     ensures { λ r. ⌜ r ≡ leb (natAbs x) (natAbs most) ⌝ }
@@ -73,10 +73,7 @@ pub fn length_fits(n: usize) -> bool
 pub fn z_fits(z: i32) -> bool
     ensures { λ r. ⌜ r ≡ zFits z ⌝ }
 {
-    if z < 0 - MOST_Z {
-        return false;
-    }
-    z <= MOST_Z
+    within(z as i64, MOST_Z as i64)
 }
 
 pub fn calendar_fits(month: u32) -> bool

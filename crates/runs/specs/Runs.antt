@@ -1,10 +1,10 @@
 -- Document 01, "Not a run", clause by clause, as tests. Assumes nothing.
 use Prim.Native.Nat.{ℕ, _*_}
 use mathlib.Core.Bool.{Bool, _&&_, _||_}
-use lib.IntN.{ℤ, pos, natAbs}
+use lib.IntN.{pos, natAbs}
 use lib.Signed.{leZ, ltZ}
 use lib.Dec.{leb}
-use Rattle.outline.specs.Numbers.{mostX, mostZ, mostU}
+use Rattle.outline.specs.Numbers.{mostX, mostU}
 use Rattle.water.specs.Layers.{leastCapacity, mostCapacity, surfaceHolds, underlyingHolds}
 use Rattle.water.specs.declared.Soil.{Soil}
 use Rattle.spells.specs.declared.Running.{Running}

@@ -7,6 +7,9 @@ use ranges::MOST_CAPACITY;
 use spells::Running;
 use water::Soil;
 ghost use mathlib.Core.Path.{_≡_};
+ghost use lib.Dec.{leb};
+ghost use lib.IntN.{natAbs};
+ghost use Rattle.outline.specs.Numbers.{mostX};
 ghost use Rattle.runs.specs.Runs.{soilFits, sizesFit, signsFit, vFits, isRun};
 
 // A run, handed in and back by value.
@@ -35,16 +38,22 @@ fn soil_fits(s: Soil) -> bool
     s.underlying <= water::underlying_holds(s.capacity)
 }
 
+fn size_fits(x: i32) -> bool
+    ensures { λ r. ⌜ r ≡ leb (natAbs x) mostX ⌝ }
+{
+    ranges::within(x as i64, MOST_X)
+}
+
 fn sizes_fit(v: Running) -> bool
     ensures { λ r. ⌜ r ≡ sizesFit v ⌝ }
 {
-    if !ranges::within(v.x1 as i64, MOST_X) {
+    if !size_fits(v.x1) {
         return false;
     }
-    if !ranges::within(v.x2 as i64, MOST_X) {
+    if !size_fits(v.x2) {
         return false;
     }
-    ranges::within(v.x3 as i64, MOST_X)
+    size_fits(v.x3)
 }
 
 fn signs_fit(v: Running) -> bool

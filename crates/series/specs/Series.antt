@@ -1,7 +1,7 @@
 -- Document 01, "What can be asked": whole series, "a list of Z, filling a list of indexes and one of marks, equal in length, as adding them
 -- singly to a fresh run would; it answers with its number alone". It is the forward rule over the months' rows; that adding them singly
 -- gives the same is a theorem of the crate above. Assumes nothing.
-use Prim.Native.Nat.{ℕ, zero, suc}
+use Prim.Native.Nat.{ℕ}
 use mathlib.Core.Bool.{Bool, true, _&&_, cond}
 use mathlib.Core.List.{List, [], _∷_}
 use lib.IntN.{ℤ}
@@ -9,7 +9,7 @@ use lib.Dec.{eqb}
 use lib.ListN.{length}
 use Rattle.outline.specs.Refusals.{badLists, badZ, unlessRefused}
 use Rattle.outline.specs.Numbers.{lengthFits, zFits}
-use Rattle.hindsight.specs.Rule.{Row, forwardIndexes, forwardMarks}
+use Rattle.hindsight.specs.Rule.{forwardIndexes, forwardMarks}
 use Rattle.hindsight.specs.Months.{rowsOfZ}
 
 -- every Z of a list is in its range

@@ -1,18 +1,10 @@
--- `calendar::constants_at` meets its contract: the month's five places are among the sixty, and none holds a number below zero. Assumes nothing.
-use Prim.Native.Nat.{ℕ, _+_, _≤_, _<_}
+-- `calendar::constants_at` meets its contract: the month's five places are among the sixty. Assumes nothing.
+use Prim.Native.Nat.{_≤_}
 use native.Mathlib.Omega.{arith}
 use borrow.Author.Needs.{needs}
-use lib.Dec.{T}
-use lib.IntN.{pos, natAbs}
-use lib.ListN.{getD}
-use lib.Signed.{nonNeg}
-use mir.Syntax.{w32}
-use mir.Val.{Fits, SFits, toZ, ofZ}
-use mir.Facts.{toZ-ofZ}
-use Rattle.exact.proofs.Held.{held}
-use Rattle.calendar.specs.Calendar.{placeOf, constantsAt}
-use Rattle.outline.specs.Numbers.{manyConstants, lastMonth}
-use Rattle.ranges.proofs.RangeLaws.{countable, calendar-is, each-fits, constant-is}
+use Rattle.outline.specs.Numbers.{lastMonth}
+use Rattle.ranges.proofs.RangeLaws.{calendar-is}
+use Rattle.calendar.specs.Calendar.{constantsAt}
 use Rattle.calendar.proofs.constants_at.Statement.{statement}
 use Rattle.calendar.proofs.constants_at.Tie as tie
 
@@ -28,82 +20,42 @@ cast-at c = search needs
 mul-at : tie.Need-mul-at
 mul-at c = search needs
 
-mul-alpha : tie.Need-mul-alpha
-mul-alpha c = search needs
+-- what each call asks: the constants fit, and the place is among the sixty
+constant-requires : tie.Need-constant-requires
+constant-requires c κs = let s = c in let m = month s in (s .pre .0, s .pre .1 .0, omega arith)
 
-shared-slice-copy-out-alpha : tie.Need-shared-slice-copy-out-alpha
-shared-slice-copy-out-alpha c = let m = month c in omega arith
+add-constant : tie.Need-add-constant
+add-constant c = search needs
 
-add-beta : tie.Need-add-beta
-add-beta c = search needs
+constant-requires-2 : tie.Need-constant-requires-2
+constant-requires-2 c κs = let s = c .before in let m = month s in (s .pre .0, s .pre .1 .0, omega arith)
 
-mul-beta : tie.Need-mul-beta
-mul-beta c = search needs
+add-constant-2 : tie.Need-add-constant-2
+add-constant-2 c = search needs
 
-shared-slice-copy-out-beta : tie.Need-shared-slice-copy-out-beta
-shared-slice-copy-out-beta c = let m = month (c .before) in omega arith
+constant-requires-3 : tie.Need-constant-requires-3
+constant-requires-3 c κs = let s = c .before .before in let m = month s in (s .pre .0, s .pre .1 .0, omega arith)
 
-add-gamma : tie.Need-add-gamma
-add-gamma c = search needs
+add-constant-3 : tie.Need-add-constant-3
+add-constant-3 c = search needs
 
-mul-gamma : tie.Need-mul-gamma
-mul-gamma c = search needs
+constant-requires-4 : tie.Need-constant-requires-4
+constant-requires-4 c κs = let s = c .before .before .before in let m = month s in (s .pre .0, s .pre .1 .0, omega arith)
 
-shared-slice-copy-out-gamma : tie.Need-shared-slice-copy-out-gamma
-shared-slice-copy-out-gamma c = let m = month (c .before .before) in omega arith
+add-constant-4 : tie.Need-add-constant-4
+add-constant-4 c = search needs
 
-add-delta : tie.Need-add-delta
-add-delta c = search needs
-
-mul-delta : tie.Need-mul-delta
-mul-delta c = search needs
-
-shared-slice-copy-out-delta : tie.Need-shared-slice-copy-out-delta
-shared-slice-copy-out-delta c = let m = month (c .before .before .before) in omega arith
-
-add-k : tie.Need-add-k
-add-k c = search needs
-
-mul-k : tie.Need-mul-k
-mul-k c = search needs
-
-shared-slice-copy-out-k : tie.Need-shared-slice-copy-out-k
-shared-slice-copy-out-k c = let m = month (c .before .before .before .before) in omega arith
-
--- a constant read as an unsigned number
-counted : (c : tie.Start) (i : ℕ) → i < manyConstants → SFits w32 (getD (c .args .c .now) i (pos 0))
-    → T (nonNeg (toZ w32 (ofZ w32 (getD (c .args .c .now) i (pos 0))))) × Fits w32 (natAbs (toZ w32 (ofZ w32 (getD (c .args .c .now) i (pos 0)))))
-counted c i h f = simp toZ-ofZ (countable (getD (c .args .c .now) i (pos 0)) (constant-is (c .args .c .now) i (each-fits (c .args .c .now) i manyConstants h (c .pre .1 .0)) .0) f)
-
-abbrev start : tie.After-k → tie.Start
-start c = c .before .before .before .before .before
-
-cast-t9 : tie.Need-cast-t9
-cast-t9 c = let m = month (start c) in counted (start c) (placeOf (start c .args .month)) (omega arith) (search held)
-
-cast-t18 : tie.Need-cast-t18
-cast-t18 c = let m = month (start c) in counted (start c) (placeOf (start c .args .month) + 1) (omega arith) (search held)
-
-cast-t19 : tie.Need-cast-t19
-cast-t19 c = let m = month (start c) in counted (start c) (placeOf (start c .args .month) + 2) (omega arith) (search held)
-
-cast-t20 : tie.Need-cast-t20
-cast-t20 c = let m = month (start c) in counted (start c) (placeOf (start c .args .month) + 3) (omega arith) (search held)
-
-cast-t21 : tie.Need-cast-t21
-cast-t21 c = let m = month (start c) in counted (start c) (placeOf (start c .args .month) + 4) (omega arith) (search held)
+constant-requires-5 : tie.Need-constant-requires-5
+constant-requires-5 c κs = let s = c .before .before .before .before in let m = month s in (s .pre .0, s .pre .1 .0, omega arith)
 
 returns : tie.Need-returns
 unfolding constantsAt
 returns c =
-    let l = start c .args .c .now in
-    let p = placeOf (start c .args .month) in
-    let alpha : SFits w32 (getD l p (pos 0)) = search held in
-    let beta : SFits w32 (getD l (p + 1) (pos 0)) = search held in
-    let gamma : SFits w32 (getD l (p + 2) (pos 0)) = search held in
-    let delta : SFits w32 (getD l (p + 3) (pos 0)) = search held in
-    let weight : SFits w32 (getD l (p + 4) (pos 0)) = search held in
-    simp toZ-ofZ
+    let e = c .before in
+    let d = e .before in
+    let b = d .before in
+    let a = b .before in
+    rw (a .constant .ensures, b .constant2 .ensures, d .constant3 .ensures, e .constant4 .ensures, c .constant5 .ensures)
 
 pub constants-at-spec : {M : Type 1} → statement M
 constants-at-spec =
@@ -112,23 +64,13 @@ constants-at-spec =
     sub-at
     cast-at
     mul-at
-    mul-alpha
-    shared-slice-copy-out-alpha
-    add-beta
-    mul-beta
-    shared-slice-copy-out-beta
-    add-gamma
-    mul-gamma
-    shared-slice-copy-out-gamma
-    add-delta
-    mul-delta
-    shared-slice-copy-out-delta
-    add-k
-    mul-k
-    shared-slice-copy-out-k
-    cast-t9
-    cast-t18
-    cast-t19
-    cast-t20
-    cast-t21
+    constant-requires
+    add-constant
+    constant-requires-2
+    add-constant-2
+    constant-requires-3
+    add-constant-3
+    constant-requires-4
+    add-constant-4
+    constant-requires-5
     returns)
