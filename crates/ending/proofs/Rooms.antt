@@ -3,13 +3,14 @@ use mathlib.Core.Path.{_≡_, refl}
 use mathlib.Core.Bool.{Bool, true, false}
 use Prim.Native.Nat.{ℕ, _*_, _≤_, _<_, min, max}
 use native.Mathlib.Omega.{arith}
+use borrow.Author.Needs.{needs}
 use lib.Dec.{ltb→lt, leb→le}
 use lib.IntN.{ℤ, pos, negsuc, negℤ, natAbs, _+ℤ_, _-ℤ_, _*ℤ_}
 use lib.Signed.{_≤ℤ_, _<ℤ_}
 use Rattle.exact.specs.Nearest.{clip}
 use Rattle.outline.specs.Numbers.{weight, mostX, mostZ, mostU}
 use Rattle.exact.proofs.Z.{zs, is-Z}
-use Rattle.exact.proofs.Held.{held}
+use Rattle.exact.proofs.Held.{wide}
 use Rattle.ending.specs.Ending.{mostV, turn, uOf, vOf, eOf}
 
 -- ---- turned signs
@@ -79,4 +80,4 @@ room-v a h = omega arith
 pub room-z : (a : ℤ) → natAbs a ≤ mostZ → natAbs a ≤ 2 * mostV
 room-z a h = omega arith
 
-pub ruleset rooms = (room-x3, room-v, room-z, held)
+pub ruleset rooms = (room-x3, room-v, room-z, wide, needs)

@@ -2,6 +2,7 @@
 use mathlib.Core.Path.{_≡_, _∙_}
 use Prim.Native.Nat.{_≤_, _*_}
 use native.Mathlib.Omega.{arith}
+use borrow.Author.Needs.{needs}
 use lib.Dec.{T}
 use lib.IntN.{ℤ, pos, natAbs, _*ℤ_}
 use lib.Signed.{nonNeg, _≤ℤ_}
@@ -24,7 +25,7 @@ mul-nearest-signed : tie.Need-mul-nearest-signed
 mul-nearest-signed c = search (held, fit)
 
 nearest-signed-requires : tie.Need-nearest-signed-requires
-nearest-signed-requires c κs = search held
+nearest-signed-requires c κs = search needs
 
 -- p is the nearest to 100,000 V / Q
 given : (c : tie.After-nearest-signed) → c .nearest-signed .result ≡ nearest (pos 100000 *ℤ c .before .args .v) (clip (c .before .args .q))

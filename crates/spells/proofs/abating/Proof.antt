@@ -1,11 +1,11 @@
 -- `spells::abating` meets its contract. Assumes nothing.
 use mathlib.Core.Path.{_≡_, ap, ap₂, _∙_}
 use lib.IntN.{ℤ}
+use borrow.Author.Needs.{needs}
 use mir.Syntax.{w32}
 use mir.Val.{SFits, toZ, ofZ}
 use mir.Facts.{toZ-ofZ}
 use Rattle.exact.specs.Next.{nextOf}
-use Rattle.exact.proofs.Held.{held}
 use Rattle.spells.specs.declared.Running.{Running}
 use Rattle.spells.specs.declared.Decision.the-variants.{Nothing}
 use Rattle.spells.specs.Spells.{raised, lowered, provisional, abatingValues, abatingMonth}
@@ -14,29 +14,29 @@ use Rattle.spells.proofs.abating.Statement.{statement}
 use Rattle.spells.proofs.abating.Tie as tie
 
 raised-next-requires : tie.Need-raised-next-requires
-raised-next-requires c κs = search held
+raised-next-requires c κs = search needs
 
 lowered-next-requires : tie.Need-lowered-next-requires
-lowered-next-requires c κs = search held
+lowered-next-requires c κs = search needs
 
 next-requires : tie.Need-next-requires
-next-requires c κs = search held
+next-requires c κs = search needs
 
 -- X1, X2 and X3 as the calls give them, read back
 x1-is : (c : tie.After-raised-next) → toZ w32 (ofZ w32 (c .raised-next .result)) ≡ raised (nextOf (c .before .before .args .s .x1) (c .before .before .args .z))
 x1-is c =
     let f : SFits w32 (c .raised-next .result) = record { sfits = c .raised-next .ok } in
-    toZ-ofZ f ∙ c .raised-next .ensures ∙ (search held)
+    toZ-ofZ f ∙ c .raised-next .ensures ∙ (search needs)
 
 x2-is : (c : tie.After-lowered-next) → toZ w32 (ofZ w32 (c .lowered-next .result)) ≡ lowered (nextOf (c .before .before .before .before .args .s .x2) (c .before .before .before .before .args .z))
 x2-is c =
     let f : SFits w32 (c .lowered-next .result) = record { sfits = c .lowered-next .ok } in
-    toZ-ofZ f ∙ c .lowered-next .ensures ∙ (search held)
+    toZ-ofZ f ∙ c .lowered-next .ensures ∙ (search needs)
 
 x3-is : (c : tie.After-next) → toZ w32 (ofZ w32 (c .next .result)) ≡ nextOf (c .before .before .before .before .before .before .args .s .x3) (c .before .before .before .before .before .before .args .z)
 x3-is c =
     let f : SFits w32 (c .next .result) = record { sfits = c .next .ok } in
-    toZ-ofZ f ∙ c .next .ensures .0 ∙ (search held)
+    toZ-ofZ f ∙ c .next .ensures .0 ∙ (search needs)
 
 provisional-of-requires : tie.Need-provisional-of-requires
 provisional-of-requires c κs =

@@ -6,10 +6,10 @@ use Prim.Native.Nat.{ℕ}
 use native.Mathlib.Omega.{arith}
 use lib.IntN.{ℤ, pos, _*ℤ_}
 use lib.Signed.{leZ}
+use borrow.Author.Needs.{needs}
 use mir.Syntax.{w32, w64}
 use mir.Val.{SFits}
 use mir.Facts.{toZ-ofZ}
-use borrow.Author.Needs.{needs}
 use Rattle.exact.proofs.Z.{fits-within}
 use Rattle.outline.specs.Numbers.{mostX}
 use Rattle.ending.specs.Ending.{mostV, turn, uOf, vOf, eOf, qOf, steady, ended, abating, percentOf}

@@ -2,12 +2,12 @@
 use Prim.Native.Nat.{_≤_}
 use native.Mathlib.Omega.{arith}
 use lib.IntN.{ℤ, pos, natAbs, _-ℤ_}
+use borrow.Author.Needs.{needs}
 use mir.Syntax.{w32}
 use mir.Val.{SFits}
 use mir.Facts.{toZ-ofZ}
 use Rattle.outline.specs.Numbers.{mostX}
 use Rattle.exact.proofs.Z.{zs, is-Z}
-use Rattle.exact.proofs.Held.{held}
 use Rattle.spells.proofs.Choices.{larger-first, larger-second}
 use Rattle.spells.proofs.larger_in_size.Statement.{statement}
 use Rattle.spells.proofs.larger_in_size.Tie as tie
@@ -16,7 +16,7 @@ fit : (x : ℤ) → natAbs x ≤ mostX → SFits w32 (pos 0 -ℤ x)
 fit x = rw (is-Z x) (simp zs (omega arith))
 
 sub-if1 : tie.Need-sub-if1
-sub-if1 c = search (held, fit)
+sub-if1 c = search (needs, fit)
 
 returns : tie.Need-returns
 returns c =

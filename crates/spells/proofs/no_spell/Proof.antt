@@ -1,11 +1,11 @@
 -- `spells::no_spell` meets its contract. Assumes nothing.
 use mathlib.Core.Path.{_≡_, ap₂, _∙_}
 use lib.IntN.{ℤ}
+use borrow.Author.Needs.{needs}
 use mir.Syntax.{w32}
 use mir.Val.{SFits}
 use mir.Facts.{toZ-ofZ}
 use Rattle.exact.specs.Next.{nextOf}
-use Rattle.exact.proofs.Held.{held}
 use Rattle.spells.specs.Values.{SidesFit}
 use Rattle.spells.specs.Spells.{raised, lowered, tried, noSpell}
 use Rattle.spells.proofs.Choices.{sides-kept}
@@ -13,16 +13,16 @@ use Rattle.spells.proofs.no_spell.Statement.{statement}
 use Rattle.spells.proofs.no_spell.Tie as tie
 
 raised-next-requires : tie.Need-raised-next-requires
-raised-next-requires c κs = search held
+raised-next-requires c κs = search needs
 
 lowered-next-requires : tie.Need-lowered-next-requires
-lowered-next-requires c κs = search held
+lowered-next-requires c κs = search needs
 
 x1-is : (c : tie.After-raised-next) → c .raised-next .result ≡ raised (nextOf (c .before .before .args .s .x1) (c .before .before .args .z))
-x1-is c = c .raised-next .ensures ∙ (search held)
+x1-is c = c .raised-next .ensures ∙ (search needs)
 
 x2-is : (c : tie.After-lowered-next) → c .lowered-next .result ≡ lowered (nextOf (c .before .before .before .before .args .s .x2) (c .before .before .before .before .args .z))
-x2-is c = c .lowered-next .ensures ∙ (search held)
+x2-is c = c .lowered-next .ensures ∙ (search needs)
 
 fit : (c : tie.After-lowered-next) → SidesFit (c .before .before .raised-next .result) (c .lowered-next .result)
 fit c =

@@ -1,27 +1,28 @@
 -- `spells::provisional_of` meets its contract. Assumes nothing.
 use mathlib.Core.Path.{_≡_, sym, ap, _∙_}
 use lib.IntN.{pos}
+use borrow.Author.Needs.{needs}
 use mir.Syntax.{w32}
 use mir.Val.{SFits, ofZ}
 use mir.Facts.{toZ-ofZ, sfits-lit}
-use Rattle.exact.proofs.Held.{held, same-bits}
+use Rattle.exact.proofs.Held.{same-bits}
 use Rattle.spells.specs.Spells.{largerInSize}
 use Rattle.spells.proofs.Choices.{provisional-none, provisional-x3}
 use Rattle.spells.proofs.provisional_of.Statement.{statement}
 use Rattle.spells.proofs.provisional_of.Tie as tie
 
 larger-in-size-requires : tie.Need-larger-in-size-requires
-larger-in-size-requires c κs = search held
+larger-in-size-requires c κs = search needs
 
 -- X3 is an `i32`
 small : (c : tie.After-struct-told) → SFits w32 (c .before .before .args .s .x3)
-small c = search held
+small c = search needs
 
 none : (c : tie.Then1) → c .before .before .before .args .s .x3 ≡ pos 0
 none c = same-bits {y = pos 0} (small (c .before)) (sfits-lit tt) (c .if1 .taken)
 
 larger : (c : tie.After-larger-in-size) → c .larger-in-size .result ≡ largerInSize (c .before .before .before .before .before .before .args .s .x1) (c .before .before .before .before .before .before .args .s .x2)
-larger c = c .larger-in-size .ensures ∙ (search held)
+larger c = c .larger-in-size .ensures ∙ (search needs)
 
 returns : tie.Need-returns
 returns c =

@@ -2,11 +2,12 @@
 use mathlib.Core.Path.{_≡_, sym, ap, _∙_}
 use lib.IntN.{ℤ, pos, negsuc}
 use lib.Signed.{_≤ℤ_, _<ℤ_}
+use borrow.Author.Needs.{needs}
 use mir.Syntax.{w32}
 use mir.Val.{SFits, ofZ}
 use mir.Facts.{toZ-ofZ, sfits-lit}
 use Rattle.exact.proofs.Z.{le-yes, le-no}
-use Rattle.exact.proofs.Held.{held, same-bits}
+use Rattle.exact.proofs.Held.{same-bits}
 use Rattle.spells.specs.Spells.{unfounded}
 use Rattle.spells.specs.declared.Decision.the-variants.{Nothing}
 use Rattle.spells.proofs.Choices.{tried-first, tried-second, tried-x1, tried-x2, tried-open}
@@ -14,10 +15,10 @@ use Rattle.spells.proofs.try_both.Statement.{statement}
 use Rattle.spells.proofs.try_both.Tie as tie
 
 sub-dry : tie.Need-sub-dry
-sub-dry c = search held
+sub-dry c = search needs
 
 found-requires : tie.Need-found-requires
-found-requires c κs = search held
+found-requires c κs = search needs
 
 -- X1 founds
 first : (c : tie.Then1) → pos 1000 ≤ℤ c .before .args .x1
@@ -33,7 +34,7 @@ returns c =
     (simp toZ-ofZ at (c .found .ensures)) ∙ sym (tried-first (s .args .x1) (s .args .x2) (s .args .percent) (first (c .before)))
 
 found-requires-2 : tie.Need-found-requires-2
-found-requires-2 c κs = search held
+found-requires-2 c κs = search needs
 
 -- X1 does not
 not-first : (c : tie.Else1) → c .before .args .x1 <ℤ pos 1000
@@ -50,7 +51,7 @@ returns-2 c =
     (simp toZ-ofZ at (c .found2 .ensures)) ∙ sym (tried-second (s .args .x1) (s .args .x2) (s .args .percent) (not-first (c .before .before)) (second (c .before)))
 
 leave-requires : tie.Need-leave-requires
-leave-requires c κs = search held
+leave-requires c κs = search needs
 
 -- X2 does not
 not-second : (c : tie.Else2) → negsuc 999 <ℤ c .before .before .args .x2
@@ -66,7 +67,7 @@ returns-3 c =
     (same-bits {y = pos 0} f1 (sfits-lit tt) (c .before .if3 .taken)))
 
 leave-requires-2 : tie.Need-leave-requires-2
-leave-requires-2 c κs = search held
+leave-requires-2 c κs = search needs
 
 some-x1 : (c : tie.Else3) → c .before .before .before .args .x1 ≡ pos 0 → ⊥
 some-x1 c e = c .if3 .left (ap (ofZ w32) e)
@@ -81,10 +82,10 @@ returns-4 c =
     (some-x1 (c .before .before)) (same-bits {y = pos 0} f2 (sfits-lit tt) (c .before .if4 .taken)))
 
 larger-in-size-requires : tie.Need-larger-in-size-requires
-larger-in-size-requires c κs = search held
+larger-in-size-requires c κs = search needs
 
 leave-requires-3 : tie.Need-leave-requires-3
-leave-requires-3 c κs = search held
+leave-requires-3 c κs = search needs
 
 returns-5 : tie.Need-returns-5
 returns-5 c =
