@@ -1,9 +1,9 @@
 // The program: one Z a line from standard input into a fresh run, and at the end a row for each month, or the one
 // line that says which line was refused. `palmer_input` reads, `rows` lays out; here bytes are only moved. Standard error has
 // a refusal in words, by `words`.
+use palmer_input::Session;
 use libc::STDIN_FILENO;
 use libc::STDOUT_FILENO;
-use palmer_input::Session;
 use quoted::Start;
 use rows::Row;
 use runs::Run;
