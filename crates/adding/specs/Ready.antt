@@ -10,7 +10,7 @@ use Rattle.spells.specs.declared.Running.{Running}
 use Rattle.ranges.specs.Ranges.{constantsFit, calendarFits}
 use Rattle.outline.specs.Numbers.{mostMonths}
 use Rattle.runs.specs.declared.Run.{Run}
-use Rattle.refusals.specs.Columns.{Columns, long, columnsFit}
+use Rattle.refusals.specs.Columns.{Columns, long}
 
 -- a run and columns that a month can be added to
 pub record Ready (months opens : ℕ) (values : Running) (cs : Columns) : Type 0 where

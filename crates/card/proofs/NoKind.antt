@@ -1,6 +1,6 @@
 -- A reading whose kind is none of the four is not acceptable, whatever its numbers: it is answered 9. Assumes nothing.
-use mathlib.Core.Path.{_≡_, refl}
-use Prim.Native.Nat.{ℕ, _<_}
+use mathlib.Core.Path.{_≡_}
+use Prim.Native.Nat.{_<_}
 use native.Mathlib.Omega.{arith}
 use borrow.Author.Tests.{ne-eqb}
 use Rattle.door.specs.Outcome.{refused}

@@ -1,7 +1,6 @@
 -- Any two answers that the promise of `card_read` allows are the same: both numbers are the outcome's. The other promises are those of
 -- `drought`, of which `demands` shows it. Assumes nothing.
 use mathlib.Core.Path.{_≡_, sym, ap, _∙_}
-use Prim.Native.Nat.{ℕ}
 use Rattle.door.specs.Outcome.{Outcome}
 use Rattle.card.specs.FromC.{answered}
 use Rattle.card.specs.declared.CAnswer.{CAnswer}

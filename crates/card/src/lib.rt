@@ -2,7 +2,6 @@
 //
 // C has no enum that carries a value, so a reading comes in as a struct (specs/Given.antt says what it means)
 // and its answer goes out as one. All else is handed on as it came, and so is each promise.
-use door::Answer;
 use door::MonthInches;
 use door::Reading;
 use adding::Added;

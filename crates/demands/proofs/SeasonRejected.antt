@@ -3,7 +3,7 @@
 -- comes to a contradiction on months that are worked out here. Assumes nothing.
 use mathlib.Core.Path.{_≡_, refl, sym, ap, _∙_}
 use mathlib.Core.List.{List, [], _∷_}
-use mathlib.Core.Bool.{Bool, true, false, cond, _&&_}
+use mathlib.Core.Bool.{Bool, true, false, cond}
 use native.Mathlib.Omega.{arith}
 use lib.IntN.{ℤ, pos, negsuc}
 use lib.Dec.{eqb}
@@ -24,7 +24,7 @@ use Rattle.outline.specs.Numbers.{lengthFits, zFits}
 use Rattle.runs.specs.declared.Run.{Run}
 use Rattle.refusals.specs.Columns.{Columns, long, lengthsFit, columnsFit}
 use Rattle.refusals.specs.Refusals.{runRefusal, roomRefusal, waterRefusal}
-use Rattle.outline.specs.Refusals.{badLists, notARun, orElse}
+use Rattle.outline.specs.Refusals.{badLists, orElse}
 use Rattle.adding.specs.Figures.{noFigures}
 use Rattle.drought.specs.Calls.{addOutcomes, addWater}
 use Rattle.adding.specs.Taken.{taken, takenWater}

@@ -24,7 +24,7 @@ use Rattle.hindsight_laws.proofs.Hindsight.{every-index, every-mark, open-exact
 use Rattle.calendar.specs.Calendar.{constantsAt}
 use Rattle.starts.specs.Start.{startRefusal, startOf, freshRun, zeroRun, started}
 use Rattle.runs.specs.declared.Run.{Run}
-use Rattle.refusals.specs.Columns.{Columns, long, columnsFit}
+use Rattle.refusals.specs.Columns.{Columns}
 use Rattle.refusals.specs.Refusals.{waterRefusal, zRefusal}
 use Rattle.adding.specs.Figures.{figuresOf, waterFigures}
 use Rattle.drought.specs.Calls.{addOutcomes, addWater, addInches, addZ}

@@ -5,7 +5,7 @@ use mathlib.Core.List.{_++_}
 use Prim.Native.Nat.{suc, _≤_, _<_}
 use native.Mathlib.Omega.{arith}
 use lib.IntN.{natAbs}
-use lib.ListN.{length, drop, set}
+use lib.ListN.{drop, set}
 use Rattle.outline.specs.Numbers.{mostZ}
 use Rattle.door.specs.Outcome.{Outcome}
 use Rattle.door.specs.Readings.{mostReading, reading, month}
@@ -18,7 +18,7 @@ use Rattle.hindsight.specs.Adding.{addMonth, settledCount}
 use Rattle.spells.specs.Decisions.{decisionNumber}
 use Rattle.hindsight_laws.proofs.Adds.{adds-run}
 use Rattle.runs.specs.declared.Run.{Run}
-use Rattle.refusals.specs.Columns.{Columns, long, columnsFit}
+use Rattle.refusals.specs.Columns.{Columns, long}
 use Rattle.refusals.specs.Good.{Good}
 use Rattle.refusals.specs.Refusals.{zRefusal}
 use Rattle.drought.specs.Calls.{addOutcomes, addWater, addInches, addZ}

@@ -8,16 +8,16 @@ use fields::LAST_COLUMN;
 use fields::NOT_THE_YEAR;
 use fields::OTHER_LINE;
 use fields::WIDTH;
-use kept::KEPT;
+use kept_line::KEPT;
 use libc::STDERR_FILENO;
 use libc::STDIN_FILENO;
 use libc::STDOUT_FILENO;
-use session::ROOM;
-use session::Session;
+use division_session::ROOM;
+use division_session::Session;
 ghost use Prim.Native.Nat.{_≤_, _<_};
 ghost use mathlib.Core.Path.{_≡_};
 ghost use lib.ListN.{length};
-ghost use Rattle.session.specs.Session.{Held, room};
+ghost use Rattle.division_session.specs.Session.{Held, room};
 
 const MOST_ROW: usize = 72;
 
@@ -267,7 +267,7 @@ fn run(state: u32, division: u32) {
     let mut line = [0u8; KEPT];
     let mut out = make_room();
     run_with(
-        session::begin(state, division),
+        division_session::begin(state, division),
         &mut buffer,
         &mut line,
         &mut out,

@@ -9,26 +9,26 @@ use lib.ListN.{length, take, set, length-set}
 use borrow.Author.Tests.{eq-eqb, ne-eqb}
 use Rattle.text.specs.Bytes.{lineFeed}
 use Rattle.fields.specs.Refusals.{another}
-use Rattle.kept.specs.Kept.{mostKept, isKept, keptCount, keptLine}
-use Rattle.kept.proofs.Parts.{kept-within}
-use Rattle.session.specs.Session.{Held, lineClosed, lastClosed, withRefusal, noneFound}
-use Rattle.session.specs.declared.Session.{Session}
-use Rattle.session.proofs.Closing.{refused-stays, goes-on}
-use Rattle.session.proofs.Room.{cond-so, unrefused-so, HeldBy, held-closed, held-last}
+use Rattle.kept_line.specs.Kept.{mostKept, isKept, keptCount, keptLine}
+use Rattle.kept_line.proofs.Parts.{kept-within}
+use Rattle.division_session.specs.Session.{Held, lineClosed, lastClosed, withRefusal, noneFound}
+use Rattle.division_session.specs.declared.Session.{Session}
+use Rattle.outline.proofs.Refusals.{is-done, is-refused, holds-of}
+use Rattle.division_session.proofs.Room.{cond-so, HeldBy, held-closed, held-last}
 use Rattle.division_input.specs.Input.{State, afterLine, byteKept, byteFed, inputEnded}
 
 module _ (t : State) (b : ℕ) where
   pub byte-refused : (t .session .refused ≡ 0 → ⊥) → byteFed t b ≡ t
   unfolding byteFed
-  byte-refused e = refused-stays _ t _ e
+  byte-refused e = is-refused _ _ t e
 
   pub byte-closes : t .session .refused ≡ 0 → b ≡ lineFeed → byteFed t b ≡ afterLine t (lineClosed (t .session) (take (t .session .kept) (t .line)) (t .out))
   unfolding byteFed
-  byte-closes e f = goes-on _ t _ e ∙ rw (eq-eqb b lineFeed f)
+  byte-closes e f = is-done _ _ t e ∙ rw (eq-eqb b lineFeed f)
 
   pub byte-within : t .session .refused ≡ 0 → (b ≡ lineFeed → ⊥) → byteFed t b ≡ byteKept t b
   unfolding byteFed
-  byte-within e f = goes-on _ t _ e ∙ rw (ne-eqb b lineFeed f)
+  byte-within e f = is-done _ _ t e ∙ rw (ne-eqb b lineFeed f)
 
 -- ---- what is held, of a whole state
 abbrev pub HeldIn : State → Type 0
@@ -48,8 +48,8 @@ pub held-byte : (t : State) (b : ℕ) → HeldIn t → HeldIn (byteFed t b)
 unfolding byteFed
 held-byte t b h =
     let kept = t .session .kept in
-    unrefused-so HeldIn (t .session .refused) t _ h
-    (cond-so HeldIn (eqb b lineFeed) _ (byteKept t b) (held-closed _ (t .line) _ h) (omega (arith, count-by kept b _ refl (h .0), length-kept kept b (t .line))))
+    holds-of HeldIn (t .session .refused) _ t
+    (cond-so HeldIn (eqb b lineFeed) _ (byteKept t b) (held-closed _ (t .line) _ h) (omega (arith, count-by kept b _ refl (h .0), length-kept kept b (t .line)))) h
 
 pub held-bytes : (t : State) (bs : List ℕ) → HeldIn t → HeldIn (foldl byteFed t bs)
 held-bytes t [] h = h

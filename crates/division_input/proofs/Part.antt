@@ -10,8 +10,8 @@ use lib.ListN.{length, take, drop, length-take, length-drop, drop-of-length-le}
 use lib.Seq.{drop-drop}
 use borrow.Author.Tests.{eqb-true, eqb-false, ltb-true, ltb-false}
 use Rattle.text.specs.Bytes.{lineFeed}
-use Rattle.kept.specs.Kept.{untilFeed, Kept, keptOf, partKept}
-use Rattle.session.specs.Session.{Closed, lineClosed}
+use Rattle.kept_line.specs.Kept.{untilFeed, Kept, keptOf, partKept}
+use Rattle.division_session.specs.Session.{Closed, lineClosed}
 use Rattle.division_input.specs.Input.{State, held, withKept, byteKept, byteFed, ended}
 use Rattle.division_input.proofs.Fed.{byte-refused, byte-closes, byte-within, HeldIn, held-bytes}
 

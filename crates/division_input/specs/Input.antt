@@ -1,4 +1,4 @@
--- A proof's vocabulary, here since contracts cite it: what a reader believes is ByLines, of the crate `session`, which `by-lines`, of the crate
+-- A proof's vocabulary, here since contracts cite it: what a reader believes is ByLines, of the crate `division_session`, which `by-lines`, of the crate
 -- `division_laws`, compares this with. What the program `division` holds, byte by byte. Only `namedOf` is believed as it stands. Assumes nothing.
 use Prim.Native.Nat.{ℕ}
 use mathlib.Core.Bool.{Bool, true, false, cond, _&&_}
@@ -9,10 +9,10 @@ use Rattle.text.specs.Bytes.{lineFeed}
 use Rattle.fields.specs.Field.{digitsOf}
 use Rattle.fields.specs.declared.Digits.{Digits}
 use Rattle.fields.specs.declared.Digits.the-variants.{Other}
-use Rattle.kept.specs.Kept.{keptCount, keptLine}
-use Rattle.session.specs.ByLines.{going}
-use Rattle.session.specs.Session.{Closed, closed, lineClosed, lastClosed, noneFound}
-use Rattle.session.specs.declared.Session.{Session}
+use Rattle.kept_line.specs.Kept.{keptCount, keptLine}
+use Rattle.outline.specs.Refusals.{unlessRefused}
+use Rattle.division_session.specs.Session.{Closed, closed, lineClosed, lastClosed, noneFound}
+use Rattle.division_session.specs.declared.Session.{Session}
 
 -- ---- the arguments: a state or a division as a person writes it, "1" or "01"
 unfoldable pub namedOf : List ℕ → Digits
@@ -40,8 +40,8 @@ afterLine t c = held (c .session) (t .line) (c .out)
 
 unfoldable pub byteFed : State → ℕ → State
 byteFed t b =
-    going (t .session .refused) t
-    (cond (eqb b lineFeed) (afterLine t (lineClosed (t .session) (take (t .session .kept) (t .line)) (t .out))) (byteKept t b))
+    unlessRefused (t .session .refused)
+    (cond (eqb b lineFeed) (afterLine t (lineClosed (t .session) (take (t .session .kept) (t .line)) (t .out))) (byteKept t b)) t
 
 -- ---- what a piece of the input has of one line: bytes with a line feed or without
 abbrev pub ended : Bool → List ℕ → List ℕ

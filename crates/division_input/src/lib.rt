@@ -2,15 +2,15 @@
 // why the reading stopped.
 //
 // Document 02, E1: "We take on stations with a century of rain already published in the nClimDiv fixed-width layout".
-// What the program makes of an input is `divisionOf`, ByLines of the crate `session`, said of whole lines; here it is
+// What the program makes of an input is `divisionOf`, ByLines of the crate `division_session`, said of whole lines; here it is
 // said byte by byte, for an input that comes in pieces, and `by-lines`, of the crate `division_laws`, says that this is
 // the same. Everything here is for the program, which lends a line and room for the rows.
 use fields::Digits;
-use session::Session;
+use division_session::Session;
 ghost use mathlib.Core.Path.{_≡_};
 ghost use mathlib.Core.List.{foldl};
-ghost use Rattle.kept.specs.Kept.{untilFeed};
-ghost use Rattle.session.specs.Session.{Held, closed};
+ghost use Rattle.kept_line.specs.Kept.{untilFeed};
+ghost use Rattle.division_session.specs.Session.{Held, closed};
 ghost use Rattle.division_input.specs.Input.{namedOf, held, byteFed, ended, inputEnded};
 
 // A state or a division as a person writes it: one or two digits.
@@ -37,7 +37,7 @@ fn take_line(s: Session, part: &[u8], ends: bool, line: &mut [u8], out: &mut [u8
     if s.refused != 0 {
         return s;
     }
-    let kept = kept::keep_part(s.kept, part, line);
+    let kept = kept_line::keep_part(s.kept, part, line);
     let t = Session {
         state: s.state,
         division: s.division,
@@ -50,7 +50,7 @@ fn take_line(s: Session, part: &[u8], ends: bool, line: &mut [u8], out: &mut [u8
     if !ends {
         return t;
     }
-    session::close_line(t, line, out)
+    division_session::close_line(t, line, out)
 }
 
 // A piece of the input more. Whatever was lent is lent again.
@@ -62,7 +62,7 @@ pub fn take(s: Session, piece: &[u8], line: &mut [u8], out: &mut [u8]) -> Sessio
     let mut t = s;
     let mut i = 0;
     while i < piece.len() {
-        let end = kept::line_end(piece, i);
+        let end = kept_line::line_end(piece, i);
         t = take_line(t, &piece[i..end], end < piece.len(), line, out);
         i = end + 1;
     }
@@ -75,6 +75,6 @@ pub fn finish(s: Session, line: &[u8], out: &mut [u8]) -> Session
     ensures { λ r. ⌜ closed r (now (out .exit)) ≡ inputEnded s (now (line .entry)) (now (out .entry)) ⌝ }
     ensures { λ r. ⌜ Held r (now (line .entry)) (now (out .exit)) ⌝ }
 {
-    let last = session::close_last(s, line, out);
-    session::none_found(last)
+    let last = division_session::close_last(s, line, out);
+    division_session::none_found(last)
 }

@@ -15,11 +15,11 @@ use Rattle.text.specs.Lines.{lastLine, cut, linesOf}
 use Rattle.fields.specs.Refusals.{another}
 use Rattle.layout.specs.Rainfall.{yearSaid, yearOf}
 use Rattle.layout.specs.declared.Year.{Year}
-use Rattle.kept.specs.Kept.{mostKept}
-use Rattle.session.specs.ByLines.{expected, Made, nothing, madeBy, madeWith, lineMade, atEnd, divisionOf}
-use Rattle.session.specs.Session.{begun, Closed, closed, rowText, closedBy, lineClosed, lastClosed, noneFound}
-use Rattle.session.specs.declared.Session.{Session}
-use Rattle.session.proofs.Closing.{refused-stays, goes-on}
+use Rattle.kept_line.specs.Kept.{mostKept}
+use Rattle.division_session.specs.ByLines.{expected, Made, nothing, madeBy, madeWith, lineMade, atEnd, divisionOf}
+use Rattle.division_session.specs.Session.{begun, Closed, closed, rowText, closedBy, lineClosed, lastClosed, noneFound}
+use Rattle.division_session.specs.declared.Session.{Session}
+use Rattle.outline.proofs.Refusals.{is-done, is-refused}
 use Rattle.division_input.specs.Input.{State, held, byteKept, byteFed, inputEnded}
 use Rattle.division_input.proofs.Fed.{byte-closes, byte-within}
 use Rattle.division_laws.proofs.Kept.{kept-same}
@@ -28,21 +28,21 @@ use Rattle.division_input.proofs.Part.{fed-refused}
 -- ---- the end
 last-closes : (x : Session) (line out : List ℕ) → x .refused ≡ 0 → eqb (x .kept) 0 ≡ false → lastClosed x line out ≡ lineClosed x (take (x .kept) line) out
 unfolding lastClosed
-last-closes x line out h e = goes-on _ (closed x out) _ h ∙ rw e
+last-closes x line out h e = is-done _ _ (closed x out) h ∙ rw e
 
 last-none : (x : Session) (line out : List ℕ) → x .refused ≡ 0 → eqb (x .kept) 0 ≡ true → lastClosed x line out ≡ closed x out
 unfolding lastClosed
-last-none x line out h e = goes-on _ (closed x out) _ h ∙ rw e
+last-none x line out h e = is-done _ _ (closed x out) h ∙ rw e
 
 last-refused : (x : Session) (line out : List ℕ) → (x .refused ≡ 0 → ⊥) → lastClosed x line out ≡ closed x out
 unfolding lastClosed
-last-refused x line out h = refused-stays _ (closed x out) _ h
+last-refused x line out h = is-refused _ _ (closed x out) h
 
 -- ---- after a refusal nothing changes
 lines-stay : (s d : ℕ) (m : Made) (ls : List (List ℕ)) → (m .refused ≡ 0 → ⊥) → foldl (lineMade s d) m ls ≡ m
 unfolding lineMade
 lines-stay s d m [] h = refl
-lines-stay s d m (l ∷ ls) h = ap (λ (n : Made). foldl (lineMade s d) n ls) (refused-stays _ m _ h) ∙ lines-stay s d m ls h
+lines-stay s d m (l ∷ ls) h = ap (λ (n : Made). foldl (lineMade s d) n ls) (is-refused _ _ m h) ∙ lines-stay s d m ls h
 
 -- ---- what is held where m was made so far, and k bytes of the next line are kept
 abbrev between : ℕ → ℕ → Made → ℕ → Session
@@ -89,7 +89,7 @@ module _ (s d : ℕ) where
   unfolding lineMade lineClosed
   line-closed m k kept line out z r said year =
       let y = expected (m .next) line in
-      rw (goes-on (m .refused) m (madeWith m (yearSaid line s d y) y) z, year-expected (m .next) kept line year, said s d y)
+      rw (is-done (m .refused) (madeWith m (yearSaid line s d y) y) m z, year-expected (m .next) kept line year, said s d y)
       (closed-by m k out r (yearSaid line s d y) y (yearSaid line s d y .number))
 
   -- ---- the end of the input

@@ -13,15 +13,15 @@ use lib.Seq.{take-take, take-suc-set, append-snoc, ext-getD}
 use borrow.Author.Tests.{leb-true, leb-false, le-leb, lt-leb, lt-ltb}
 use Rattle.text.specs.Bytes.{space, allSpaces}
 use Rattle.fields.specs.Columns.{headingColumns, monthsOfYear, width, lastColumn}
-use Rattle.months.specs.Months.{monthOf, monthsOf}
-use Rattle.months.specs.declared.Month.the-variants.{Malformed}
-use Rattle.months.proofs.Months.{months-twelve, month-at}
-use Rattle.heading.specs.Heading.{headed}
+use Rattle.layout_months.specs.Months.{monthOf, monthsOf}
+use Rattle.layout_months.specs.declared.Month.the-variants.{Malformed}
+use Rattle.layout_months.proofs.Months.{months-twelve, month-at}
+use Rattle.layout_heading.specs.Heading.{headed}
 use Rattle.layout.specs.Rainfall.{isLine, rainFits, isNamed, isYear, refusal, yearSaid, yearOf}
-use Rattle.kept.specs.Kept.{mostKept, isKept, keptCount, keptLine}
-use Rattle.kept.proofs.Parts.{kept-within}
+use Rattle.kept_line.specs.Kept.{mostKept, isKept, keptCount, keptLine}
+use Rattle.kept_line.proofs.Parts.{kept-within}
 use Rattle.division_input.specs.Input.{State, held, withKept, byteKept}
-use Rattle.session.specs.declared.Session.{Session}
+use Rattle.division_session.specs.declared.Session.{Session}
 
 -- ---- what is kept of bytes, where n of their line are kept already
 keptOf : ℕ → List ℕ → List ℕ

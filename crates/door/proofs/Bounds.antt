@@ -1,9 +1,9 @@
 -- No reading gives more than 100 inches: what is in range, times per / of, is rounded to at most the range's end times per / of.
 -- Assumes nothing.
-use mathlib.Core.Path.{_≡_, refl, sym, ap, _∙_}
-use mathlib.Core.Bool.{Bool, true, false, cond, not, _&&_, _||_}
-use Prim.Native.Nat.{ℕ, zero, suc, _+_, _*_, _≤_, _<_, zero-le}
-use native.Mathlib.Nat.{le-trans, le-of-eq, mul-pos, mul-le-mul-right, mul-comm, mul-assoc, mul-left-comm, mul-right-comm}
+use mathlib.Core.Path.{_≡_, refl, ap, _∙_}
+use mathlib.Core.Bool.{Bool, true, false, cond, not, _||_}
+use Prim.Native.Nat.{ℕ, _*_, _≤_, _<_, zero-le}
+use native.Mathlib.Nat.{le-trans, le-of-eq, mul-pos, mul-le-mul-right, mul-comm, mul-assoc, mul-right-comm}
 use native.Mathlib.Omega.{arith}
 use lib.IntN.{ℤ, pos, negsuc}
 use lib.Dec.{T, leb, eqb, leb→le, lit<}
@@ -13,9 +13,9 @@ use borrow.Author.Tests.{leb-true}
 use Rattle.exact.specs.Nearest.{nearestℕ}
 use Rattle.exact.proofs.Nearest.{near-within}
 use Rattle.door.specs.Exact.{within, nearestTo}
-use Rattle.door.specs.Outcome.{Outcome, accepted, refused}
+use Rattle.door.specs.Outcome.{accepted, refused}
 use Rattle.outline.specs.Refusals.{notAcceptable}
-use Rattle.door.specs.Readings.{mostReading, whole, converted, inches, millimetres, reading, month}
+use Rattle.door.specs.Readings.{mostReading, whole, converted, inches, millimetres, reading}
 use Rattle.door.specs.declared.Reading.{Reading}
 use Rattle.door.specs.declared.Reading.the-variants.{Whole, Inches, Millimetres, Missing}
 

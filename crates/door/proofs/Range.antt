@@ -2,12 +2,12 @@
 -- Assumes nothing.
 use mathlib.Core.Path.{_≡_, refl, sym, ap, _∙_, subst}
 use mathlib.Core.Logic.{_⊎_, inl, inr}
-use mathlib.Core.Bool.{Bool, true, false, not, _&&_, _||_, cond}
+use mathlib.Core.Bool.{Bool, true, false, not, _&&_, _||_}
 use Prim.Native.Nat.{ℕ, zero, suc, _+_, _*_, _^_, _≤_, _<_, zero-le}
 use native.Mathlib.Nat.{le-trans, le-of-eq, le-of-lt, eq-or-lt-of-le, mul-one, zero-mul, mul-pos, lt-irrefl, zero-lt-suc, mul-le-mul-right, lt-of-lt-of-le, le-add-left}
 use native.Mathlib.Omega.{arith}
-use lib.IntN.{ℤ, pos, negsuc}
-use lib.Dec.{T, leb, ltb, eqb, ltb→lt, lt→ltb, leb→le, le→leb, eqb→eq, eqb-refl}
+use lib.IntN.{pos}
+use lib.Dec.{T, leb, ltb, eqb, ltb→lt, lt→ltb, leb→le, le→leb, eqb→eq}
 use lib.Ieee.{Float, nan, inf, fin, binary32, up, down, lt, eq, le, ofBits, isNan}
 use lib.Ieee.Fits.{and-i, and-l, and-r, eq→eqb, up-pos, down-pos}
 use Rattle.door.specs.Exact.{within}

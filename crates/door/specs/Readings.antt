@@ -1,7 +1,7 @@
 -- Document 01, "Readings at the door": a reading is one of four, and the answer is the nearest thousandth of an inch to the exact value of
 -- the number. Assumes nothing.
 use Prim.Native.Nat.{ℕ}
-use mathlib.Core.Bool.{Bool, cond}
+use mathlib.Core.Bool.{cond}
 use lib.IntN.{ℤ, pos, negsuc}
 use lib.Dec.{leb}
 use lib.Ieee.{Float}

@@ -10,14 +10,14 @@ use lib.ListN.{length}
 use borrow.Author.Tests.{ne-eqb, eqb-true, le-leb, lt-leb}
 use Rattle.text.specs.Bytes.{allSpaces, natural}
 use Rattle.fields.specs.Columns.{element, firstValue, width, lastColumn, after}
-use Rattle.months.specs.Months.{monthsOf, isMalformed, isOutside, some, firstBad}
-use Rattle.months.specs.Steps.{foundIn}
-use Rattle.months.specs.declared.Found.{Found}
-use Rattle.months.specs.declared.Month.{Month}
-use Rattle.months.specs.declared.Month.the-variants.{Amount, Missing, Outside, Malformed}
-use Rattle.months.proofs.Months.{first-bad}
-use Rattle.heading.specs.Heading.{precipitation, headed, unless, firstTold, headingFault}
-use Rattle.heading.proofs.Headings.{told-first, told-on, told-none, unless-none, heading-tells, heading-told}
+use Rattle.layout_months.specs.Months.{monthsOf, isMalformed, isOutside, some, firstBad}
+use Rattle.layout_months.specs.Steps.{foundIn}
+use Rattle.layout_months.specs.declared.Found.{Found}
+use Rattle.layout_months.specs.declared.Month.{Month}
+use Rattle.layout_months.specs.declared.Month.the-variants.{Amount, Missing, Outside, Malformed}
+use Rattle.layout_months.proofs.Months.{first-bad}
+use Rattle.layout_heading.specs.Heading.{precipitation, headed, unless, firstTold, headingFault}
+use Rattle.layout_heading.proofs.Headings.{told-first, told-on, told-none, unless-none, heading-tells, heading-told}
 use Rattle.layout.specs.Rainfall.{isLine, rainFits}
 use Rattle.layout.specs.Fault.{monthsFault, faultOf}
 use Rattle.layout.specs.Steps.{foundFault, restFault}

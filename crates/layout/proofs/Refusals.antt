@@ -5,10 +5,10 @@ use Prim.Native.Nat.{ℕ, zero, suc}
 use borrow.Author.Tests.{eq-eqb, ne-eqb}
 use Rattle.text.specs.Bytes.{natural}
 use Rattle.fields.specs.Columns.{state, division, element, year}
-use Rattle.months.specs.Months.{monthsOf}
-use Rattle.months.specs.declared.Month.{Month}
+use Rattle.layout_months.specs.Months.{monthsOf}
+use Rattle.layout_months.specs.declared.Month.{Month}
 use Rattle.fields.specs.Refusals.{malformed}
-use Rattle.heading.specs.Steps.{headingRefusal}
+use Rattle.layout_heading.specs.Steps.{headingRefusal}
 use Rattle.layout.specs.Rainfall.{isNamed, isYear, refusal, answered, yearSaid}
 use Rattle.layout.specs.Fault.{faultOf}
 use Rattle.layout.proofs.Faults.{fault-tells}

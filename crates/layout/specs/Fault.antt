@@ -6,8 +6,8 @@ use lib.ListN.{length}
 use lib.Dec.{leb, eqb}
 use Rattle.text.specs.Bytes.{allSpaces, natural}
 use Rattle.fields.specs.Columns.{element, firstValue, lastColumn, after}
-use Rattle.months.specs.Months.{monthsOf, firstBad}
-use Rattle.heading.specs.Heading.{precipitation, unless, firstTold, headingFault}
+use Rattle.layout_months.specs.Months.{monthsOf, firstBad}
+use Rattle.layout_heading.specs.Heading.{precipitation, unless, firstTold, headingFault}
 
 unfoldable pub monthsFault : List ℕ → ℕ
 monthsFault line = firstBad (eqb (natural (element line)) precipitation) firstValue (monthsOf line)

@@ -1,7 +1,7 @@
 -- Document 02, E1: "Each answer holds the twelve amounts in thousandths (0 where missing), a twelve-bit set of the months present, with the
 -- count of months present and the first missing month (0 if none). A missing month is reported and never filled in. Refusals: 14 malformed
 -- line or precipitation neither the mark nor 0 to 100 inches, 15 other state, division or element, 16 not the expected year, in that order."
--- What a month says and what months make is Months, of the crate `months`. Assumes nothing.
+-- What a month says and what months make is Months, of the crate `layout_months`. Assumes nothing.
 use Prim.Native.Nat.{ℕ, zero, suc}
 use mathlib.Core.Bool.{Bool, cond, not, _&&_}
 use mathlib.Core.List.{List, map}
@@ -10,9 +10,9 @@ use lib.Dec.{leb, eqb}
 use Rattle.text.specs.Bytes.{allDigits, allSpaces, natural}
 use Rattle.fields.specs.Columns.{state, division, element, year, headingColumns, monthsOfYear, lastColumn, after}
 use Rattle.fields.specs.Refusals.{malformed, another, notTheYear}
-use Rattle.months.specs.Months.{monthsOf, isMalformed, isOutside, isPresent, amountOf, some, setOf, countOf, firstMissing}
-use Rattle.months.specs.declared.Month.{Month}
-use Rattle.heading.specs.Heading.{precipitation, headed}
+use Rattle.layout_months.specs.Months.{monthsOf, isMalformed, isOutside, isPresent, amountOf, some, setOf, countOf, firstMissing}
+use Rattle.layout_months.specs.declared.Month.{Month}
+use Rattle.layout_heading.specs.Heading.{precipitation, headed}
 use Rattle.layout.specs.declared.Year.{Year}
 
 -- ---- the refusals

@@ -5,9 +5,9 @@ use mathlib.Core.List.{List, [], _∷_}
 use lib.Dec.{eqb}
 use Rattle.text.specs.Bytes.{allSpaces}
 use Rattle.fields.specs.Columns.{lastColumn, after}
-use Rattle.months.specs.Steps.{columnOf}
-use Rattle.months.specs.declared.Found.{Found}
-use Rattle.heading.specs.Heading.{precipitation, unless, firstTold}
+use Rattle.layout_months.specs.Steps.{columnOf}
+use Rattle.layout_months.specs.declared.Found.{Found}
+use Rattle.layout_heading.specs.Heading.{precipitation, unless, firstTold}
 use Rattle.layout.specs.Fault.{monthsFault}
 
 -- the months' fault, of a line of an element

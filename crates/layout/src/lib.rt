@@ -8,16 +8,16 @@ use fields::HEADING;
 use fields::LAST_COLUMN;
 use fields::MALFORMED;
 use fields::MONTHS;
-use heading::Heading;
-use heading::PRECIPITATION;
-use months::Found;
+use layout_heading::Heading;
+use layout_heading::PRECIPITATION;
+use layout_months::Found;
 ghost use mathlib.Core.Path.{_≡_};
 ghost use Prim.Native.Nat.{_≤_};
 ghost use lib.ListN.{length};
 ghost use Rattle.text.specs.Bytes.{natural};
 ghost use Rattle.fields.specs.Columns.{element, lastColumn};
-ghost use Rattle.months.specs.Months.{monthsOf};
-ghost use Rattle.months.specs.Steps.{foundIn};
+ghost use Rattle.layout_months.specs.Months.{monthsOf};
+ghost use Rattle.layout_months.specs.Steps.{foundIn};
 ghost use Rattle.layout.specs.Rainfall.{refusal, yearSaid, yearOf};
 ghost use Rattle.layout.specs.Rainfall.{refused as refusedYear};
 ghost use Rattle.layout.specs.Fault.{faultOf};
@@ -44,9 +44,9 @@ fn months_fault(found: Found, e: u32) -> u32
     ensures { λ r. ⌜ r ≡ foundFault found e ⌝ }
 {
     if e == PRECIPITATION {
-        return months::first_column(found.bad);
+        return layout_months::first_column(found.bad);
     }
-    months::first_column(found.malformed)
+    layout_months::first_column(found.malformed)
 }
 
 // The column where what follows the heading is first at fault, or 0, of a line of element e whose months are found.
@@ -74,14 +74,14 @@ fn line_refusal(line: &[u8], found: Found, state: u32, division: u32, year: u32)
     requires { ⌜ found ≡ foundIn (monthsOf (now line)) ⌝ }
     ensures { λ r. ⌜ r ≡ refusal (now (line .entry)) state division year ⌝ }
 {
-    let heading = heading::read_heading(line);
+    let heading = layout_heading::read_heading(line);
     let Heading::Of(s, d, e, y) = heading else {
         return MALFORMED;
     };
     if rest_fault(line, found, e) != 0 {
         return MALFORMED;
     }
-    heading::heading_refusal(s, d, e, y, state, division, year)
+    layout_heading::heading_refusal(s, d, e, y, state, division, year)
 }
 
 // ---- the answers
@@ -106,14 +106,14 @@ pub fn read(line: &[u8], state: u32, division: u32, year: u32) -> Year
         return refused(MALFORMED);
     }
     let mut amounts = [0u32; MONTHS];
-    let found = months::read_months(line, &mut amounts);
+    let found = layout_months::read_months(line, &mut amounts);
     let number = line_refusal(line, found, state, division, year);
     if number != 0 {
         return refused(number);
     }
     let present = found.present;
     let count = u32::count_ones(present);
-    let gap = months::first_missing(present);
+    let gap = layout_months::first_missing(present);
     Year {
         number: 0,
         amounts,
@@ -146,12 +146,12 @@ pub fn fault(line: &[u8]) -> u32
     if line.len() < LAST_COLUMN {
         return line.len() as u32 + 1;
     }
-    let heading = heading::read_heading(line);
+    let heading = layout_heading::read_heading(line);
     match heading {
         Heading::At(column) => column,
         Heading::Of(_, _, e, _) => {
             let mut amounts = [0u32; MONTHS];
-            let found = months::read_months(line, &mut amounts);
+            let found = layout_months::read_months(line, &mut amounts);
             rest_fault(line, found, e)
         }
     }

@@ -10,10 +10,10 @@ use lib.Dec.{eqb}
 use lib.ListN.{length, getD, length-map, List·getD-map}
 use Rattle.fields.specs.Columns.{monthsOfYear}
 use Rattle.fields.specs.Refusals.{malformed, another, notTheYear}
-use Rattle.months.specs.Months.{monthsOf, isPresent, amountOf, bit, setOf}
-use Rattle.months.specs.declared.Month.the-variants.{Missing, Malformed}
-use Rattle.months.proofs.Sets.{first-rest}
-use Rattle.months.proofs.Months.{months-twelve}
+use Rattle.layout_months.specs.Months.{monthsOf, isPresent, amountOf, bit, setOf}
+use Rattle.layout_months.specs.declared.Month.the-variants.{Missing, Malformed}
+use Rattle.layout_months.proofs.Sets.{first-rest}
+use Rattle.layout_months.proofs.Months.{months-twelve}
 use Rattle.layout.specs.Rainfall.{isLine, rainFits, isNamed, isYear, refusal, told, answered, yearSaid}
 use Rattle.layout.specs.Fault.{faultOf}
 use Rattle.layout.specs.declared.Year.{Year}

@@ -9,11 +9,11 @@ use Rattle.text.specs.Bytes.{isDigit, allDigits, allSpaces, negative, body, nat
 use Rattle.fields.specs.Field.{unpadded, plain, ahead, units, wellFormed, hundredths, fieldOf}
 use Rattle.fields.specs.Columns.{values}
 use Rattle.fields.specs.Refusals.{another, notTheYear}
-use Rattle.months.specs.Months.{isMark, inRange, rainOf, monthOf, monthsOf, some, setOf, countOf, firstMissing, firstBad}
-use Rattle.heading.specs.Heading.{headed, firstTold, headingFault}
+use Rattle.layout_months.specs.Months.{isMark, inRange, rainOf, monthOf, monthsOf, some, setOf, countOf, firstMissing, firstBad}
+use Rattle.layout_heading.specs.Heading.{headed, firstTold, headingFault}
 use Rattle.layout.specs.Rainfall.{isLine, rainFits, isNamed, isYear, refusal, refused, yearSaid, yearOf}
 use Rattle.layout.specs.Fault.{monthsFault, faultOf}
-use Rattle.months.specs.declared.Month.the-variants.{Amount, Missing, Outside, Malformed}
+use Rattle.layout_months.specs.declared.Month.the-variants.{Amount, Missing, Outside, Malformed}
 
 abbrev pub published : List ℕ
 published = 48 ∷ 49 ∷ 48 ∷ 49 ∷ 48 ∷ 49 ∷ 49 ∷ 56 ∷ 57 ∷ 53 ∷ 32 ∷ 32 ∷ 32 ∷ 55 ∷ 46 ∷ 48 ∷ 51 ∷ 32 ∷ 32 ∷ 32 ∷ 50 ∷ 46 ∷ 57 ∷ 54 ∷ 32 ∷ 32 ∷ 32 ∷ 56 ∷ 46 ∷ 51 ∷ 54 ∷ 32 ∷ 32 ∷ 32 ∷ 51 ∷ 46 ∷ 53 ∷ 51 ∷ 32 ∷ 32 ∷ 32 ∷ 51 ∷ 46 ∷ 57 ∷ 54 ∷ 32 ∷ 32 ∷ 32 ∷ 53 ∷ 46 ∷ 52 ∷ 48 ∷ 32 ∷ 32 ∷ 32 ∷ 51 ∷ 46 ∷ 57 ∷ 50 ∷ 32 ∷ 32 ∷ 32 ∷ 51 ∷ 46 ∷ 51 ∷ 54 ∷ 32 ∷ 32 ∷ 32 ∷ 48 ∷ 46 ∷ 55 ∷ 51 ∷ 32 ∷ 32 ∷ 32 ∷ 50 ∷ 46 ∷ 48 ∷ 51 ∷ 32 ∷ 32 ∷ 32 ∷ 49 ∷ 46 ∷ 52 ∷ 52 ∷ 32 ∷ 32 ∷ 32 ∷ 51 ∷ 46 ∷ 54 ∷ 54 ∷ 32 ∷ 32 ∷ 32 ∷ 32 ∷ []

@@ -9,7 +9,7 @@ ghost use Prim.Native.Nat.{_+_, _*_, _≤_};
 ghost use mathlib.Core.List.{[], _∷_};
 ghost use lib.ListN.{length};
 ghost use Rattle.text.specs.Bytes.{space, lineFeed};
-ghost use Rattle.rows.specs.Text.{numeral, integer, letter, rowText, refusedWord, refusedText, monthText, monthsText, yearText, laid, mostRow, mostYear};
+ghost use Rattle.rows.specs.Text.{numeral, integer, letter, rowText, refusedText, monthText, monthsText, yearText, laid, mostRow, mostYear};
 
 // A month's row.
 pub struct Row {

@@ -17,7 +17,7 @@ use Rattle.door.proofs.Bounds.{reading-most}
 use Rattle.spells.specs.Spells.{stepOf}
 use Rattle.hindsight.specs.Months.{rowFor}
 use Rattle.runs.specs.declared.Run.{Run}
-use Rattle.refusals.specs.Columns.{Columns, long}
+use Rattle.refusals.specs.Columns.{Columns}
 use Rattle.refusals.specs.Good.{Good}
 use Rattle.refusals.specs.Refusals.{waterRefusal}
 use Rattle.refusals.proofs.Refused.{columns-are}

@@ -7,11 +7,11 @@ use native.Mathlib.Omega.{arith}
 use borrow.Author.Tests.{le-leb, lt-leb}
 use lib.Dec.{leb}
 use lib.IntN.{ℤ, pos, negsuc, natAbs, _-ℤ_, _*ℤ_}
-use lib.Signed.{_≤ℤ_, _<ℤ_, leZ, ltZ}
+use lib.Signed.{_≤ℤ_, _<ℤ_, leZ}
 use Rattle.exact.specs.Next.{nextOf}
 use Rattle.outline.specs.Numbers.{mostX, mostZ}
 use Rattle.exact.proofs.Orders.{le-is, le-not, lt-is, lt-not}
-use Rattle.exact.proofs.Z.{zs, zs-abs, is-Z, le-yes}
+use Rattle.exact.proofs.Z.{zs-abs, is-Z, le-yes}
 use Rattle.exact.proofs.NextLaws.{next-within}
 use Rattle.spells.specs.Values.{SidesFit}
 use Rattle.spells.specs.Spells.{raised, lowered, isZero, largerInSize, provisional, founded, unfounded, tried, noSpell, endingMonth, inForce, stepOf}

@@ -4,8 +4,8 @@
 // crate above, which holds the soil, the readings and the constants in range before it calls.
 
 ghost use mathlib.Core.Path.{_≡_};
-ghost use Prim.Native.Nat.{ℕ, _+_, _*_, _≤_, min};
-ghost use lib.IntN.{pos, natAbs};
+ghost use Prim.Native.Nat.{_+_, _*_, _≤_, min};
+ghost use lib.IntN.{natAbs};
 ghost use Rattle.door.specs.Readings.{mostReading};
 ghost use Rattle.water.specs.Layers.{surfaceHolds, underlyingHolds, mostCapacity, SoilFits};
 ghost use Rattle.water.specs.Constants.{mostK, ConstantsFit};

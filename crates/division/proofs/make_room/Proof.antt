@@ -2,7 +2,7 @@
 use mathlib.Core.Path.{sym}
 use Prim.Native.Nat.{ℕ}
 use lib.ListN.{length-replicate}
-use Rattle.session.specs.Session.{room}
+use Rattle.division_session.specs.Session.{room}
 use Rattle.division.proofs.make_room.Statement.{statement}
 use Rattle.division.proofs.make_room.Tie as tie
 

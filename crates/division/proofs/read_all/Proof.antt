@@ -2,7 +2,7 @@
 use mathlib.Core.Path.{_≡_, refl, _∙_}
 use native.Mathlib.Omega.{arith}
 use lib.ListN.{length}
-use Rattle.session.specs.Session.{Held}
+use Rattle.division_session.specs.Session.{Held}
 use Rattle.division.proofs.read_all.Statement.{statement}
 use Rattle.division.proofs.read_all.Tie as tie
 

@@ -1,8 +1,8 @@
 -- `division_input::finish`: the last line is closed, and 15 told where none was taken. Assumes nothing.
 use borrow.Author.Needs.{needs}
 use mathlib.Core.Path.{_≡_, sym, ap, ap₂, subst, _∙_}
-use Rattle.session.specs.Session.{Closed, closed, noneFound}
-use Rattle.session.proofs.Room.{HeldBy}
+use Rattle.division_session.specs.Session.{Closed, closed, noneFound}
+use Rattle.division_session.proofs.Room.{HeldBy}
 use Rattle.division_input.specs.Input.{inputEnded}
 use Rattle.division_input.proofs.Fed.{held-ended}
 use Rattle.division_input.proofs.finish.Statement.{statement}

@@ -1,5 +1,5 @@
 -- `door::read` meets its contract: each case goes to its own function. Assumes nothing.
-use mathlib.Core.Path.{_≡_, sym, ap, _∙_}
+use mathlib.Core.Path.{sym, ap, _∙_}
 use Rattle.door.specs.Readings.{reading, whole}
 use mir.Syntax.{w32}
 use mir.ValLaws.{toZ-ofZ}

@@ -1,5 +1,5 @@
 -- `door_vectors::float`: a pattern whose lower 31 digits are at most an infinity's is no NaN's. Assumes nothing.
-use mathlib.Core.Path.{_≡_, sym, subst, _∙_}
+use mathlib.Core.Path.{sym, subst, _∙_}
 use mathlib.Core.Bool.{Bool, not}
 use lib.Dec.{T}
 use lib.Ieee.{binary32}

@@ -1,6 +1,5 @@
 -- `door_vectors::main`: the line keeps its 20 bytes, and the lines left fall. Assumes nothing.
-use mathlib.Core.Path.{_≡_, _∙_, sym}
-use native.Mathlib.Omega.{arith}
+use mathlib.Core.Path.{_≡_}
 use lib.ListN.{length}
 use borrow.Author.Needs.{needs}
 use Rattle.door_vectors.proofs.main.Statement.{statement}

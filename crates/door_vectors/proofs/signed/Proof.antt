@@ -5,10 +5,10 @@ use native.Mathlib.Omega.{arith}
 use borrow.Author.Needs.{needs}
 use lib.IntN.{ℤ, pos, _-ℤ_}
 use mir.Syntax.{w32, w64}
-use mir.Val.{SFits, Fits, toZ}
+use mir.Val.{SFits, toZ}
 use mir.Facts.{toZ-ofZ}
 use Rattle.exact.proofs.Z.{Z, zs, Z-pos}
-use Rattle.exact.proofs.Held.{held, unsigned, wide}
+use Rattle.exact.proofs.Held.{unsigned, wide}
 use Rattle.door_vectors.proofs.signed.Statement.{statement}
 use Rattle.door_vectors.proofs.signed.Tie as tie
 

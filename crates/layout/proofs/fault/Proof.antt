@@ -4,7 +4,7 @@ use mathlib.Core.Path.{sym, _∙_}
 use mathlib.Core.List.{List}
 use Prim.Native.Nat.{ℕ}
 use Rattle.layout.proofs.Faults.{at-length, at-heading, at-rest}
-use Rattle.heading.proofs.Headings.{Heads, heads, headless}
+use Rattle.layout_heading.proofs.Headings.{Heads, heads, headless}
 use Rattle.layout.proofs.fault.Statement.{statement}
 use Rattle.layout.proofs.fault.Tie as tie
 

@@ -6,8 +6,8 @@ use Prim.Native.Nat.{ℕ}
 use Rattle.text.specs.Bytes.{natural}
 use Rattle.fields.specs.Columns.{state, division, element, year}
 use Rattle.layout.specs.Fault.{faultOf}
-use Rattle.heading.specs.Steps.{headingRefusal}
-use Rattle.heading.proofs.Headings.{heading-told, Heads, heads, headless}
+use Rattle.layout_heading.specs.Steps.{headingRefusal}
+use Rattle.layout_heading.proofs.Headings.{heading-told, Heads, heads, headless}
 use Rattle.layout.proofs.Faults.{at-heading, at-rest}
 use Rattle.layout.proofs.Refusals.{at-fault, faultless}
 use Rattle.layout.proofs.line_refusal.Statement.{statement}

@@ -9,12 +9,12 @@ use lib.Count.{ones}
 use lib.ListN.{length, length-map}
 use Rattle.fields.specs.Columns.{lastColumn, monthsOfYear}
 use Rattle.fields.specs.Refusals.{malformed}
-use Rattle.months.specs.Months.{monthsOf, isPresent, amountOf, setOf}
-use Rattle.months.specs.Steps.{foundIn, allMonths, lowestMissing}
-use Rattle.months.specs.declared.Found.{Found}
-use Rattle.months.specs.declared.Month.{Month}
-use Rattle.months.proofs.Sets.{set-below, ones-count, lowest-first}
-use Rattle.months.proofs.Months.{months-twelve, found-present}
+use Rattle.layout_months.specs.Months.{monthsOf, isPresent, amountOf, setOf}
+use Rattle.layout_months.specs.Steps.{foundIn, allMonths, lowestMissing}
+use Rattle.layout_months.specs.declared.Found.{Found}
+use Rattle.layout_months.specs.declared.Month.{Month}
+use Rattle.layout_months.proofs.Sets.{set-below, ones-count, lowest-first}
+use Rattle.layout_months.proofs.Months.{months-twelve, found-present}
 use Rattle.layout.specs.Rainfall.{refusal, refused, told, answered, yearSaid}
 use Rattle.layout.proofs.Faults.{at-length}
 use Rattle.layout.proofs.Refusals.{at-fault}

@@ -1,2 +1,0 @@
--- What the contracts of `kept` cite (Kept).
-pub mod Kept

@@ -1,0 +1,2 @@
+-- What the contracts of `kept_line` cite (Kept).
+pub mod Kept
