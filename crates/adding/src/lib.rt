@@ -217,7 +217,7 @@ fn add_spells(
     let b = after.x2;
     let c = after.x3;
     let shown = s.index;
-    let t = hindsight::add(
+    let t = history::add(
         x1,
         x2,
         x3,

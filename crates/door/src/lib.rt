@@ -2,7 +2,8 @@
 //
 // A binary32 number is judged by comparisons and by the bits of its pattern alone; no float is added,
 // multiplied or rounded.
-
+use outline::BAD_READING;
+use outline::NO_READING;
 ghost use mathlib.Core.Path.{_≡_};
 ghost use Prim.Native.Nat.{_<_, _≤_};
 ghost use lib.Dec.{T};
@@ -68,7 +69,7 @@ fn nearest_to(x: f32, per: u64, of: u64) -> u32
 }
 
 // A number of inches. A NaN passes no comparison, so both tests must pass.
-pub fn read_inches(x: f32) -> Answer
+fn read_inches(x: f32) -> Answer
     ensures { λ r. ⌜ outcome r ≡ inches x ⌝ }
 {
     if x >= 0.0 && x <= MOST_INCHES {
@@ -78,7 +79,7 @@ pub fn read_inches(x: f32) -> Answer
 }
 
 // A number of millimetres, of which 127 are 5,000 thousandths of an inch.
-pub fn read_millimetres(x: f32) -> Answer
+fn read_millimetres(x: f32) -> Answer
     ensures { λ r. ⌜ outcome r ≡ millimetres x ⌝ }
 {
     if x >= 0.0 && x <= MOST_MILLIMETRES {
@@ -88,7 +89,7 @@ pub fn read_millimetres(x: f32) -> Answer
 }
 
 // A whole number of thousandths.
-pub fn read_whole(n: i32) -> Answer
+fn read_whole(n: i32) -> Answer
     ensures { λ r. ⌜ outcome r ≡ whole n ⌝ }
 {
     if n >= 0 && n <= MOST_WHOLE {
@@ -124,8 +125,8 @@ pub fn number(a: Answer) -> u8
 {
     match a {
         Answer::Water(_) => 0,
-        Answer::NoReading => 8,
-        Answer::NotAcceptable => 9,
+        Answer::NoReading => NO_READING,
+        Answer::NotAcceptable => BAD_READING,
     }
 }
 

@@ -18,7 +18,7 @@ pub to-end : (s : List ℕ) (i : ℕ) → take (length s - i) (drop i s) ≡ dro
 to-end s i = take-all (length s - i) (drop i s) (omega (arith, length-drop i s))
 
 module _ (s : List ℕ) (i : ℕ) (h : i < length s) where
-  left : drop i s ≡ getD s i 0 ∷ drop (i + 1) s
+  pub left : drop i s ≡ getD s i 0 ∷ drop (i + 1) s
   left = rw (add-one i) (drop-cons s i 0 h)
 
   pub digit-on : isDigit (getD s i 0) ≡ true → allDigits (drop i s) ≡ allDigits (drop (i + 1) s)

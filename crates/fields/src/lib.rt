@@ -44,7 +44,7 @@ pub const NOT_THE_YEAR: u8 = 16;
 
 // ---- digits and spaces
 
-// The number that at most four digits make.
+// The number that a part makes, of which at most four bytes are handed in.
 pub fn number_of(part: &[u8]) -> Digits
     requires { ⌜ length (now part) ≤ 4 ⌝ }
     ensures { λ r. ⌜ r ≡ digitsOf (now (part .entry)) ⌝ }
@@ -62,6 +62,7 @@ pub fn number_of(part: &[u8]) -> Digits
     Digits::Make(n)
 }
 
+// Whether a part is spaces alone.
 pub fn all_spaces(rest: &[u8]) -> bool
     ensures { λ r. ⌜ r ≡ allSpaces (now (rest .entry)) ⌝ }
 {
@@ -119,6 +120,7 @@ fn is_plain(part: &[u8]) -> bool
     part[0] != b'0'
 }
 
+// What a value says, of which all seven characters are handed in.
 pub fn read_field(field: &[u8]) -> Field
     requires { ⌜ length (now field) ≡ width ⌝ }
     ensures { λ r. ⌜ r ≡ fieldOf (now (field .entry)) ⌝ }

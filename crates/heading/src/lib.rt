@@ -20,8 +20,10 @@ pub enum Heading {
     At(u32),
 }
 
+// "Precipitation is element 01".
 pub const PRECIPITATION: u32 = 1;
 
+// Reads the first ten columns.
 pub fn read_heading(line: &[u8]) -> Heading
     requires { ⌜ headingColumns ≤ length (now line) ⌝ }
     ensures { λ r. ⌜ r ≡ headingOf (now (line .entry)) ⌝ }

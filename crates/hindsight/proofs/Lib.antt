@@ -1,5 +1,4 @@
 -- What the functions' proofs cite, here and in the crates above.
 pub mod Numbers
 pub mod Back
-pub mod Adding
 pub mod Forward

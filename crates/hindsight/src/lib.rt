@@ -1,26 +1,14 @@
-// Hindsight: what an add writes in the columns.
+// Hindsight: the open months before a month that decides, settled.
 //
-// `add` is for the crates above, which hold the lengths that it requires. A decision comes as its number: 0
-// nothing, 1 with X1, 2 with X2, 3 with X3. A side is 1 for X1's and 2 for X2's.
-use spells::Decision;
+// For the crates above, which hold the lengths that `settle` requires. A decision comes as its number: 0 nothing, 1
+// with X1, 2 with X2, 3 with X3. A side is 1 for X1's and 2 for X2's.
 ghost use mathlib.Core.Path.{_≡_};
 ghost use mathlib.Core.List.{_++_};
-ghost use Prim.Native.Nat.{_-_, _≤_, _<_};
-ghost use lib.ListN.{length, take, drop, set, replicate};
+ghost use Prim.Native.Nat.{_-_, _≤_};
+ghost use lib.ListN.{length, take, drop, replicate};
 ghost use Rattle.hindsight.specs.Rule.{nonzero};
 ghost use Rattle.hindsight.specs.Adding.{settledAll};
-ghost use Rattle.hindsight.specs.Months.{markFor};
-ghost use Rattle.hindsight.specs.Columns.{xAt, xsFrom, withOf, sideOf, sideNumber, valueBy, decisionOf, historyIn, rowOf, Adds};
-
-// The mark of the month that decides so: 1 open, 2 settled.
-pub fn mark_for(d: Decision) -> u8
-    ensures { λ r. ⌜ r ≡ markFor d ⌝ }
-{
-    match d {
-        Decision::Nothing => 1,
-        Decision::Decides(_) => 2,
-    }
-}
+ghost use Rattle.hindsight.specs.Columns.{xAt, xsFrom, withOf, sideOf, sideNumber, valueBy};
 
 // The side that a month gives, if exactly one of its X1 and X2 is not 0, else the side that is passed.
 pub fn told(a: i32, b: i32, side: u8) -> u8
@@ -51,7 +39,7 @@ pub fn value(a: i32, b: i32, c: i32, by: u8, side: u8) -> i32
 // Settles the open months from .. at, which stand before a month that decides. It goes back from that month,
 // and the side that it holds is the one that the first month from there on with exactly one of X1, X2 nonzero
 // gives.
-fn settle(
+pub fn settle(
     x1: &[i32],
     x2: &[i32],
     x3: &[i32],
@@ -77,55 +65,5 @@ fn settle(
         index[i] = v;
         mark[i] = 2;
         j = i;
-    }
-}
-
-// What an add answers: how many months are open now, how many it settled, and the mark of the month that it added.
-pub struct Added {
-    pub opens: usize,
-    pub settled: usize,
-    pub mark: u8,
-}
-
-// Adds a month: it writes the month's place in the five columns, and index and mark of the open months if it decides.
-pub fn add(
-    x1: &mut [i32],
-    x2: &mut [i32],
-    x3: &mut [i32],
-    index: &mut [i32],
-    mark: &mut [u8],
-    months: usize,
-    opens: usize,
-    a: i32,
-    b: i32,
-    c: i32,
-    by: u8,
-    shown: i32,
-) -> Added
-    requires { ⌜ (opens ≤ months) × (months < length (now x1)) × (length (now x2) ≡ length (now x1)) × (length (now x3) ≡ length (now x1)) × (length (now index) ≡ length (now x1)) × (length (now mark) ≡ length (now x1)) ⌝ }
-    ensures { λ _. ⌜ now (x1 .exit) ≡ set (now (x1 .entry)) months a ⌝ }
-    ensures { λ _. ⌜ now (x2 .exit) ≡ set (now (x2 .entry)) months b ⌝ }
-    ensures { λ _. ⌜ now (x3 .exit) ≡ set (now (x3 .entry)) months c ⌝ }
-    ensures { λ r. ⌜ Adds (historyIn (now (x1 .entry)) (now (x2 .entry)) (now (x3 .entry)) (now (index .entry)) (now (mark .entry)) months opens) (rowOf a b c by shown) months (now (index .entry)) (now (index .exit)) (now (mark .entry)) (now (mark .exit)) (r .opens) (r .settled) ⌝ }
-    ensures { λ r. ⌜ r .mark ≡ markFor (decisionOf by) ⌝ }
-{
-    x1[months] = a;
-    x2[months] = b;
-    x3[months] = c;
-    index[months] = shown;
-    if by == 0 {
-        mark[months] = 1;
-        return Added {
-            opens: opens + 1,
-            settled: 0,
-            mark: 1,
-        };
-    }
-    mark[months] = 2;
-    settle(x1, x2, x3, index, mark, months - opens, months, by);
-    Added {
-        opens: 0,
-        settled: opens + 1,
-        mark: 2,
     }
 }

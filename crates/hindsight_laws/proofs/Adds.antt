@@ -12,7 +12,7 @@ use Rattle.spells.specs.declared.Decision.the-variants.{Nothing, Decides}
 use Rattle.hindsight.specs.Rule.{X, Row, forwardIndexes, forwardMarks}
 use Rattle.hindsight.specs.Adding.{History, fresh, addAll, addAs, addMonth}
 use Rattle.hindsight.specs.Columns.{xAt, xsFrom, decisionOf, historyIn, rowOf, Adds}
-use Rattle.hindsight.proofs.Adding.{xs-same, earlier-same}
+use Rattle.history.proofs.Adding.{xs-same, earlier-same}
 use Rattle.hindsight_laws.proofs.Hindsight.{inv, index-columns, mark-columns, add-append}
 
 -- one place more

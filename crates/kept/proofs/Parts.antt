@@ -4,33 +4,29 @@ use mathlib.Core.Path.{_≡_, refl}
 use mathlib.Core.Bool.{Bool, true, false}
 use mathlib.Core.List.{List, [], _∷_}
 use Prim.Native.Nat.{ℕ, _+_, _≤_, _<_}
-use native.Mathlib.Numerals.{add-one}
 use native.Mathlib.Omega.{arith}
 use lib.Dec.{leb}
 use lib.ListN.{length, drop, getD, drop-of-length-le}
-use lib.Seq.{drop-cons}
 use borrow.Author.Tests.{leb-true, leb-false, le-ltb, eq-eqb, ne-eqb}
 use Rattle.text.specs.Bytes.{lineFeed}
 use Rattle.text.proofs.Digits.{apart}
 use Rattle.fields.specs.Columns.{lastColumn}
+use Rattle.fields.proofs.Parts.{left}
 use Rattle.kept.specs.Kept.{untilFeed, mostKept, isKept, Kept, byteInto, partKept}
 
 -- ---- what is left at a place: its first byte and those after it, or nothing
 module _ (s : List ℕ) (i : ℕ) (h : i < length s) where
-  left : drop i s ≡ getD s i 0 ∷ drop (i + 1) s
-  left = rw (add-one i) (drop-cons s i 0 h)
-
   pub part-on : (k : Kept) → partKept k (drop i s) ≡ partKept (byteInto k (getD s i 0)) (drop (i + 1) s)
   unfolding partKept
-  part-on k = rw left
+  part-on k = rw (left s i h)
 
   pub feed-here : getD s i 0 ≡ lineFeed → untilFeed (drop i s) ≡ []
   unfolding untilFeed
-  feed-here e = rw (left, eq-eqb (getD s i 0) lineFeed e)
+  feed-here e = rw (left s i h, eq-eqb (getD s i 0) lineFeed e)
 
   pub feed-later : (getD s i 0 ≡ lineFeed → ⊥) → untilFeed (drop i s) ≡ getD s i 0 ∷ untilFeed (drop (i + 1) s)
   unfolding untilFeed
-  feed-later e = rw (left, ne-eqb (getD s i 0) lineFeed e)
+  feed-later e = rw (left s i h, ne-eqb (getD s i 0) lineFeed e)
 
 module _ (s : List ℕ) (i : ℕ) (h : length s ≤ i) where
   pub part-end : (k : Kept) → partKept k (drop i s) ≡ k

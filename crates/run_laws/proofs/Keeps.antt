@@ -21,7 +21,7 @@ use Rattle.hindsight.specs.Rule.{X, Row}
 use Rattle.hindsight.specs.Adding.{settledAll, addAs, addMonth, History}
 use Rattle.hindsight.specs.Months.{rowFor}
 use Rattle.hindsight.specs.Columns.{xAt}
-use Rattle.hindsight.proofs.Adding.{length-xs}
+use Rattle.history.proofs.Adding.{length-xs}
 use Rattle.runs.specs.Runs.{isRun}
 use Rattle.calendar.specs.Calendar.{nextCalendar}
 use Rattle.runs.specs.RunFits.{RunFits}

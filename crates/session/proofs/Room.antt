@@ -1,7 +1,7 @@
 -- What the program lends is enough, whatever the input. The idea: a line that is taken has a year of four digits, no less than the year that
 -- had to follow, so the rows so far end a row before the room does, and no row is longer than that. Assumes nothing.
 use mathlib.Core.Path.{_≡_, refl, sym, _∙_}
-use mathlib.Core.Bool.{Bool, true, false, cond, _&&_, and-false}
+use mathlib.Core.Bool.{Bool, true, false, cond, and-false}
 use mathlib.Core.List.{List, [], _∷_, map}
 use Prim.Native.Nat.{ℕ, zero, suc, _+_, _*_, _/_, _%_, _≤_, _<_}
 use native.Mathlib.Omega.{arith}

@@ -1,6 +1,6 @@
 -- `layout::fault`: the line's length is looked at first, then its heading, then what follows it. Assumes nothing.
 use borrow.Author.Needs.{needs}
-use mathlib.Core.Path.{_≡_, sym, _∙_}
+use mathlib.Core.Path.{sym, _∙_}
 use mathlib.Core.List.{List}
 use Prim.Native.Nat.{ℕ}
 use Rattle.layout.proofs.Faults.{at-length, at-heading, at-rest}

@@ -1,15 +1,15 @@
--- `hindsight::add` meets its contract: what it stores, and what `settle` leaves, is `addMonth` of the run that the columns hold. Assumes nothing.
+-- `history::add` meets its contract: what it stores, and what `settle` leaves, is `addMonth` of the run that the columns hold. Assumes nothing.
 use mathlib.Core.Path.{refl, sym, ap, _∙_}
 use native.Mathlib.Omega.{arith}
 use borrow.Author.Needs.{needs}
 use mir.Facts.{toZ-ofZ}
 use lib.ListN.{length-set}
 use denote.Ref.{now}
 use Rattle.hindsight.specs.Months.{markFor}
 use Rattle.hindsight.proofs.Numbers.{decision-zero, decision-some}
-use Rattle.hindsight.proofs.Adding.{adds-open, adds-settled}
-use Rattle.hindsight.proofs.add.Statement.{statement}
-use Rattle.hindsight.proofs.add.Tie as tie
+use Rattle.history.proofs.Adding.{adds-open, adds-settled}
+use Rattle.history.proofs.add.Statement.{statement}
+use Rattle.history.proofs.add.Tie as tie
 
 mul-a : tie.Need-mul-a
 mul-a c = search needs

@@ -1,0 +1,2 @@
+-- What an add stores and `settle` leaves, as the definition has it.
+pub mod Adding
