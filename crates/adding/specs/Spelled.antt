@@ -1,4 +1,4 @@
--- What a month of spells leaves, beside the run's storages, calendar and constants: the parts of `taken` (Calls.antt) that `add_spells`
+-- What a month of spells leaves, beside the run's storages, calendar and constants: the parts of `taken` (Taken.antt) that `add_spells`
 -- works out and `add_month` puts together. Assumes nothing.
 use mathlib.Core.Path.{_≡_}
 use Prim.Native.Nat.{ℕ}

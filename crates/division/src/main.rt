@@ -2,6 +2,8 @@
 // row a year, as year, twelve amounts in thousandths of an inch or a dash, months present. Where the reading stops,
 // only which line was refused and why. `division_input` reads, `layout` judges a line, `rows` lays out; here bytes are only
 // moved, and a refusal is put in words.
+use division_session::ROOM;
+use division_session::Session;
 use fields::Digits;
 use fields::FIRST_VALUE;
 use fields::LAST_COLUMN;
@@ -12,8 +14,6 @@ use kept_line::KEPT;
 use libc::STDERR_FILENO;
 use libc::STDIN_FILENO;
 use libc::STDOUT_FILENO;
-use division_session::ROOM;
-use division_session::Session;
 ghost use Prim.Native.Nat.{_≤_, _<_};
 ghost use mathlib.Core.Path.{_≡_};
 ghost use lib.ListN.{length};

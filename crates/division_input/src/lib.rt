@@ -5,8 +5,8 @@
 // What the program makes of an input is `divisionOf`, ByLines of the crate `division_session`, said of whole lines; here it is
 // said byte by byte, for an input that comes in pieces, and `by-lines`, of the crate `division_laws`, says that this is
 // the same. Everything here is for the program, which lends a line and room for the rows.
-use fields::Digits;
 use division_session::Session;
+use fields::Digits;
 ghost use mathlib.Core.Path.{_≡_};
 ghost use mathlib.Core.List.{foldl};
 ghost use Rattle.kept_line.specs.Kept.{untilFeed};

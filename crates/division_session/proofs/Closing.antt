@@ -29,4 +29,3 @@ module _ (s : Session) (out : List ℕ) (year : Year) (y : ℕ) where
   pub closing : (line : List ℕ) → y ≡ expected (s .next) line → year ≡ yearSaid line (s .state) (s .division) y → closedWith s out year y ≡ lineClosed s line out
   unfolding lineClosed
   closing line e f = ap₂ (closedWith s out) (f ∙ ap (yearSaid line (s .state) (s .division)) e) e
-

@@ -9,7 +9,7 @@ use lib.Dec.{eqb}
 use lib.ListN.{length, take, drop, getD, length-map}
 use borrow.Author.Tests.{eqb-true, eqb-false}
 use Rattle.fields.specs.Columns.{values, headingColumns, firstValue, monthsOfYear, width}
-use Rattle.layout_months.specs.Months.{monthOf, monthsOf, isPresent, setOf, badMonth, firstBad}
+use Rattle.layout_months.specs.Months.{monthOf, monthsOf, isPresent, setOf, monthAtFault, firstBad}
 use Rattle.layout_months.specs.Steps.{foundIn, andMonth, columnOf}
 use Rattle.layout_months.specs.declared.Found.{Found}
 use Rattle.layout_months.specs.declared.Month.{Month}
@@ -50,10 +50,10 @@ module _ (f : Month → Bool) (ms : List Month) (x : Month) where
 
 pub found-more : (ms : List Month) (x : Month) → andMonth (foundIn ms) x (2 ^ length ms) ≡ foundIn (ms ++ x ∷ [])
 unfolding foundIn
-found-more ms (Amount n) = let x = Amount n in rw (set-off (badMonth false) ms x refl, set-off (badMonth true) ms x refl, set-on isPresent ms x refl)
-found-more ms Missing = rw (set-off (badMonth false) ms Missing refl, set-off (badMonth true) ms Missing refl, set-off isPresent ms Missing refl)
-found-more ms Outside = rw (set-off (badMonth false) ms Outside refl, set-on (badMonth true) ms Outside refl, set-off isPresent ms Outside refl)
-found-more ms Malformed = rw (set-on (badMonth false) ms Malformed refl, set-on (badMonth true) ms Malformed refl, set-off isPresent ms Malformed refl)
+found-more ms (Amount n) = let x = Amount n in rw (set-off (monthAtFault false) ms x refl, set-off (monthAtFault true) ms x refl, set-on isPresent ms x refl)
+found-more ms Missing = rw (set-off (monthAtFault false) ms Missing refl, set-off (monthAtFault true) ms Missing refl, set-off isPresent ms Missing refl)
+found-more ms Outside = rw (set-off (monthAtFault false) ms Outside refl, set-on (monthAtFault true) ms Outside refl, set-off isPresent ms Outside refl)
+found-more ms Malformed = rw (set-on (monthAtFault false) ms Malformed refl, set-on (monthAtFault true) ms Malformed refl, set-off isPresent ms Malformed refl)
 
 pub found-present : (ms : List Month) (f : Found) → f ≡ foundIn ms → f .present ≡ setOf (map isPresent ms)
 unfolding foundIn
@@ -62,41 +62,41 @@ found-present ms f e = ap (λ (f : Found). f .present) e
 -- each of its sets is below the power of two of the months' count
 pub found-below : (ms : List Month) (f : Found) → f ≡ foundIn ms → (f .malformed < 2 ^ length ms) × (f .bad < 2 ^ length ms) × (f .present < 2 ^ length ms)
 unfolding foundIn
-found-below ms f e = rw e (below (badMonth false), below (badMonth true), below isPresent)
+found-below ms f e = rw e (below (monthAtFault false), below (monthAtFault true), below isPresent)
   where
     below : (g : Month → Bool) → setOf (map g ms) < 2 ^ length ms
     below g = rw (length-map ms g) at (set-below (map g ms))
 
 -- ---- the first month at fault
 module _ (rain : Bool) where
-  zeros-by : (column k : ℕ) (m : Month) (ms : List Month) (t : Bool) → badMonth rain m ≡ t → ((setOf (map (badMonth rain) ms) ≡ 0 → ⊥) → column + width + width * trailingZeros k (setOf (map (badMonth rain) ms)) ≡ firstBad rain (column + width) ms) → (setOf (map (badMonth rain) (m ∷ ms)) ≡ 0 → ⊥) → column + width * trailingZeros (suc k) (setOf (map (badMonth rain) (m ∷ ms))) ≡ firstBad rain column (m ∷ ms)
+  zeros-by : (column k : ℕ) (m : Month) (ms : List Month) (t : Bool) → monthAtFault rain m ≡ t → ((setOf (map (monthAtFault rain) ms) ≡ 0 → ⊥) → column + width + width * trailingZeros k (setOf (map (monthAtFault rain) ms)) ≡ firstBad rain (column + width) ms) → (setOf (map (monthAtFault rain) (m ∷ ms)) ≡ 0 → ⊥) → column + width * trailingZeros (suc k) (setOf (map (monthAtFault rain) (m ∷ ms))) ≡ firstBad rain column (m ∷ ms)
   unfolding setOf firstBad trailingZeros
-  zeros-by column k m ms true e rest h = rw (e, first-rest true (setOf (map (badMonth rain) ms)) .0) (omega arith)
+  zeros-by column k m ms true e rest h = rw (e, first-rest true (setOf (map (monthAtFault rain) ms)) .0) (omega arith)
   zeros-by column k m ms false e rest h =
-      let s = setOf (map (badMonth rain) ms) in
+      let s = setOf (map (monthAtFault rain) ms) in
       let r = rest (λ z. h (rw (e, z))) in
       rw (e, first-rest false s .0, first-rest false s .1) (omega (arith, r))
 
-  zeros-bad : (column k : ℕ) (ms : List Month) → length ms ≤ k → (setOf (map (badMonth rain) ms) ≡ 0 → ⊥) → column + width * trailingZeros k (setOf (map (badMonth rain) ms)) ≡ firstBad rain column ms
+  zeros-bad : (column k : ℕ) (ms : List Month) → length ms ≤ k → (setOf (map (monthAtFault rain) ms) ≡ 0 → ⊥) → column + width * trailingZeros k (setOf (map (monthAtFault rain) ms)) ≡ firstBad rain column ms
   unfolding setOf
   zeros-bad column k [] l h = absurd (h refl)
   zeros-bad column zero (m ∷ ms) l h = absurd (omega arith)
-  zeros-bad column (suc k) (m ∷ ms) l h = zeros-by column k m ms (badMonth rain m) refl (zeros-bad (column + width) k ms (omega arith)) h
+  zeros-bad column (suc k) (m ∷ ms) l h = zeros-by column k m ms (monthAtFault rain m) refl (zeros-bad (column + width) k ms (omega arith)) h
 
-  none-by : (column : ℕ) (m : Month) (ms : List Month) (t : Bool) → badMonth rain m ≡ t → (setOf (map (badMonth rain) ms) ≡ 0 → firstBad rain (column + width) ms ≡ 0) → setOf (map (badMonth rain) (m ∷ ms)) ≡ 0 → firstBad rain column (m ∷ ms) ≡ 0
+  none-by : (column : ℕ) (m : Month) (ms : List Month) (t : Bool) → monthAtFault rain m ≡ t → (setOf (map (monthAtFault rain) ms) ≡ 0 → firstBad rain (column + width) ms ≡ 0) → setOf (map (monthAtFault rain) (m ∷ ms)) ≡ 0 → firstBad rain column (m ∷ ms) ≡ 0
   unfolding setOf firstBad
   none-by column m ms true e rest h = absurd (omega (arith, rw e at h))
   none-by column m ms false e rest h = rw e (rest (omega (arith, rw e at h)))
 
-  none-bad : (column : ℕ) (ms : List Month) → setOf (map (badMonth rain) ms) ≡ 0 → firstBad rain column ms ≡ 0
+  none-bad : (column : ℕ) (ms : List Month) → setOf (map (monthAtFault rain) ms) ≡ 0 → firstBad rain column ms ≡ 0
   unfolding firstBad
   none-bad column [] h = refl
-  none-bad column (m ∷ ms) h = none-by column m ms (badMonth rain m) refl (none-bad (column + width) ms) h
+  none-bad column (m ∷ ms) h = none-by column m ms (monthAtFault rain m) refl (none-bad (column + width) ms) h
 
-  column-by : (ms : List Month) (t : Bool) → eqb (setOf (map (badMonth rain) ms)) 0 ≡ t → length ms ≤ 32 → columnOf (setOf (map (badMonth rain) ms)) ≡ firstBad rain firstValue ms
+  column-by : (ms : List Month) (t : Bool) → eqb (setOf (map (monthAtFault rain) ms)) 0 ≡ t → length ms ≤ 32 → columnOf (setOf (map (monthAtFault rain) ms)) ≡ firstBad rain firstValue ms
   unfolding columnOf
   column-by ms true e l = rw e (sym (none-bad firstValue ms (eqb-true _ _ e)))
   column-by ms false e l = rw e (zeros-bad firstValue 32 ms l (eqb-false _ _ e))
 
-  pub first-bad : (line : List ℕ) → columnOf (setOf (map (badMonth rain) (monthsOf line))) ≡ firstBad rain firstValue (monthsOf line)
+  pub first-bad : (line : List ℕ) → columnOf (setOf (map (monthAtFault rain) (monthsOf line))) ≡ firstBad rain firstValue (monthsOf line)
   first-bad line = column-by (monthsOf line) _ refl (omega (arith, months-twelve line))

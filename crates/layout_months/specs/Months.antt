@@ -93,13 +93,13 @@ firstMissing m (false ∷ bs) = m
 
 -- ---- where they are at fault
 -- a month that makes a line 14: malformed, or of a precipitation line and outside its range
-abbrev pub badMonth : Bool → Month → Bool
-badMonth rain (Amount n) = false
-badMonth rain Missing = false
-badMonth rain Outside = rain
-badMonth rain Malformed = true
+abbrev pub monthAtFault : Bool → Month → Bool
+monthAtFault rain (Amount n) = false
+monthAtFault rain Missing = false
+monthAtFault rain Outside = rain
+monthAtFault rain Malformed = true
 
 -- the column where the first such month begins, of months that begin at a column; 0 where there is none
 unfoldable pub firstBad : Bool → ℕ → List Month → ℕ
 firstBad rain column [] = 0
-firstBad rain column (m ∷ ms) = cond (badMonth rain m) column (firstBad rain (column + width) ms)
+firstBad rain column (m ∷ ms) = cond (monthAtFault rain m) column (firstBad rain (column + width) ms)

@@ -6,14 +6,14 @@ use mathlib.Core.List.{List, map}
 use lib.Count.{trailingZeros}
 use lib.Dec.{eqb}
 use Rattle.fields.specs.Columns.{firstValue, width}
-use Rattle.layout_months.specs.Months.{isPresent, setOf, badMonth}
+use Rattle.layout_months.specs.Months.{isPresent, setOf, monthAtFault}
 use Rattle.layout_months.specs.declared.Month.{Month}
 use Rattle.layout_months.specs.declared.Month.the-variants.{Amount, Missing, Outside, Malformed}
 use Rattle.layout_months.specs.declared.Found.{Found}
 
 -- what is found of months
 unfoldable pub foundIn : List Month → Found
-foundIn ms = record { malformed = setOf (map (badMonth false) ms); bad = setOf (map (badMonth true) ms); present = setOf (map isPresent ms) }
+foundIn ms = record { malformed = setOf (map (monthAtFault false) ms); bad = setOf (map (monthAtFault true) ms); present = setOf (map isPresent ms) }
 
 -- and of one month more, whose bit this is
 abbrev pub andMonth : Found → Month → ℕ → Found

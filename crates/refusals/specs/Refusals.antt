@@ -1,5 +1,5 @@
 -- Document 01, the order in which each call on a run gives its refusals. Their numbers are in `Rattle.outline.specs.Refusals`; a start has its own
--- order (`Rattle.runs.specs.Start`), and so has the whole series (`Rattle.series.specs.Series`). Assumes nothing.
+-- order (`Rattle.starts.specs.Start`), and so has the whole series (`Rattle.series.specs.Series`). Assumes nothing.
 use Prim.Native.Nat.{ℕ}
 use mathlib.Core.Bool.{cond}
 use lib.IntN.{ℤ}

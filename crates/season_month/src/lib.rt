@@ -22,7 +22,7 @@ pub enum Single {
 }
 
 // A month of no reading in a list.
-const NO_READING: i32 = -1;
+const MISSING_MONTH: i32 = -1;
 
 // The single add of a month of the lists, to columns and a run that have been asked for 1 and 7.
 pub fn add_listed(
@@ -59,7 +59,7 @@ pub fn add_listed(
 fn reading_of(n: i32) -> Reading
     ensures { λ r. ⌜ r ≡ listed n ⌝ }
 {
-    if n == NO_READING {
+    if n == MISSING_MONTH {
         return Reading::Missing;
     }
     Reading::Whole(n)
