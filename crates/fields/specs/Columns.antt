@@ -4,6 +4,7 @@
 use Prim.Native.Nat.{ℕ, _+_, _-_}
 use mathlib.Core.List.{List, [], _∷_}
 use lib.ListN.{take, drop}
+use Rattle.outline.specs.Numbers.{lastMonth}
 
 -- the columns from one to another, both counted from 1, both within
 abbrev pub columns : ℕ → ℕ → List ℕ → List ℕ
@@ -36,7 +37,7 @@ firstValue = headingColumns + 1
 
 -- "twelve values"
 abbrev pub monthsOfYear : ℕ
-monthsOfYear = 12
+monthsOfYear = lastMonth
 
 -- "of seven characters"
 abbrev pub width : ℕ

@@ -3,7 +3,7 @@
 // Document 02, E1: "state, division, element and year in the first ten columns, then twelve values of seven
 // characters". What stands in which column is specs/Columns.antt, and what a value is specs/Field.antt. Everything here
 // is for the crates that read a line, which hand in parts of the length that is asked for.
-
+use outline::LAST_MONTH;
 ghost use mathlib.Core.Path.{_≡_};
 ghost use Prim.Native.Nat.{_≤_};
 ghost use lib.ListN.{length};
@@ -29,7 +29,7 @@ pub const HEADING: usize = 10;
 
 pub const FIRST_VALUE: u32 = HEADING as u32 + 1;
 
-pub const MONTHS: usize = 12;
+pub const MONTHS: usize = LAST_MONTH as usize;
 
 pub const WIDTH: usize = 7;
 

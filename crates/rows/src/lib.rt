@@ -8,6 +8,7 @@ ghost use mathlib.Core.Path.{_≡_};
 ghost use Prim.Native.Nat.{_+_, _*_, _≤_};
 ghost use mathlib.Core.List.{[], _∷_};
 ghost use lib.ListN.{length};
+ghost use Rattle.outline.specs.Numbers.{lastMonth};
 ghost use Rattle.text.specs.Bytes.{space, lineFeed};
 ghost use Rattle.rows.specs.Text.{numeral, integer, letter, rowText, refusedText, monthText, monthsText, yearText, laid, mostRow, mostYear};
 
@@ -211,7 +212,7 @@ pub fn lay_year(
     at: usize,
     out: &mut [u8],
 ) -> usize
-    requires { ⌜ length (now amounts) ≡ 12 ⌝ }
+    requires { ⌜ length (now amounts) ≡ lastMonth ⌝ }
     requires { ⌜ at + mostYear ≤ length (now out) ⌝ }
     ensures { λ r. ⌜ r ≡ at + length (yearText year (now (amounts .entry)) present count) ⌝ }
     ensures { λ r. ⌜ r ≤ at + mostYear ⌝ }
