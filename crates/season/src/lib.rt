@@ -131,4 +131,3 @@ fn joined_by(s: SoFar, m: MonthAdded) -> SoFar
         progress,
     }
 }
-
