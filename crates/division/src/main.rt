@@ -3,6 +3,8 @@
 // only which line was refused and why. `division_input` reads, `layout` judges a line, `rows` lays out; here bytes are only
 // moved, and a refusal is put in words.
 use division_session::ROOM;
+use division_session::ROOM;
+use division_session::Session;
 use division_session::Session;
 use fields::Digits;
 use fields::FIRST_VALUE;
@@ -11,15 +13,12 @@ use fields::NOT_THE_YEAR;
 use fields::OTHER_LINE;
 use fields::WIDTH;
 use kept_line::KEPT;
-use libc::STDERR_FILENO;
-use libc::STDIN_FILENO;
-use libc::STDOUT_FILENO;
-ghost use Prim.Native.Nat.{_≤_, _<_};
+use stdio::say;
+use stdio::say_number;
+ghost use Prim.Native.Nat.{_≤_};
 ghost use mathlib.Core.Path.{_≡_};
 ghost use lib.ListN.{length};
 ghost use Rattle.division_session.specs.Session.{Held, room};
-
-const MOST_ROW: usize = 72;
 
 // The program's name and its two arguments.
 const WORDS: usize = 3;
@@ -32,68 +31,54 @@ const VALUE: u32 = WIDTH as u32;
 // What a byte order mark begins with.
 const BYTE_ORDER_MARK: u8 = 0xEF;
 
-// What has been read: how many reads may follow (0: the input has ended or a line is refused), whether a read failed,
-// and the session.
+// What has been read: whether the reading has ended, with the input or at a refused line, whether a read failed, and the
+// session. `palmer` reads in the same two steps over its own session and what that fills: a function cannot be over any
+// session.
 struct Heard {
-    left: u64,
+    ended: bool,
     failed: bool,
     session: Session,
 }
 
-// Reads once, with so many reads left.
-fn read_some(
-    left: u64,
-    session: Session,
-    buffer: &mut [u8],
-    line: &mut [u8],
-    out: &mut [u8],
-) -> Heard
-    requires { ⌜ 0 < left ⌝ }
+// Reads once.
+fn read_some(session: Session, buffer: &mut [u8], line: &mut [u8], out: &mut [u8]) -> Heard
     requires { ⌜ Held session (now line) (now out) ⌝ }
-    ensures { λ h. ⌜ h .left < left ⌝ }
     ensures { λ h. ⌜ Held (h .session) (now (line .exit)) (now (out .exit)) ⌝ }
 {
-    let got = libc::read(STDIN_FILENO, buffer);
-    let n = io::count(got, buffer);
+    let piece = stdio::read(buffer);
+    let n = piece.count;
     if n == 0 {
         return Heard {
-            left: 0,
-            failed: got < 0,
+            ended: true,
+            failed: piece.failed,
             session,
         };
     }
     let next = division_input::take(session, &buffer[..n], line, out);
     Heard {
-        left: if next.refused == 0 { left - 1 } else { 0 },
+        ended: next.refused != 0,
         failed: false,
         session: next,
     }
 }
 
-// Reads until the input ends or a line is refused. A proved loop has to end and an input need not, so the reads are
-// counted down from a number that no run uses up.
+// Reads until the input ends or a line is refused.
 fn read_all(session: Session, buffer: &mut [u8], line: &mut [u8], out: &mut [u8]) -> Heard
     requires { ⌜ Held session (now line) (now out) ⌝ }
     ensures { λ h. ⌜ Held (h .session) (now (line .exit)) (now (out .exit)) ⌝ }
 {
     let mut heard = Heard {
-        left: u64::MAX,
+        ended: false,
         failed: false,
         session,
     };
-    while heard.left > 0 {
+    let mut left = stdio::MOST_READS;
+    while left > 0 {
         let s = heard.session;
-        heard = read_some(heard.left, s, buffer, line, out);
+        heard = read_some(s, buffer, line, out);
+        left = stdio::reads_left(left, heard.ended);
     }
     heard
-}
-
-fn say(text: &[u8]) {
-    io::write_all(STDERR_FILENO, text);
-}
-
-fn say_number(n: u32) {
-    io::print_decimal(STDERR_FILENO, n as u64);
 }
 
 // 14, of a line that is too short.
@@ -208,39 +193,25 @@ fn explain(s: Session, line: &[u8])
     explain_line(s.lines, &line[..kept]);
 }
 
-// Writes a text to standard output, or says that it cannot be written.
-fn write_out(text: &[u8]) {
-    if !io::write_all(STDOUT_FILENO, text) {
-        say(b"division: the output cannot be written\n");
-    }
-}
-
-// Writes which line was refused, and why.
-fn print_refusal(lines: u32, number: u8) {
-    let mut text = [0u8; MOST_ROW];
-    let end = rows::lay_refusal(lines, number, 0, &mut text);
-    write_out(&text[..end]);
-}
-
 // Reads the input and writes what comes of it.
 fn run_with(session: Session, buffer: &mut [u8], line: &mut [u8], out: &mut [u8])
     requires { ⌜ Held session (now line) (now out) ⌝ }
 {
     let heard = read_all(session, buffer, line, out);
     if heard.failed {
-        say(b"division: the input cannot be read\n");
+        stdio::say_unread(b"division");
         return;
     }
     let read = heard.session;
     let s = division_input::finish(read, line, out);
     let number = s.refused;
     if number != 0 {
-        print_refusal(s.lines, number);
+        stdio::print_refusal(b"division", s.lines, number);
         explain(s, line);
         return;
     }
     let end = s.end;
-    write_out(&out[..end]);
+    stdio::write_out(b"division", &out[..end]);
 }
 
 // An argument as a state or a division.

@@ -1,32 +1,19 @@
 // The program: one Z a line from standard input into a fresh run, and at the end a row for each month, or the one
-// line that says which line was refused. `palmer_input` reads, `rows` lays out; here bytes are only moved. Standard error has
-// a refusal in words, by `words`.
-use libc::STDIN_FILENO;
-use libc::STDOUT_FILENO;
+// line that says which line was refused. `palmer_input` reads, `palmer_output` lays out; here bytes are only moved. Standard
+// error has a refusal in words, by `words`.
 use outline::MOST_MONTHS;
 use palmer_input::Session;
 use quoted::Start;
-use rows::Row;
 use runs::Run;
-ghost use Prim.Native.Nat.{_+_, _≤_, _<_};
-ghost use mathlib.Core.Path.{_≡_};
-ghost use lib.ListN.{length};
-ghost use Rattle.refusals.specs.Columns.{columns};
-ghost use Rattle.rows.specs.Text.{rowText, laid, mostRow};
-ghost use Rattle.palmer.specs.Printed.{percentAt, rowAt, lineAfter};
-
-// What a row needs at most, and all rows.
-const MOST_ROW: usize = 72;
-
-const ROOM: usize = MOST_MONTHS * MOST_ROW;
 
 // No line is at fault yet.
 const NO_LINE: u32 = 4_294_967_295;
 
-// What has been read: how many reads may follow (0: the input has ended or a line is refused), whether a read
-// failed, the session, and the start of the line that the reading has come to.
+// What has been read: whether the reading has ended, with the input or at a refused line, whether a read failed, the session,
+// and the start of the line that the reading has come to. `division` reads in the same two steps over its own session and
+// what that fills: a function cannot be over any session.
 struct Heard {
-    left: u64,
+    ended: bool,
     failed: bool,
     session: Session,
     start: Start,
@@ -37,23 +24,11 @@ fn line_at_fault(refused: u8, months: u32) -> u32 {
     if refused == 0 {
         return NO_LINE;
     }
-    line_after(months)
+    palmer_output::line_after(months)
 }
 
-// How many reads may follow one.
-fn reads_left(left: u64, refused: u8) -> u64
-    requires { ⌜ 0 < left ⌝ }
-    ensures { λ r. ⌜ r < left ⌝ }
-{
-    if refused != 0 {
-        return 0;
-    }
-    left - 1
-}
-
-// Reads once, with so many reads left.
+// Reads once.
 fn read_some(
-    left: u64,
     session: Session,
     start: Start,
     buffer: &mut [u8],
@@ -63,16 +38,13 @@ fn read_some(
     index: &mut [i32],
     mark: &mut [u8],
     percent: &mut [u32],
-) -> Heard
-    requires { ⌜ 0 < left ⌝ }
-    ensures { λ h. ⌜ h .left < left ⌝ }
-{
-    let got = libc::read(STDIN_FILENO, buffer);
-    let n = io::count(got, buffer);
+) -> Heard {
+    let piece = stdio::read(buffer);
+    let n = piece.count;
     if n == 0 {
         return Heard {
-            left: 0,
-            failed: got < 0,
+            ended: true,
+            failed: piece.failed,
             session,
             start,
         };
@@ -82,15 +54,14 @@ fn read_some(
     let run = next.run;
     let come = quoted::heed(start, line_at_fault(refused, run.months), &buffer[..n]);
     Heard {
-        left: reads_left(left, refused),
+        ended: refused != 0,
         failed: false,
         session: next,
         start: come,
     }
 }
 
-// Reads until the input ends or a line is refused. A proved loop has to end and an input need not, so the reads
-// are counted down from a number that no run uses up.
+// Reads until the input ends or a line is refused.
 fn read_all(
     buffer: &mut [u8],
     x1: &mut [i32],
@@ -103,118 +74,19 @@ fn read_all(
     let fresh = palmer_input::begin();
     let first = quoted::begin();
     let mut heard = Heard {
-        left: u64::MAX,
+        ended: false,
         failed: false,
         session: fresh,
         start: first,
     };
-    while heard.left > 0 {
+    let mut left = stdio::MOST_READS;
+    while left > 0 {
         let session = heard.session;
         let start = heard.start;
-        heard = read_some(
-            heard.left,
-            session,
-            start,
-            buffer,
-            x1,
-            x2,
-            x3,
-            index,
-            mark,
-            percent,
-        );
+        heard = read_some(session, start, buffer, x1, x2, x3, index, mark, percent);
+        left = stdio::reads_left(left, heard.ended);
     }
     heard
-}
-
-fn percent_at(percent: &[u32], i: usize) -> u32
-    ensures { λ r. ⌜ r ≡ percentAt (now (percent .entry)) i ⌝ }
-{
-    if i < percent.len() {
-        return percent[i];
-    }
-    0
-}
-
-// Puts the row of month i, counted from 0.
-fn put_row(
-    run: Run,
-    i: u32,
-    x1: &[i32],
-    x2: &[i32],
-    x3: &[i32],
-    index: &[i32],
-    mark: &[u8],
-    percent: &[u32],
-    at: usize,
-    out: &mut [u8],
-) -> usize
-    requires { ⌜ i < 4294967295 ⌝ }
-    requires { ⌜ at + mostRow ≤ length (now out) ⌝ }
-    ensures { λ r. ⌜ r ≤ at + mostRow ⌝ }
-    ensures { λ r. ⌜ r ≡ at + length (rowText (rowAt run i (columns (now (x1 .entry)) (now (x2 .entry)) (now (x3 .entry)) (now (index .entry)) (now (mark .entry))) (now (percent .entry)))) ⌝ }
-    ensures { λ _. ⌜ now (out .exit) ≡ laid (rowText (rowAt run i (columns (now (x1 .entry)) (now (x2 .entry)) (now (x3 .entry)) (now (index .entry)) (now (mark .entry))) (now (percent .entry)))) at (now (out .entry)) ⌝ }
-{
-    let chance = percent_at(percent, i as usize);
-    let shown = drought::row(run, i as usize, x1, x2, x3, index, mark);
-    let row = Row {
-        month: i + 1,
-        x1: shown.x1,
-        x2: shown.x2,
-        x3: shown.x3,
-        percent: chance,
-        index: shown.index,
-        mark: shown.mark,
-    };
-    rows::lay_out(row, at, out)
-}
-
-// The number of the line that comes after so many months, counted from 1: each line before it gave a month.
-fn line_after(months: u32) -> u32
-    ensures { λ r. ⌜ r ≡ lineAfter months ⌝ }
-{
-    if months < MOST_MONTHS as u32 {
-        return months + 1;
-    }
-    MOST_MONTHS as u32 + 1
-}
-
-// Room for all rows. Its `ensures` gives only the length, which lending it needs.
-fn make_room() -> [u8; ROOM]
-    ensures { λ r. ⌜ 172800 ≡ length r ⌝ }
-{
-    [0; ROOM]
-}
-
-// Puts the row of each month, and answers where they end.
-fn put_rows(
-    out: &mut [u8],
-    run: Run,
-    x1: &[i32],
-    x2: &[i32],
-    x3: &[i32],
-    index: &[i32],
-    mark: &[u8],
-    percent: &[u32],
-) -> usize
-    requires { ⌜ length (now out) ≡ 172800 ⌝ }
-    ensures { λ r. ⌜ r ≤ 172800 ⌝ }
-{
-    let end = line_after(run.months) - 1;
-    let mut at: usize = 0;
-    let mut i: u32 = 0;
-    while i < end {
-        at = put_row(run, i, x1, x2, x3, index, mark, percent, at, out);
-        i += 1;
-    }
-    at
-}
-
-// Writes a text to standard output, or says that it cannot be written.
-fn write_out(text: &[u8]) {
-    if !io::write_all(STDOUT_FILENO, text) {
-        words::unwritten();
-    }
 }
 
 // Writes the row of each month.
@@ -227,16 +99,31 @@ fn print_rows(
     mark: &[u8],
     percent: &[u32],
 ) {
-    let mut out = make_room();
-    let end = put_rows(&mut out, run, x1, x2, x3, index, mark, percent);
-    write_out(&out[..end]);
+    let mut out = palmer_output::make_room();
+    let end = palmer_output::put_rows(&mut out, run, x1, x2, x3, index, mark, percent);
+    stdio::write_out(b"palmer", &out[..end]);
 }
 
-// Writes which line was refused, and why.
-fn print_refusal(line: u32, number: u8) {
-    let mut out = [0u8; MOST_ROW];
-    let end = rows::lay_refusal(line, number, 0, &mut out);
-    write_out(&out[..end]);
+// Writes what comes of the input: the rows, or which line was refused and why.
+fn print(
+    s: Session,
+    start: Start,
+    x1: &[i32],
+    x2: &[i32],
+    x3: &[i32],
+    index: &[i32],
+    mark: &[u8],
+    percent: &[u32],
+) {
+    let run = s.run;
+    let number = s.refused;
+    if number == 0 {
+        print_rows(run, x1, x2, x3, index, mark, percent);
+        return;
+    }
+    let line = palmer_output::line_after(run.months);
+    stdio::print_refusal(b"palmer", line, number);
+    words::explain(line, number, start);
 }
 
 fn main() {
@@ -257,7 +144,7 @@ fn main() {
         &mut percent,
     );
     if heard.failed {
-        words::unread();
+        stdio::say_unread(b"palmer");
         return;
     }
     let read = heard.session;
@@ -270,13 +157,5 @@ fn main() {
         &mut mark,
         &mut percent,
     );
-    let run = s.run;
-    let number = s.refused;
-    if number != 0 {
-        let line = line_after(run.months);
-        print_refusal(line, number);
-        words::explain(line, number, heard.start);
-        return;
-    }
-    print_rows(run, &x1, &x2, &x3, &index, &mark, &percent);
+    print(s, heard.start, &x1, &x2, &x3, &index, &mark, &percent);
 }

@@ -1,31 +1,16 @@
 // What the printing program says on standard error: of a refused line its number, what was read, what was expected and
 // what the refusal's number means. Every call here serves that program alone. No contract can say what is written, so
 // these functions are proved safe and ending, and tests/program.py holds the words to a table.
-use libc::STDERR_FILENO;
 use outline::BAD_Z;
 use outline::FULL;
 use quoted::Start;
-ghost use Prim.Native.Nat.{_<_};
+use stdio::say;
+use stdio::say_number;
+ghost use Prim.Native.Nat.{_≤_, _<_};
 ghost use lib.ListN.{length};
 
 // How much of a line is kept to be quoted.
 const ROOM: usize = 40;
-
-fn say(text: &[u8]) {
-    io::write_all(STDERR_FILENO, text);
-}
-
-fn say_number(n: u32) {
-    io::print_decimal(STDERR_FILENO, n as u64);
-}
-
-pub fn unread() {
-    say(b"palmer: the input cannot be read\n");
-}
-
-pub fn unwritten() {
-    say(b"palmer: the output cannot be written\n");
-}
 
 // A byte as it is quoted: a question mark stands for one that cannot be shown.
 fn shown(b: u8) -> u8 {
@@ -181,11 +166,13 @@ fn say_fault(line: u32, text: &[u8], at: usize)
 }
 
 // 13: where the line is at fault.
-fn explain_line(line: u32, text: &[u8], more: bool) {
+fn explain_line(line: u32, text: &[u8], more: bool)
+    requires { ⌜ length (now text) ≤ 40 ⌝ }
+{
     let at = lines::spoiled_at(text);
     if at < text.len() {
         say(b", column ");
-        io::print_decimal(STDERR_FILENO, at as u64 + 1);
+        say_number(at as u32 + 1);
         say(b": ");
         say_fault(line, text, at);
         return;

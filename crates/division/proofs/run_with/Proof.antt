@@ -10,11 +10,11 @@ use Rattle.division.proofs.run_with.Tie as tie
 read-all-requires : tie.Need-read-all-requires
 read-all-requires c κs = search needs
 
-slice-aggregate-say : tie.Need-slice-aggregate-say
-slice-aggregate-say c = search needs
+slice-aggregate-say-unread : tie.Need-slice-aggregate-say-unread
+slice-aggregate-say-unread c = search needs
 
-say-requires : tie.Need-say-requires
-say-requires c κs = search needs
+say-unread-requires : tie.Need-say-unread-requires
+say-unread-requires c κs = search needs
 
 same-length : tie.Need-same-length
 same-length c = search needs
@@ -30,6 +30,9 @@ returns c = search needs
 
 finish-requires : tie.Need-finish-requires
 finish-requires c κs = search needs
+
+slice-aggregate-print-refusal : tie.Need-slice-aggregate-print-refusal
+slice-aggregate-print-refusal c = search needs
 
 print-refusal-requires : tie.Need-print-refusal-requires
 print-refusal-requires c κs = search needs
@@ -49,12 +52,15 @@ same-length-6 c = search needs
 returns-2 : tie.Need-returns-2
 returns-2 c = search needs
 
+slice-aggregate-write-out : tie.Need-slice-aggregate-write-out
+slice-aggregate-write-out c = search needs
+
 slice-reshare-prefix-write-out : tie.Need-slice-reshare-prefix-write-out
 slice-reshare-prefix-write-out c = search needs
 
-slice-aggregate-write-out : tie.Need-slice-aggregate-write-out
-slice-aggregate-write-out c =
-    let h = c .before .before .before .before .finish .ensures .1 in
+slice-aggregate-write-out-2 : tie.Need-slice-aggregate-write-out-2
+slice-aggregate-write-out-2 c =
+    let h = c .before .before .before .before .before .finish .ensures .1 in
     sym (length-take-le _ _ (omega (arith, h)))
 
 write-out-requires : tie.Need-write-out-requires
@@ -77,21 +83,23 @@ run-with-spec =
     tie.close
     (tie.spec
     read-all-requires
-    slice-aggregate-say
-    say-requires
+    slice-aggregate-say-unread
+    say-unread-requires
     same-length
     same-length-2
     same-length-3
     returns
     finish-requires
+    slice-aggregate-print-refusal
     print-refusal-requires
     explain-requires
     same-length-4
     same-length-5
     same-length-6
     returns-2
-    slice-reshare-prefix-write-out
     slice-aggregate-write-out
+    slice-reshare-prefix-write-out
+    slice-aggregate-write-out-2
     write-out-requires
     same-length-7
     same-length-8

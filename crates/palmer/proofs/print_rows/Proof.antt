@@ -14,11 +14,14 @@ slice-aggregate-put-rows c = search needs
 put-rows-requires : tie.Need-put-rows-requires
 put-rows-requires c κs = search needs
 
+slice-aggregate-write-out : tie.Need-slice-aggregate-write-out
+slice-aggregate-write-out c = search needs
+
 array-share-prefix-out : tie.Need-array-share-prefix-out
 array-share-prefix-out c = search needs
 
-slice-aggregate-write-out : tie.Need-slice-aggregate-write-out
-slice-aggregate-write-out c = sym (length-take-le _ _ (search needs))
+slice-aggregate-write-out-2 : tie.Need-slice-aggregate-write-out-2
+slice-aggregate-write-out-2 c = sym (length-take-le _ _ (search needs))
 
 write-out-requires : tie.Need-write-out-requires
 write-out-requires c κs = search needs
@@ -33,7 +36,8 @@ print-rows-spec =
     make-room-requires
     slice-aggregate-put-rows
     put-rows-requires
-    array-share-prefix-out
     slice-aggregate-write-out
+    array-share-prefix-out
+    slice-aggregate-write-out-2
     write-out-requires
     returns)

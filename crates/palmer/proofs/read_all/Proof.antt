@@ -7,11 +7,11 @@ use Rattle.palmer.proofs.read_all.Statement.{statement}
 use Rattle.palmer.proofs.read_all.Tie as tie
 
 abbrev Inv-loop : tie.InvT-loop
-Inv-loop buffer₀ x1₀ x2₀ x3₀ index₀ mark₀ percent₀ heard₀ buffer x1 x2 x3 index mark percent heard =
+Inv-loop buffer₀ x1₀ x2₀ x3₀ index₀ mark₀ percent₀ heard₀ left₀ buffer x1 x2 x3 index mark percent heard left =
     (length buffer ≡ length buffer₀) × (length x1 ≡ length x1₀) × (length x2 ≡ length x2₀) × (length x3 ≡ length x3₀) × (length index ≡ length index₀) × (length mark ≡ length mark₀) × (length percent ≡ length percent₀)
 
 abbrev μ-loop : tie.MeasureT-loop
-μ-loop buffer₀ x1₀ x2₀ x3₀ index₀ mark₀ percent₀ heard₀ buffer x1 x2 x3 index mark percent heard = heard .left
+μ-loop buffer₀ x1₀ x2₀ x3₀ index₀ mark₀ percent₀ heard₀ left₀ buffer x1 x2 x3 index mark percent heard left = left
 
 begin-requires : tie.Need-begin-requires Inv-loop μ-loop
 begin-requires c κs = search needs
@@ -23,44 +23,47 @@ loop-holds : tie.Need-loop-holds Inv-loop μ-loop
 loop-holds c = (refl, refl, refl, refl, refl, refl, refl)
 
 read-some-requires : tie.Need-read-some-requires Inv-loop μ-loop
-read-some-requires c κs = omega arith
+read-some-requires c κs = search needs
+
+reads-left-requires : tie.Need-reads-left-requires Inv-loop μ-loop
+reads-left-requires c κs = omega arith
 
 loop-less : tie.Need-loop-less Inv-loop μ-loop
-loop-less c = (c .before .before .before .before .before .before .before .before .before .before) .read-some .ensures
+loop-less c = c .reads-left .ensures
 
 loop-again : tie.Need-loop-again Inv-loop μ-loop
 loop-again c =
-    let r = c .before .before .before .before .before .before .before .before .before .before in
-    let v = (r .before .before .before .before .before .before .before .before .before .before .before .before) .loop .inv in (
-      r .read-some .kept .1 .1 .1 .0 ∙ v .0,
-      r .read-some .kept .1 .1 .1 .1 .0 ∙ v .1,
-      r .read-some .kept .1 .1 .1 .1 .1 .0 ∙ v .2,
-      r .read-some .kept .1 .1 .1 .1 .1 .1 .0 ∙ v .3,
-      r .read-some .kept .1 .1 .1 .1 .1 .1 .1 .0 ∙ v .4,
-      r .read-some .kept .1 .1 .1 .1 .1 .1 .1 .1 .0 ∙ v .5,
-      r .read-some .kept .1 .1 .1 .1 .1 .1 .1 .1 .1 .0 ∙ v .6,
+    let r = (c .before .before .before .before .before .before .before .before .before .before .before) in
+    let v = (c .before .before .before .before .before .before .before .before .before .before .before .before .before .before .before .before .before .before .before .before .before .before) .loop .inv in (
+      r .read-some .kept .1 .1 .0 ∙ v .0,
+      r .read-some .kept .1 .1 .1 .0 ∙ v .1,
+      r .read-some .kept .1 .1 .1 .1 .0 ∙ v .2,
+      r .read-some .kept .1 .1 .1 .1 .1 .0 ∙ v .3,
+      r .read-some .kept .1 .1 .1 .1 .1 .1 .0 ∙ v .4,
+      r .read-some .kept .1 .1 .1 .1 .1 .1 .1 .0 ∙ v .5,
+      r .read-some .kept .1 .1 .1 .1 .1 .1 .1 .1 .0 ∙ v .6,
     )
 
 same-length : tie.Need-same-length Inv-loop μ-loop
-same-length c = c .before .before .loop .inv .0
+same-length c = c .before .loop .inv .0
 
 same-length-2 : tie.Need-same-length-2 Inv-loop μ-loop
-same-length-2 c = c .before .before .loop .inv .1
+same-length-2 c = c .before .loop .inv .1
 
 same-length-3 : tie.Need-same-length-3 Inv-loop μ-loop
-same-length-3 c = c .before .before .loop .inv .2
+same-length-3 c = c .before .loop .inv .2
 
 same-length-4 : tie.Need-same-length-4 Inv-loop μ-loop
-same-length-4 c = c .before .before .loop .inv .3
+same-length-4 c = c .before .loop .inv .3
 
 same-length-5 : tie.Need-same-length-5 Inv-loop μ-loop
-same-length-5 c = c .before .before .loop .inv .4
+same-length-5 c = c .before .loop .inv .4
 
 same-length-6 : tie.Need-same-length-6 Inv-loop μ-loop
-same-length-6 c = c .before .before .loop .inv .5
+same-length-6 c = c .before .loop .inv .5
 
 same-length-7 : tie.Need-same-length-7 Inv-loop μ-loop
-same-length-7 c = c .before .before .loop .inv .6
+same-length-7 c = c .before .loop .inv .6
 
 returns : tie.Need-returns Inv-loop μ-loop
 returns c = search needs
@@ -75,6 +78,7 @@ read-all-spec =
     begin-requires-2
     loop-holds
     read-some-requires
+    reads-left-requires
     loop-less
     loop-again
     same-length

@@ -1,13 +1,10 @@
--- `palmer::read_some` is safe and ends, with fewer reads left. Assumes nothing.
+-- `palmer::read_some` is safe and ends. Assumes nothing.
 use borrow.Author.Needs.{needs}
 use Rattle.palmer.proofs.read_some.Statement.{statement}
 use Rattle.palmer.proofs.read_some.Tie as tie
 
 read-requires : tie.Need-read-requires
 read-requires c κs = search needs
-
-count-requires : tie.Need-count-requires
-count-requires c κs = search needs
 
 same-length : tie.Need-same-length
 same-length c = search needs
@@ -36,29 +33,26 @@ slice-aggregate-heed c = search needs
 heed-requires : tie.Need-heed-requires
 heed-requires c κs = search needs
 
-reads-left-requires : tie.Need-reads-left-requires
-reads-left-requires c κs = (c .before .before .before .before .before .before .before .before .before .before .before .before .before .before .before .before .before .before .before .before .before .before .before .before .before .before .before .before .before .before) .pre
-
 same-length-2 : tie.Need-same-length-2
-same-length-2 c = (c .before .before .before .before .before .before .before .before .before .before .before .before .before .before .before .before .before .before .before .before .before .before .before .before .before .before) .read .kept .1 .0
+same-length-2 c = (c .before .before .before .before .before .before .before .before .before .before .before .before .before .before .before .before .before .before .before .before .before .before .before) .read .kept .0
 
 same-length-3 : tie.Need-same-length-3
-same-length-3 c = search needs
+same-length-3 c = (c .before .before .before .before .before .before .before .before .before .before .before .before) .take .kept .1 .1 .0
 
 same-length-4 : tie.Need-same-length-4
-same-length-4 c = search needs
+same-length-4 c = (c .before .before .before .before .before .before .before .before .before .before .before .before) .take .kept .1 .1 .1 .0
 
 same-length-5 : tie.Need-same-length-5
-same-length-5 c = search needs
+same-length-5 c = (c .before .before .before .before .before .before .before .before .before .before .before .before) .take .kept .1 .1 .1 .1 .0
 
 same-length-6 : tie.Need-same-length-6
-same-length-6 c = search needs
+same-length-6 c = (c .before .before .before .before .before .before .before .before .before .before .before .before) .take .kept .1 .1 .1 .1 .1 .0
 
 same-length-7 : tie.Need-same-length-7
-same-length-7 c = search needs
+same-length-7 c = (c .before .before .before .before .before .before .before .before .before .before .before .before) .take .kept .1 .1 .1 .1 .1 .1 .0
 
 same-length-8 : tie.Need-same-length-8
-same-length-8 c = search needs
+same-length-8 c = (c .before .before .before .before .before .before .before .before .before .before .before .before) .take .kept .1 .1 .1 .1 .1 .1 .1 .0
 
 returns-2 : tie.Need-returns-2
 returns-2 c = search needs
@@ -68,7 +62,6 @@ read-some-spec =
     tie.close
     (tie.spec
     read-requires
-    count-requires
     same-length
     returns
     slice-reshare-prefix-take
@@ -78,7 +71,6 @@ read-some-spec =
     slice-reshare-prefix-heed
     slice-aggregate-heed
     heed-requires
-    reads-left-requires
     same-length-2
     same-length-3
     same-length-4

@@ -1,5 +1,6 @@
 -- `words::explain_kept` is safe and ends: what is told of is within what is kept. Assumes nothing.
 use mathlib.Core.Path.{sym}
+use native.Mathlib.Omega.{arith}
 use lib.Seq.{length-take-le}
 use borrow.Author.Needs.{needs}
 use Rattle.words.proofs.explain_kept.Statement.{statement}
@@ -12,7 +13,7 @@ slice-aggregate-explain-line : tie.Need-slice-aggregate-explain-line
 slice-aggregate-explain-line c = sym (length-take-le _ _ (search needs))
 
 explain-line-requires : tie.Need-explain-line-requires
-explain-line-requires c κs = search needs
+explain-line-requires c κs = omega (arith, slice-aggregate-explain-line c, c .before .if1 .taken)
 
 returns : tie.Need-returns
 returns c = search needs

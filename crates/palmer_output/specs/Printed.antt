@@ -1,9 +1,10 @@
 -- Document 01, the program that "prints, at the end, month number, X1, X2, X3, percent, index, S or O": which row is printed of a month, and
 -- the number of a refused line, "counted from 1". Assumes nothing.
-use Prim.Native.Nat.{ℕ, _+_, min}
+use Prim.Native.Nat.{ℕ, _+_, _*_, min}
 use mathlib.Core.List.{List}
 use lib.ListN.{getD}
 use Rattle.outline.specs.Numbers.{mostMonths}
+use Rattle.rows.specs.Text.{mostRow}
 use Rattle.rows.specs.declared.Row.{Row}
 use Rattle.runs.specs.declared.Run.{Run}
 use Rattle.refusals.specs.Columns.{Columns}
@@ -22,5 +23,9 @@ unfoldable pub rowAt : Run → ℕ → Columns → List ℕ → Row
 rowAt run i cs ps = rowOf i (rowOfRun run i cs) (percentAt ps i)
 
 -- each line before a refused one gave a month, of which a run holds at most 2,400
-unfoldable pub lineAfter : ℕ → ℕ
+abbrev pub lineAfter : ℕ → ℕ
 lineAfter months = min months mostMonths + 1
+
+-- what all rows need at most
+abbrev pub room : ℕ
+room = mostMonths * mostRow

@@ -1,13 +1,12 @@
--- `palmer::put_rows` is safe and ends: a row has at most 72 bytes, and there is room for 2,400. Assumes nothing.
+-- `palmer_output::put_rows` is safe and ends: a row has at most 72 bytes, and there is room for 2,400. Assumes nothing.
 use borrow.Author.Needs.{needs}
 use mathlib.Core.Path.{_≡_, refl, _∙_}
 use Prim.Native.Nat.{_-_, _*_, _≤_}
 use native.Mathlib.Omega.{arith}
 use lib.ListN.{length}
 use Rattle.outline.specs.Numbers.{mostMonths}
-use Rattle.palmer.specs.Printed.{lineAfter}
-use Rattle.palmer.proofs.put_rows.Statement.{statement}
-use Rattle.palmer.proofs.put_rows.Tie as tie
+use Rattle.palmer_output.proofs.put_rows.Statement.{statement}
+use Rattle.palmer_output.proofs.put_rows.Tie as tie
 
 abbrev Inv-loop : tie.InvT-loop
 Inv-loop out₀ run x1 x2 x3 index mark percent end at₀ i₀ out at i =
@@ -20,11 +19,9 @@ line-after-requires : tie.Need-line-after-requires Inv-loop μ-loop
 line-after-requires c κs = search needs
 
 sub-end : tie.Need-sub-end Inv-loop μ-loop
-unfolding lineAfter
 sub-end c = omega (arith, c .line-after .ensures)
 
 loop-holds : tie.Need-loop-holds Inv-loop μ-loop
-unfolding lineAfter
 loop-holds c = let e = c .line-after .ensures in (refl, omega arith, omega arith, omega (arith, e))
 
 put-row-requires : tie.Need-put-row-requires Inv-loop μ-loop

@@ -1,9 +1,9 @@
--- `division::print_refusal` is safe and ends. Assumes nothing.
+-- `stdio::print_refusal` is safe and ends. Assumes nothing.
 use mathlib.Core.Path.{sym}
 use lib.Seq.{length-take-le}
 use borrow.Author.Needs.{needs}
-use Rattle.division.proofs.print_refusal.Statement.{statement}
-use Rattle.division.proofs.print_refusal.Tie as tie
+use Rattle.stdio.proofs.print_refusal.Statement.{statement}
+use Rattle.stdio.proofs.print_refusal.Tie as tie
 
 slice-aggregate-lay-refusal : tie.Need-slice-aggregate-lay-refusal
 slice-aggregate-lay-refusal c = search needs
@@ -11,8 +11,8 @@ slice-aggregate-lay-refusal c = search needs
 lay-refusal-requires : tie.Need-lay-refusal-requires
 lay-refusal-requires c κs = search needs
 
-array-share-prefix-text : tie.Need-array-share-prefix-text
-array-share-prefix-text c = search needs
+array-share-prefix-out : tie.Need-array-share-prefix-out
+array-share-prefix-out c = search needs
 
 slice-aggregate-write-out : tie.Need-slice-aggregate-write-out
 slice-aggregate-write-out c = sym (length-take-le _ _ (search needs))
@@ -29,7 +29,7 @@ print-refusal-spec =
     (tie.spec
     slice-aggregate-lay-refusal
     lay-refusal-requires
-    array-share-prefix-text
+    array-share-prefix-out
     slice-aggregate-write-out
     write-out-requires
     returns)

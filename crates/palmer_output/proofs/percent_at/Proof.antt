@@ -1,11 +1,11 @@
--- `palmer::percent_at` meets its contract: a list has 0 beyond its end. Assumes nothing.
+-- `palmer_output::percent_at` meets its contract: a list has 0 beyond its end. Assumes nothing.
 use mathlib.Core.Path.{refl, sym}
 use native.Mathlib.Omega.{arith}
 use lib.ListN.{List·getD-eq-default}
-use Rattle.palmer.specs.Printed.{percentAt}
+use Rattle.palmer_output.specs.Printed.{percentAt}
 use borrow.Author.Needs.{needs}
-use Rattle.palmer.proofs.percent_at.Statement.{statement}
-use Rattle.palmer.proofs.percent_at.Tie as tie
+use Rattle.palmer_output.proofs.percent_at.Statement.{statement}
+use Rattle.palmer_output.proofs.percent_at.Tie as tie
 
 mul-result : tie.Need-mul-result
 mul-result c = search needs

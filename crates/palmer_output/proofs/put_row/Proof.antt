@@ -1,4 +1,4 @@
--- `palmer::put_row` meets its contract: the percent kept, what the row shows, and what is laid out of both. Assumes nothing.
+-- `palmer_output::put_row` meets its contract: the percent kept, what the row shows, and what is laid out of both. Assumes nothing.
 use mathlib.Core.Path.{ap, ap₂, _∙_}
 use Prim.Native.Nat.{_+_}
 use lib.ListN.{length}
@@ -7,10 +7,10 @@ use mir.Syntax.{w32}
 use mir.Val.{SFits}
 use mir.Facts.{toZ-ofZ}
 use Rattle.rows.specs.Text.{rowText, laid}
-use Rattle.palmer.specs.Printed.{rowAt, rowOf}
+use Rattle.palmer_output.specs.Printed.{rowAt, rowOf}
 use borrow.Author.Needs.{needs}
-use Rattle.palmer.proofs.put_row.Statement.{statement}
-use Rattle.palmer.proofs.put_row.Tie as tie
+use Rattle.palmer_output.proofs.put_row.Statement.{statement}
+use Rattle.palmer_output.proofs.put_row.Tie as tie
 
 percent-at-requires : tie.Need-percent-at-requires
 percent-at-requires c κs = search needs

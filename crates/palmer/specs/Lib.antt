@@ -1,2 +1,0 @@
--- What the contracts of `palmer` cite: the row that is printed of a month (Printed).
-pub mod Printed
