@@ -4,19 +4,13 @@ use mathlib.Core.Path.{_≡_}
 use mathlib.Core.List.{List}
 use lib.IntN.{ℤ}
 use Rattle.water.specs.declared.Soil.{Soil}
-use Rattle.runs.specs.declared.Run.{Run}
 use Rattle.refusals.specs.Columns.{Columns}
 use Rattle.adding.specs.Taken.{result, taken}
 use Rattle.adding.specs.declared.WaterFigures.{WaterFigures}
 use Rattle.adding.specs.declared.Added.{Added}
-use Rattle.adding.specs.declared.Progress.{Progress}
+use Rattle.runs.specs.Progress.{runOf}
+use Rattle.runs.specs.declared.Progress.{Progress}
 use Rattle.adding.specs.declared.MonthAdded.{MonthAdded}
-
-abbrev pub progressOf : Run → Progress
-progressOf r = record { months = r .months; opens = r .opens; calendar = r .calendar; soil = r .soil; values = r .values }
-
-abbrev pub runOf : Progress → List ℤ → Run
-runOf s k = record { months = s .months; opens = s .opens; calendar = s .calendar; soil = s .soil; values = s .values; constants = k }
 
 abbrev pub addedOf : MonthAdded → List ℤ → Added
 addedOf t k = record { number = 0; settled = t .settled; figures = t .figures; run = runOf (t .progress) k }

@@ -3,6 +3,7 @@
 // For the crates that make the calls, `drought` and `season`, which ask for every refusal first: `add_measured` and
 // `add_month` have a `requires`, and the rest only takes runs and answers apart and puts them together.
 use outline::MANY_CONSTANTS;
+use runs::Progress;
 use runs::Run;
 use spells::Running;
 use spells::SpellMonth;
@@ -14,11 +15,12 @@ ghost use lib.IntN.{natAbs};
 ghost use Rattle.outline.specs.Numbers.{mostZ};
 ghost use Rattle.door.specs.Readings.{mostReading};
 ghost use Rattle.hindsight.specs.Months.{markFor};
+ghost use Rattle.runs.specs.Progress.{runOf};
 ghost use Rattle.refusals.specs.Columns.{columns};
 ghost use Rattle.adding.specs.Figures.{waterFigures, noWater, figuresOf};
 ghost use Rattle.adding.specs.Taken.{result, refusal, takenWater};
 ghost use Rattle.adding.specs.Ready.{Ready, Watered};
-ghost use Rattle.adding.specs.Progress.{progressOf, runOf, addedOf, Takes};
+ghost use Rattle.adding.specs.Progress.{addedOf, Takes};
 ghost use Rattle.adding.specs.Spelled.{Spells};
 
 // The water of a month: all 0 for an added Z.
@@ -59,15 +61,6 @@ pub struct Added {
     pub run: Run,
 }
 
-// A run without its constants: what a month changes of it.
-pub struct Progress {
-    pub months: u32,
-    pub opens: u32,
-    pub calendar: u32,
-    pub soil: Soil,
-    pub values: Running,
-}
-
 // What an added month leaves beside the columns, without the run's constants.
 pub struct MonthAdded {
     pub settled: u32,
@@ -76,21 +69,6 @@ pub struct MonthAdded {
 }
 
 // ---- the month
-
-// A run without its constants.
-pub fn progress_of(run: Run) -> Progress
-    ensures { λ s. ⌜ s ≡ progressOf run ⌝ }
-{
-    let soil = run.soil;
-    let values = run.values;
-    Progress {
-        months: run.months,
-        opens: run.opens,
-        calendar: run.calendar,
-        soil,
-        values,
-    }
-}
 
 // The balance of the run's month with precipitation p and PE pe, and the month added.
 pub fn add_measured(
@@ -266,29 +244,12 @@ pub fn added_of(t: MonthAdded, run: Run) -> Added
 {
     let figures = t.figures;
     let progress = t.progress;
-    let next = run_of(progress, run);
+    let next = runs::run_of(progress, run);
     Added {
         number: 0,
         settled: t.settled,
         figures,
         run: next,
-    }
-}
-
-// The run that stands so, with the constants of the run given.
-pub fn run_of(s: Progress, run: Run) -> Run
-    ensures { λ r. ⌜ r ≡ runOf s (run .constants) ⌝ }
-{
-    let soil = s.soil;
-    let values = s.values;
-    let constants = run.constants;
-    Run {
-        months: s.months,
-        opens: s.opens,
-        calendar: s.calendar,
-        soil,
-        values,
-        constants,
     }
 }
 

@@ -94,26 +94,27 @@ fn add_answers(
     requires { ⌜ (outcome p .water ≤ mostReading) × (outcome pe .water ≤ mostReading) ⌝ }
     ensures { λ a. ⌜ result a (columns (now (x1 .exit)) (now (x2 .exit)) (now (x3 .exit)) (now (index .exit)) (now (mark .exit))) ≡ addOutcomes run (outcome p) (outcome pe) (columns (now (x1 .entry)) (now (x2 .entry)) (now (x3 .entry)) (now (index .entry)) (now (mark .entry))) ⌝ }
 {
+    let at = runs::progress_of(run);
+    let constants = run.constants;
     let p_number = door::number(p);
     let pe_number = door::number(pe);
     let measured = door::water(p);
     let potential = door::water(pe);
-    let number = refusals::water_refusal(run, p_number, pe_number, x1, x2, x3, index, mark);
-    if number != 0 {
-        return adding::refuse(number, run);
-    }
-    let at = adding::progress_of(run);
-    let t = adding::add_measured(
+    let number = refusals::water_refusal(
         at,
-        &run.constants,
-        measured,
-        potential,
+        &constants,
+        p_number,
+        pe_number,
         x1,
         x2,
         x3,
         index,
         mark,
     );
+    if number != 0 {
+        return adding::refuse(number, run);
+    }
+    let t = adding::add_measured(at, &constants, measured, potential, x1, x2, x3, index, mark);
     adding::added_of(t, run)
 }
 
@@ -129,13 +130,14 @@ pub fn add_z(
 ) -> Added
     ensures { λ a. ⌜ result a (columns (now (x1 .exit)) (now (x2 .exit)) (now (x3 .exit)) (now (index .exit)) (now (mark .exit))) ≡ addZ run z (columns (now (x1 .entry)) (now (x2 .entry)) (now (x3 .entry)) (now (index .entry)) (now (mark .entry))) ⌝ }
 {
-    let number = refusals::z_refusal(run, z, x1, x2, x3, index, mark);
+    let at = runs::progress_of(run);
+    let constants = run.constants;
+    let number = refusals::z_refusal(at, &constants, z, x1, x2, x3, index, mark);
     if number != 0 {
         return adding::refuse(number, run);
     }
     let soil = run.soil;
     let water = adding::no_water();
-    let at = adding::progress_of(run);
     let t = adding::add_month(at, soil, water, z, x1, x2, x3, index, mark);
     adding::added_of(t, run)
 }
@@ -152,7 +154,9 @@ pub fn row(
 ) -> Shown
     ensures { λ r. ⌜ r ≡ rowOfRun run i (columns (now (x1 .entry)) (now (x2 .entry)) (now (x3 .entry)) (now (index .entry)) (now (mark .entry))) ⌝ }
 {
-    let number = refusals::row_refusal(run, i, x1, x2, x3, index, mark);
+    let at = runs::progress_of(run);
+    let constants = run.constants;
+    let number = refusals::row_refusal(at, &constants, i, x1, x2, x3, index, mark);
     if number != 0 {
         return Shown {
             number,

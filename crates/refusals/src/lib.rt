@@ -1,20 +1,23 @@
-// The refusals of the calls on a run, each call's in the outline's order. Each sees the run and the five lent
-// columns, and nothing is asked of what is handed in.
+// The refusals of the calls on a run, each call's in the outline's order. Each sees the run, its constants
+// apart, and the five lent columns, and nothing is asked of what is handed in.
 //
 // For the crates that make the calls: `drought` and `season`.
 use outline::BAD_LISTS;
 use outline::BAD_Z;
 use outline::FULL;
+use outline::MANY_CONSTANTS;
 use outline::NO_SUCH_ROW;
 use outline::NOT_A_RUN;
-use runs::Run;
+use runs::Progress;
 ghost use mathlib.Core.Path.{_≡_};
+ghost use Rattle.runs.specs.Progress.{runOf};
 ghost use Rattle.refusals.specs.Columns.{columns, lengthsFit};
 ghost use Rattle.refusals.specs.Refusals.{runRefusal, roomRefusal, waterRefusal, zRefusal, rowRefusal};
 
 // An add of water: 1, 7, precipitation's number, PE's number, 10.
 pub fn water_refusal(
-    run: Run,
+    at: Progress,
+    constants: &[i32; MANY_CONSTANTS],
     p: u8,
     pe: u8,
     x1: &[i32],
@@ -23,9 +26,9 @@ pub fn water_refusal(
     index: &[i32],
     mark: &[u8],
 ) -> u8
-    ensures { λ k. ⌜ k ≡ waterRefusal run p pe (columns (now (x1 .entry)) (now (x2 .entry)) (now (x3 .entry)) (now (index .entry)) (now (mark .entry))) ⌝ }
+    ensures { λ k. ⌜ k ≡ waterRefusal (runOf at (now (constants .entry))) p pe (columns (now (x1 .entry)) (now (x2 .entry)) (now (x3 .entry)) (now (index .entry)) (now (mark .entry))) ⌝ }
 {
-    let first = run_refusal(run, x1, x2, x3, index, mark);
+    let first = run_refusal(at, constants, x1, x2, x3, index, mark);
     if first != 0 {
         return first;
     }
@@ -35,12 +38,13 @@ pub fn water_refusal(
     if pe != 0 {
         return pe;
     }
-    room_refusal(x1.len(), run.months)
+    room_refusal(x1.len(), at.months)
 }
 
 // An add of Z: 1, 7, 12, 10.
 pub fn z_refusal(
-    run: Run,
+    at: Progress,
+    constants: &[i32; MANY_CONSTANTS],
     z: i32,
     x1: &[i32],
     x2: &[i32],
@@ -48,21 +52,22 @@ pub fn z_refusal(
     index: &[i32],
     mark: &[u8],
 ) -> u8
-    ensures { λ k. ⌜ k ≡ zRefusal run z (columns (now (x1 .entry)) (now (x2 .entry)) (now (x3 .entry)) (now (index .entry)) (now (mark .entry))) ⌝ }
+    ensures { λ k. ⌜ k ≡ zRefusal (runOf at (now (constants .entry))) z (columns (now (x1 .entry)) (now (x2 .entry)) (now (x3 .entry)) (now (index .entry)) (now (mark .entry))) ⌝ }
 {
-    let first = run_refusal(run, x1, x2, x3, index, mark);
+    let first = run_refusal(at, constants, x1, x2, x3, index, mark);
     if first != 0 {
         return first;
     }
     if !ranges::z_fits(z) {
         return BAD_Z;
     }
-    room_refusal(x1.len(), run.months)
+    room_refusal(x1.len(), at.months)
 }
 
 // A row: 1, 7, 11.
 pub fn row_refusal(
-    run: Run,
+    at: Progress,
+    constants: &[i32; MANY_CONSTANTS],
     i: usize,
     x1: &[i32],
     x2: &[i32],
@@ -70,13 +75,13 @@ pub fn row_refusal(
     index: &[i32],
     mark: &[u8],
 ) -> u8
-    ensures { λ k. ⌜ k ≡ rowRefusal run i (columns (now (x1 .entry)) (now (x2 .entry)) (now (x3 .entry)) (now (index .entry)) (now (mark .entry))) ⌝ }
+    ensures { λ k. ⌜ k ≡ rowRefusal (runOf at (now (constants .entry))) i (columns (now (x1 .entry)) (now (x2 .entry)) (now (x3 .entry)) (now (index .entry)) (now (mark .entry))) ⌝ }
 {
-    let first = run_refusal(run, x1, x2, x3, index, mark);
+    let first = run_refusal(at, constants, x1, x2, x3, index, mark);
     if first != 0 {
         return first;
     }
-    if i < run.months as usize {
+    if i < at.months as usize {
         0
     } else {
         NO_SUCH_ROW
@@ -84,14 +89,22 @@ pub fn row_refusal(
 }
 
 // 1 and 7, which every call on a run asks first.
-pub fn run_refusal(run: Run, x1: &[i32], x2: &[i32], x3: &[i32], index: &[i32], mark: &[u8]) -> u8
-    ensures { λ k. ⌜ k ≡ runRefusal run (columns (now (x1 .entry)) (now (x2 .entry)) (now (x3 .entry)) (now (index .entry)) (now (mark .entry))) ⌝ }
+pub fn run_refusal(
+    at: Progress,
+    constants: &[i32; MANY_CONSTANTS],
+    x1: &[i32],
+    x2: &[i32],
+    x3: &[i32],
+    index: &[i32],
+    mark: &[u8],
+) -> u8
+    ensures { λ k. ⌜ k ≡ runRefusal (runOf at (now (constants .entry))) (columns (now (x1 .entry)) (now (x2 .entry)) (now (x3 .entry)) (now (index .entry)) (now (mark .entry))) ⌝ }
 {
     let n = x1.len();
     if !lengths_fit(n, x2.len(), x3.len(), index.len(), mark.len()) {
         return BAD_LISTS;
     }
-    if !runs::is_run(n, run) {
+    if !runs::is_run(n, at, constants) {
         return NOT_A_RUN;
     }
     0

@@ -10,6 +10,7 @@ ghost use mathlib.Core.Path.{_≡_};
 ghost use lib.Dec.{leb};
 ghost use lib.IntN.{natAbs};
 ghost use Rattle.outline.specs.Numbers.{mostX};
+ghost use Rattle.runs.specs.Progress.{progressOf, runOf};
 ghost use Rattle.runs.specs.Runs.{soilFits, sizesFit, signsFit, vFits, isRun};
 
 // A run, handed in and back by value.
@@ -24,6 +25,47 @@ pub struct Run {
     pub values: Running,
     // The station's sixty constants, January first.
     pub constants: [i32; MANY_CONSTANTS],
+}
+
+// A run without its constants: what a month changes of it.
+pub struct Progress {
+    pub months: u32,
+    pub opens: u32,
+    pub calendar: u32,
+    pub soil: Soil,
+    pub values: Running,
+}
+
+// A run without its constants.
+pub fn progress_of(run: Run) -> Progress
+    ensures { λ s. ⌜ s ≡ progressOf run ⌝ }
+{
+    let soil = run.soil;
+    let values = run.values;
+    Progress {
+        months: run.months,
+        opens: run.opens,
+        calendar: run.calendar,
+        soil,
+        values,
+    }
+}
+
+// The run that stands so, with the constants of the run given.
+pub fn run_of(s: Progress, run: Run) -> Run
+    ensures { λ r. ⌜ r ≡ runOf s (run .constants) ⌝ }
+{
+    let soil = s.soil;
+    let values = s.values;
+    let constants = run.constants;
+    Run {
+        months: s.months,
+        opens: s.opens,
+        calendar: s.calendar,
+        soil,
+        values,
+        constants,
+    }
 }
 
 fn soil_fits(s: Soil) -> bool
@@ -82,32 +124,31 @@ fn v_fits(months: u32, v: Running) -> bool
 }
 
 // What is handed in is a run, for columns of this length.
-pub fn is_run(long: usize, r: Run) -> bool
-    ensures { λ b. ⌜ b ≡ isRun long r ⌝ }
+pub fn is_run(long: usize, at: Progress, constants: &[i32; MANY_CONSTANTS]) -> bool
+    ensures { λ b. ⌜ b ≡ isRun long (runOf at (now (constants .entry))) ⌝ }
 {
-    if r.months as usize > long {
+    if at.months as usize > long {
         return false;
     }
-    if r.opens > r.months {
+    if at.opens > at.months {
         return false;
     }
-    let constants = r.constants;
-    if !ranges::constants_fit(&constants) {
+    if !ranges::constants_fit(constants) {
         return false;
     }
-    let soil = r.soil;
+    let soil = at.soil;
     if !soil_fits(soil) {
         return false;
     }
-    if !ranges::calendar_fits(r.calendar) {
+    if !ranges::calendar_fits(at.calendar) {
         return false;
     }
-    let v = r.values;
+    let v = at.values;
     if !sizes_fit(v) {
         return false;
     }
     if !signs_fit(v) {
         return false;
     }
-    v_fits(r.months, v)
+    v_fits(at.months, v)
 }

@@ -5,7 +5,7 @@ use Prim.Native.Nat.{ℕ, _+_}
 use lib.IntN.{ℤ}
 use Rattle.runs.specs.declared.Run.{Run}
 use Rattle.adding.specs.Figures.{noFigures}
-use Rattle.adding.specs.Progress.{progressOf, runOf}
+use Rattle.runs.specs.Progress.{progressOf, runOf}
 use Rattle.adding.specs.declared.MonthAdded.{MonthAdded}
 use Rattle.season.specs.declared.Season.{Season}
 use Rattle.season.specs.declared.SoFar.{SoFar}

@@ -5,8 +5,8 @@
 // the months one by one with the single add's own, so what a single add promises holds of each month here.
 use adding::Figures;
 use adding::MonthAdded;
-use adding::Progress;
 use outline::BAD_LISTS;
+use runs::Progress;
 use runs::Run;
 use season_month::Single;
 ghost use mathlib.Core.Path.{_≡_};
@@ -83,7 +83,8 @@ fn season_refusal(
     if p.len() != pe.len() {
         return BAD_LISTS;
     }
-    refusals::run_refusal(run, x1, x2, x3, index, mark)
+    let at = runs::progress_of(run);
+    refusals::run_refusal(at, &run.constants, x1, x2, x3, index, mark)
 }
 
 // Before the first month.
@@ -92,7 +93,7 @@ fn nothing_added(run: Run) -> SoFar
 {
     let none = adding::refuse(0, run);
     let figures = none.figures;
-    let progress = adding::progress_of(run);
+    let progress = runs::progress_of(run);
     SoFar {
         added: 0,
         settled: 0,
@@ -107,7 +108,7 @@ fn season_of(s: SoFar, number: u8, run: Run) -> Season
 {
     let figures = s.figures;
     let progress = s.progress;
-    let last = adding::run_of(progress, run);
+    let last = runs::run_of(progress, run);
     Season {
         number,
         added: s.added,

@@ -2,14 +2,14 @@
 //
 // For the crate `season`, which has asked for 1 and 7: `add_listed` has a `requires`.
 use adding::MonthAdded;
-use adding::Progress;
 use door::Answer;
 use door::Reading;
 use outline::MANY_CONSTANTS;
+use runs::Progress;
 ghost use mathlib.Core.Path.{_≡_};
 ghost use Rattle.refusals.specs.Columns.{columns};
 ghost use Rattle.refusals.specs.Good.{Good};
-ghost use Rattle.adding.specs.Progress.{runOf};
+ghost use Rattle.runs.specs.Progress.{runOf};
 ghost use Rattle.adding.specs.Taken.{result};
 ghost use Rattle.drought.specs.Calls.{addWater};
 ghost use Rattle.season_month.specs.Listed.{listed};

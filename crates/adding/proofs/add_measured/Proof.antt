@@ -15,7 +15,7 @@ use Rattle.water.proofs.Theorems.{z-acceptable}
 use Rattle.calendar.specs.Calendar.{constantsAt}
 use Rattle.calendar.proofs.CalendarLaws.{constants-at-fit}
 use Rattle.adding.specs.Taken.{takenWater, waterOf}
-use Rattle.adding.specs.Progress.{runOf}
+use Rattle.runs.specs.Progress.{runOf}
 use Rattle.adding.proofs.add_measured.Statement.{statement}
 use Rattle.adding.proofs.add_measured.Tie as tie
 

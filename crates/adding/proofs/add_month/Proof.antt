@@ -5,7 +5,7 @@ use native.Mathlib.Numerals.{add-one}
 use mir.Facts.{toZ-ofZ}
 use denote.Ref.{now}
 use Rattle.refusals.specs.Columns.{columns}
-use Rattle.adding.specs.Progress.{runOf}
+use Rattle.runs.specs.Progress.{runOf}
 use Rattle.adding.proofs.Taken.{taken-is}
 use borrow.Author.Needs.{needs}
 use Rattle.adding.proofs.add_month.Statement.{statement}

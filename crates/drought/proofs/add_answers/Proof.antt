@@ -1,10 +1,12 @@
 -- `drought::add_answers` meets its contract: its number is the definition's, and then it refuses or adds. Assumes nothing.
-use mathlib.Core.Path.{_≡_, sym, ap₂, _∙_}
+use mathlib.Core.Path.{_≡_, sym, ap, ap₂, _∙_}
 use Prim.Native.Nat.{ℕ, _≤_, _<_}
 use borrow.Author.Needs.{needs}
 use denote.Ref.{now}
 use Rattle.door.specs.Outcome.{outcome}
 use Rattle.door.specs.Readings.{mostReading}
+use Rattle.runs.specs.Progress.{runOf}
+use Rattle.runs.specs.declared.Progress.{Progress}
 use Rattle.refusals.specs.Columns.{Columns, columns, long}
 use Rattle.refusals.specs.Good.{Good}
 use Rattle.refusals.specs.Refusals.{waterRefusal}
@@ -39,25 +41,30 @@ refuse-requires c κs = search needs
 
 -- the two readings' numbers and water, and what was handed in
 abbrev read : tie.After-water-refusal → tie.After-water2
-read c = c .before .before .before .before .before .before
+read c = c .before .before .before .before .before .before .before
 
 abbrev entered : tie.After-water-refusal → tie.Start
-entered c = read c .before .before .before .before .before
+entered c = c .before .before .before .before .before .before .before .before .before .before .before .before .before .before
+
+abbrev apart : tie.After-water-refusal → tie.After-progress-of
+apart c = c .before .before .before .before .before .before .before .before .before .before .before .before
 
 -- its number is the definition's
 abbrev asked : tie.Start → ℕ
-asked s = waterRefusal (s .args .t1) (outcome (s .args .p) .number) (outcome (s .args .pe) .number) (lent s)
+asked s = waterRefusal (s .args .run) (outcome (s .args .p) .number) (outcome (s .args .pe) .number) (lent s)
 
 number-is : (c : tie.After-water-refusal) → c .water-refusal .result ≡ asked (entered c)
 number-is c =
     let r = read c in
     let s = entered c in
-    c .water-refusal .ensures ∙ ap₂ (λ (p pe : ℕ). waterRefusal (s .args .t1) p pe (lent s)) (r .before .before .before .number .ensures) (r .before .before .number2 .ensures)
+    c .water-refusal .ensures
+    ∙ ap (λ (q : Progress). waterRefusal (runOf q (s .args .run .constants)) (r .before .before .before .number .result) (r .before .before .number2 .result) (lent s)) (apart c .progress-of .ensures)
+    ∙ ap₂ (λ (p pe : ℕ). waterRefusal (s .args .run) p pe (lent s)) (r .before .before .before .number .ensures) (r .before .before .number2 .ensures)
 
-passes : (c : tie.Else1) → let s = entered (c .before) in Good (s .args .t1) (lent s) × (s .args .t1 .months < long (lent s))
+passes : (c : tie.Else1) → let s = entered (c .before) in Good (s .args .run) (lent s) × (s .args .run .months < long (lent s))
 passes c =
     let s = entered (c .before) in
-    water-passes (s .args .t1) (lent s) (outcome (s .args .p) .number) (outcome (s .args .pe) .number) (sym (number-is (c .before)) ∙ c .if1 .left)
+    water-passes (s .args .run) (lent s) (outcome (s .args .p) .number) (outcome (s .args .pe) .number) (sym (number-is (c .before)) ∙ c .if1 .left)
 
 same-length : tie.Need-same-length
 same-length c = search needs
@@ -79,7 +86,7 @@ unfolding addOutcomes
 returns c =
     let d = c .before .before in
     let s = entered d in
-    refuses (d .water-refusal .result) (asked s) (s .args .t1) (lent s) (takenWater (s .args .t1) (outcome (s .args .p) .water) (outcome (s .args .pe) .water) (lent s)) (number-is d) (c .refuse .result) (c .before .if1 .taken) (c .refuse .ensures)
+    refuses (d .water-refusal .result) (asked s) (s .args .run) (lent s) (takenWater (s .args .run) (outcome (s .args .p) .water) (outcome (s .args .pe) .water) (lent s)) (number-is d) (c .refuse .result) (c .before .if1 .taken) (c .refuse .ensures)
 
 below : {a b : ℕ} → a ≡ b → b ≤ mostReading → a ≤ mostReading
 below e h = rw e h
@@ -89,12 +96,12 @@ progress-of-requires c κs = search needs
 
 add-measured-requires : tie.Need-add-measured-requires
 add-measured-requires c κs =
-    let o = c .before .before .before .before .before .before .before in
-    let e = o .before in
+    let e = c .before .before .before .before .before .before in
+    let o = apart (e .before) in
     let r = read (e .before) in
     let s = entered (e .before) in
     let p = passes e in
-    (rw (o .progress-of .ensures) (ready (s .args .t1) (lent s) (p .0) (p .1)), (rw (o .progress-of .ensures) (watered (s .args .t1) (lent s) (p .0)), (below (r .before .water .ensures) (s .pre .0), below (r .water2 .ensures) (s .pre .1))))
+    (rw (o .progress-of .ensures) (ready (s .args .run) (lent s) (p .0) (p .1)), (rw (o .progress-of .ensures) (watered (s .args .run) (lent s) (p .0)), (below (r .before .water .ensures) (s .pre .0), below (r .water2 .ensures) (s .pre .1))))
 
 added-of-requires : tie.Need-added-of-requires
 added-of-requires c κs = search needs
@@ -118,18 +125,20 @@ returns-2 : tie.Need-returns-2
 unfolding addOutcomes
 returns-2 c =
     let t = c .before .before .before .before .before .before .before in
-    let o = t .before .before .before .before .before .before .before .before in
-    let e = o .before in
+    let e = t .before .before .before .before .before .before .before in
+    let o = apart (e .before) in
     let r = read (e .before) in
     let s = entered (e .before) in
-    accepts (e .before .water-refusal .result) (asked s) (s .args .t1) (lent s) (takenWater (s .args .t1) (outcome (s .args .p) .water) (outcome (s .args .pe) .water) (lent s)) (number-is (e .before)) _ (e .if1 .left)
-    (rw (c .added-of .ensures) (rw (o .progress-of .ensures) at (t .add-measured .ensures))
-    ∙ ap₂ (λ (p pe : ℕ). takenWater (s .args .t1) p pe (lent s)) (r .before .water .ensures) (r .water2 .ensures))
+    accepts (e .before .water-refusal .result) (asked s) (s .args .run) (lent s) (takenWater (s .args .run) (outcome (s .args .p) .water) (outcome (s .args .pe) .water) (lent s)) (number-is (e .before)) _ (e .if1 .left)
+    (rw (c .added-of .ensures) (t .add-measured .ensures)
+    ∙ ap (λ (q : Progress). takenWater (runOf q (s .args .run .constants)) (r .before .water .result) (r .water2 .result) (lent s)) (o .progress-of .ensures)
+    ∙ ap₂ (λ (p pe : ℕ). takenWater (s .args .run) p pe (lent s)) (r .before .water .ensures) (r .water2 .ensures))
 
 pub add-answers-spec : {M : Type 1} → statement M
 add-answers-spec =
     tie.close
     (tie.spec
+    progress-of-requires
     number-requires
     number-requires-2
     water-requires
@@ -142,7 +151,6 @@ add-answers-spec =
     same-length-4
     same-length-5
     returns
-    progress-of-requires
     add-measured-requires
     added-of-requires
     same-length-6

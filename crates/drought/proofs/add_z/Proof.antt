@@ -1,16 +1,19 @@
 -- `drought::add_z` meets its contract: its number is the definition's, and then it refuses or adds. Assumes nothing.
-use mathlib.Core.Path.{_≡_, sym, _∙_}
+use mathlib.Core.Path.{_≡_, sym, ap, _∙_}
 use Prim.Native.Nat.{_≤_, _<_}
 use borrow.Author.Needs.{needs}
 use lib.IntN.{natAbs}
 use mir.Facts.{toZ-ofZ}
 use denote.Ref.{now}
 use Rattle.outline.specs.Numbers.{mostZ}
+use Rattle.runs.specs.Progress.{runOf}
+use Rattle.runs.specs.declared.Progress.{Progress}
 use Rattle.refusals.specs.Columns.{Columns, columns, long}
 use Rattle.refusals.specs.Good.{Good}
 use Rattle.refusals.specs.Refusals.{zRefusal}
 use Rattle.refusals.proofs.Refused.{z-passes}
-use Rattle.adding.specs.Taken.{takenZ}
+use Rattle.adding.specs.Figures.{noWater}
+use Rattle.adding.specs.Taken.{taken, takenZ}
 use Rattle.adding.proofs.Readiness.{ready}
 use Rattle.adding.proofs.Answered.{refuses, accepts}
 use Rattle.drought.specs.Calls.{addZ}
@@ -28,11 +31,18 @@ refuse-requires c κs = search needs
 
 -- what was handed in
 abbrev entered : tie.After-z-refusal → tie.Start
-entered c = c .before .before .before .before .before .before .before
+entered c = c .before .before .before .before .before .before .before .before .before .before
+
+abbrev apart : tie.After-z-refusal → tie.After-progress-of
+apart c = c .before .before .before .before .before .before .before .before
 
 -- its number is the definition's
 number-is : (c : tie.After-z-refusal) → c .z-refusal .result ≡ zRefusal (entered c .args .run) (entered c .args .z) (lent (entered c))
-number-is c = let f = entered c .fits .z in rw (toZ-ofZ f) at (c .z-refusal .ensures)
+number-is c =
+    let s = entered c in
+    let f = s .fits .z in
+    rw (toZ-ofZ f) at (c .z-refusal .ensures)
+    ∙ ap (λ (p : Progress). zRefusal (runOf p (s .args .run .constants)) (s .args .z) (lent s)) (apart c .progress-of .ensures)
 
 passes : (c : tie.Else1)
     → let s = entered (c .before) in
@@ -69,8 +79,9 @@ progress-of-requires c κs = search needs
 
 add-month-requires : tie.Need-add-month-requires
 add-month-requires c κs =
-    let o = c .before .before .before .before .before in
-    let e = o .before .before .before in
+    let w = c .before .before .before .before .before in
+    let e = w .before .before in
+    let o = apart (e .before) in
     let s = entered (e .before) in
     let f = s .fits .z in
     let p = passes e in
@@ -98,18 +109,20 @@ returns-2 : tie.Need-returns-2
 unfolding addZ
 returns-2 c =
     let t = c .before .before .before .before .before .before .before in
-    let o = t .before .before .before .before .before .before in
-    let w = o .before in
+    let w = t .before .before .before .before .before .before in
     let e = w .before .before in
+    let o = apart (e .before) in
     let s = entered (e .before) in
     let f = s .fits .z in
     accepts (e .before .z-refusal .result) _ (s .args .run) (lent s) (takenZ (s .args .run) (s .args .z) (lent s)) (number-is (e .before)) _ (e .if1 .left)
-    (rw (c .added-of .ensures) (rw (w .no-water .ensures, o .progress-of .ensures, toZ-ofZ f) at (t .add-month .ensures (s .args .run .constants))))
+    (rw (c .added-of .ensures) (rw (w .no-water .ensures, toZ-ofZ f) at (t .add-month .ensures (s .args .run .constants)))
+    ∙ ap (λ (p : Progress). taken (runOf p (s .args .run .constants)) (s .args .run .soil) noWater (s .args .z) (lent s)) (o .progress-of .ensures))
 
 pub add-z-spec : {M : Type 1} → statement M
 add-z-spec =
     tie.close
     (tie.spec
+    progress-of-requires
     z-refusal-requires
     refuse-requires
     same-length
@@ -119,7 +132,6 @@ add-z-spec =
     same-length-5
     returns
     no-water-requires
-    progress-of-requires
     add-month-requires
     added-of-requires
     same-length-6

@@ -11,6 +11,8 @@ use mir.Facts.{toZ-ofZ}
 use denote.Ref.{now}
 use Rattle.outline.specs.Refusals.{unlessRefused}
 use Rattle.outline.proofs.Refusals.{is-refused}
+use Rattle.runs.specs.Progress.{runOf}
+use Rattle.runs.specs.declared.Progress.{Progress}
 use Rattle.refusals.specs.Columns.{Columns, columns}
 use Rattle.refusals.specs.Refusals.{rowRefusal}
 use Rattle.refusals.proofs.Refused.{row-passes, columns-are}
@@ -26,8 +28,17 @@ lent s = let a = s .args in columns (now (a .x1)) (now (a .x2)) (now (a .x3)) (n
 row-refusal-requires : tie.Need-row-refusal-requires
 row-refusal-requires c κs = search needs
 
-number-is : (c : tie.After-row-refusal) → c .row-refusal .result ≡ rowRefusal (c .before .before .args .run) (c .before .before .args .i) (lent (c .before .before))
-number-is c = c .row-refusal .ensures
+progress-of-requires : tie.Need-progress-of-requires
+progress-of-requires c κs = search needs
+
+-- what was handed in
+abbrev entered : tie.After-row-refusal → tie.Start
+entered c = c .before .before .before .before .before
+
+number-is : (c : tie.After-row-refusal) → c .row-refusal .result ≡ rowRefusal (entered c .args .run) (entered c .args .i) (lent (entered c))
+number-is c =
+    let s = entered c in
+    c .row-refusal .ensures ∙ ap (λ (p : Progress). rowRefusal (runOf p (s .args .run .constants)) (s .args .i) (lent s)) (c .before .before .before .progress-of .ensures)
 
 -- what is shown by a number
 abbrev by : tie.Start → ℕ → Shown
@@ -37,7 +48,7 @@ returns : tie.Need-returns
 unfolding rowOfRun
 returns c =
     let d = c .before in
-    let s = d .before .before in
+    let s = entered d in
     sym (is-refused (d .row-refusal .result) (shown (s .args .i) (lent s)) (notShown (d .row-refusal .result)) (c .if1 .taken)) ∙ ap (by s) (number-is d)
 
 -- the place is below each length
@@ -49,67 +60,68 @@ Inside s =
     × (s .args .i < length (now (s .args .index)))
     × (s .args .i < length (now (s .args .mark)))
 
-inside : (c : tie.Else1) → Inside (c .before .before .before)
+inside : (c : tie.Else1) → Inside (entered (c .before))
 inside c =
-    let s = c .before .before .before in
+    let s = entered (c .before) in
     let cs = lent s in
     let p = row-passes (s .args .run) cs (s .args .i) (sym (number-is (c .before)) ∙ c .if1 .left) in
     let l = columns-are cs (p .0 .fit) in
     let m = run-is (s .args .run) cs (p .0) .months in
     omega arith
 
-mul-t10 : tie.Need-mul-t10
-mul-t10 c = let h = inside c in omega arith
-
-shared-slice-copy-out-t12 : tie.Need-shared-slice-copy-out-t12
-shared-slice-copy-out-t12 c = let h = inside c in omega arith
-
 mul-t13 : tie.Need-mul-t13
-mul-t13 c = let h = inside (c .before) in omega arith
+mul-t13 c = let h = inside c in omega arith
 
 shared-slice-copy-out-t15 : tie.Need-shared-slice-copy-out-t15
-shared-slice-copy-out-t15 c = let h = inside (c .before) in omega arith
+shared-slice-copy-out-t15 c = let h = inside c in omega arith
 
 mul-t16 : tie.Need-mul-t16
-mul-t16 c = let h = inside (c .before .before) in omega arith
+mul-t16 c = let h = inside (c .before) in omega arith
 
 shared-slice-copy-out-t18 : tie.Need-shared-slice-copy-out-t18
-shared-slice-copy-out-t18 c = let h = inside (c .before .before) in omega arith
+shared-slice-copy-out-t18 c = let h = inside (c .before) in omega arith
 
 mul-t19 : tie.Need-mul-t19
-mul-t19 c = let h = inside (c .before .before .before) in omega arith
+mul-t19 c = let h = inside (c .before .before) in omega arith
 
 shared-slice-copy-out-t21 : tie.Need-shared-slice-copy-out-t21
-shared-slice-copy-out-t21 c = let h = inside (c .before .before .before) in omega arith
+shared-slice-copy-out-t21 c = let h = inside (c .before .before) in omega arith
 
-shared-slice-read-t23 : tie.Need-shared-slice-read-t23
-shared-slice-read-t23 c = let h = inside (c .before .before .before .before .before) in omega arith
+mul-t22 : tie.Need-mul-t22
+mul-t22 c = let h = inside (c .before .before .before) in omega arith
+
+shared-slice-copy-out-t24 : tie.Need-shared-slice-copy-out-t24
+shared-slice-copy-out-t24 c = let h = inside (c .before .before .before) in omega arith
+
+shared-slice-read-t26 : tie.Need-shared-slice-read-t26
+shared-slice-read-t26 c = let h = inside (c .before .before .before .before .before) in omega arith
 
 returns-2 : tie.Need-returns-2
 unfolding rowOfRun
 returns-2 c =
     let e = c .before .before .before .before .before in
-    let s = e .before .before .before in
+    let s = entered (e .before) in
     let i = s .args .i in
-    let f1 : SFits w32 (getD (now (s .args .x1)) i (pos 0)) = record { sfits = c .before .before .before .before .t12 .given } in
-    let f2 : SFits w32 (getD (now (s .args .x2)) i (pos 0)) = record { sfits = c .before .before .before .t15 .given } in
-    let f3 : SFits w32 (getD (now (s .args .x3)) i (pos 0)) = record { sfits = c .before .before .t18 .given } in
-    let f4 : SFits w32 (getD (now (s .args .index)) i (pos 0)) = record { sfits = c .before .t21 .given } in
+    let f1 : SFits w32 (getD (now (s .args .x1)) i (pos 0)) = record { sfits = c .before .before .before .before .t15 .given } in
+    let f2 : SFits w32 (getD (now (s .args .x2)) i (pos 0)) = record { sfits = c .before .before .before .t18 .given } in
+    let f3 : SFits w32 (getD (now (s .args .x3)) i (pos 0)) = record { sfits = c .before .before .t21 .given } in
+    let f4 : SFits w32 (getD (now (s .args .index)) i (pos 0)) = record { sfits = c .before .t24 .given } in
     rw (toZ-ofZ f1, toZ-ofZ f2, toZ-ofZ f3, toZ-ofZ f4) (ap (by s) (sym (e .if1 .left) ∙ number-is (e .before)))
 
 pub row-spec : {M : Type 1} → statement M
 row-spec =
     tie.close
     (tie.spec
+    progress-of-requires
     row-refusal-requires
     returns
-    mul-t10
-    shared-slice-copy-out-t12
     mul-t13
     shared-slice-copy-out-t15
     mul-t16
     shared-slice-copy-out-t18
     mul-t19
     shared-slice-copy-out-t21
-    shared-slice-read-t23
+    mul-t22
+    shared-slice-copy-out-t24
+    shared-slice-read-t26
     returns-2)

@@ -3,11 +3,12 @@
 use mathlib.Core.Path.{_≡_}
 use mathlib.Core.Bool.{Bool, true, _&&_}
 use Prim.Native.Nat.{ℕ}
-use native.Mathlib.Omega.{arith}
 use borrow.Author.Needs.{needs}
 use borrow.Author.Tests.{le-leb, lt-leb}
 use lib.Dec.{leb}
+use denote.Ref.{now}
 use Rattle.ranges.specs.Ranges.{constantsFit, calendarFits}
+use Rattle.runs.specs.Progress.{runOf}
 use Rattle.runs.specs.Runs.{soilFits, sizesFit, isRun}
 use Rattle.runs.specs.declared.Run.{Run}
 use Rattle.outline.proofs.Tests.{fails, passes, both}
@@ -33,6 +34,10 @@ module _ (long : ℕ) (r : Run) where
   abbrev past-6 : Bool
   past-6 = past-5 && sizesFit (r .values)
 
+-- the run that is asked about
+abbrev given : tie.Start → Run
+given s = runOf (s .args .at) (now (s .args .constants))
+
 -- from where a test is passed back to the entry
 abbrev at-1 : tie.Else1 → tie.Start
 at-1 c = c .before .before
@@ -41,7 +46,7 @@ abbrev at-2 : tie.Else2 → tie.Start
 at-2 c = at-1 (c .before .before)
 
 abbrev at-3 : tie.Else3 → tie.Start
-at-3 c = at-2 (c .before .before .before .before)
+at-3 c = at-2 (c .before .before .before)
 
 abbrev at-4 : tie.Else4 → tie.Start
 at-4 c = at-3 (c .before .before .before)
@@ -57,33 +62,30 @@ cast-if1 c = search needs
 
 returns : tie.Need-returns
 unfolding isRun
-returns c = let s = c .before .before in rw (lt-leb (s .args .r .months) (s .args .long) (c .if1 .taken))
+returns c = let s = c .before .before in rw (lt-leb (given s .months) (s .args .long) (c .if1 .taken))
 
-months : (c : tie.Else1) → past-1 (at-1 c .args .long) (at-1 c .args .r) ≡ true
+months : (c : tie.Else1) → past-1 (at-1 c .args .long) (given (at-1 c)) ≡ true
 months c = le-leb _ _ (c .if1 .left)
 
 returns-2 : tie.Need-returns-2
 unfolding isRun
 returns-2 c =
     let d = c .before .before in
-    let r = d .before .before .args .r in
+    let r = given (d .before .before) in
     rw (months d, lt-leb (r .opens) (r .months) (c .if2 .taken))
 
-opens : (c : tie.Else2) → past-2 (at-2 c .args .long) (at-2 c .args .r) ≡ true
+opens : (c : tie.Else2) → past-2 (at-2 c .args .long) (given (at-2 c)) ≡ true
 opens c = both (months (c .before .before)) (le-leb _ _ (c .if2 .left))
 
-slice-aggregate-constants-fit : tie.Need-slice-aggregate-constants-fit
-slice-aggregate-constants-fit c = search needs
-
 constants-fit-requires : tie.Need-constants-fit-requires
-constants-fit-requires c κs = let e = slice-aggregate-constants-fit c in omega arith
+constants-fit-requires c κs = search needs
 
 returns-3 : tie.Need-returns-3
 unfolding isRun
-returns-3 c = rw (opens (c .before .before .before .before), fails (c .before .constants-fit .ensures) (c .if3 .taken))
+returns-3 c = rw (opens (c .before .before .before), fails (c .before .constants-fit .ensures) (c .if3 .taken))
 
-constants : (c : tie.Else3) → past-3 (at-3 c .args .long) (at-3 c .args .r) ≡ true
-constants c = both (opens (c .before .before .before .before)) (passes (c .before .constants-fit .ensures) (c .if3 .left))
+constants : (c : tie.Else3) → past-3 (at-3 c .args .long) (given (at-3 c)) ≡ true
+constants c = both (opens (c .before .before .before)) (passes (c .before .constants-fit .ensures) (c .if3 .left))
 
 soil-fits-requires : tie.Need-soil-fits-requires
 soil-fits-requires c κs = search needs
@@ -92,7 +94,7 @@ returns-4 : tie.Need-returns-4
 unfolding isRun
 returns-4 c = rw (constants (c .before .before .before), fails (c .before .soil-fits .ensures) (c .if4 .taken))
 
-soil : (c : tie.Else4) → past-4 (at-4 c .args .long) (at-4 c .args .r) ≡ true
+soil : (c : tie.Else4) → past-4 (at-4 c .args .long) (given (at-4 c)) ≡ true
 soil c = both (constants (c .before .before .before)) (passes (c .before .soil-fits .ensures) (c .if4 .left))
 
 calendar-fits-requires : tie.Need-calendar-fits-requires
@@ -102,7 +104,7 @@ returns-5 : tie.Need-returns-5
 unfolding isRun
 returns-5 c = rw (soil (c .before .before), fails (c .before .calendar-fits .ensures) (c .if5 .taken))
 
-calendar : (c : tie.Else5) → past-5 (at-5 c .args .long) (at-5 c .args .r) ≡ true
+calendar : (c : tie.Else5) → past-5 (at-5 c .args .long) (given (at-5 c)) ≡ true
 calendar c = both (soil (c .before .before)) (passes (c .before .calendar-fits .ensures) (c .if5 .left))
 
 sizes-fit-requires : tie.Need-sizes-fit-requires
@@ -112,7 +114,7 @@ returns-6 : tie.Need-returns-6
 unfolding isRun
 returns-6 c = rw (calendar (c .before .before .before), fails (c .before .sizes-fit .ensures) (c .if6 .taken))
 
-sizes : (c : tie.Else6) → past-6 (at-6 c .args .long) (at-6 c .args .r) ≡ true
+sizes : (c : tie.Else6) → past-6 (at-6 c .args .long) (given (at-6 c)) ≡ true
 sizes c = both (calendar (c .before .before .before)) (passes (c .before .sizes-fit .ensures) (c .if6 .left))
 
 signs-fit-requires : tie.Need-signs-fit-requires
@@ -136,7 +138,6 @@ is-run-spec =
     cast-if1
     returns
     returns-2
-    slice-aggregate-constants-fit
     constants-fit-requires
     returns-3
     soil-fits-requires

@@ -22,7 +22,8 @@ use Rattle.refusals.specs.Good.{Good}
 use Rattle.refusals.specs.Refusals.{runRefusal}
 use Rattle.refusals.proofs.Refused.{run-passes}
 use Rattle.adding.specs.Taken.{result}
-use Rattle.adding.specs.Progress.{runOf, addedOf}
+use Rattle.adding.specs.Progress.{addedOf}
+use Rattle.runs.specs.Progress.{runOf}
 use Rattle.adding.proofs.Readiness.{run-is}
 use Rattle.season_month.specs.Listed.{listed}
 use Rattle.season_month.specs.Single.{numberOf, singleOf}

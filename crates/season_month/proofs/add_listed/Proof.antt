@@ -10,7 +10,7 @@ use Rattle.door.specs.Readings.{reading}
 use Rattle.door.proofs.Bounds.{reading-most}
 use Rattle.runs.specs.declared.Run.{Run}
 use Rattle.refusals.specs.Columns.{Columns, columns, long}
-use Rattle.adding.specs.Progress.{runOf}
+use Rattle.runs.specs.Progress.{runOf}
 use Rattle.refusals.specs.Refusals.{roomRefusal}
 use Rattle.outline.specs.Refusals.{orElse}
 use Rattle.refusals.proofs.Refused.{room-passes}
