@@ -2,14 +2,14 @@
 //
 // C has no enum that carries a value, so a reading comes in as a struct (specs/Given.antt says what it means)
 // and its answer goes out as one. All else is handed on as it came, and so is each promise.
-use adding::Added;
 use door::Answer;
 use door::MonthInches;
 use door::Reading;
+use adding::Added;
 use drought::Shown;
 use runs::Run;
-use season::Season;
 use starts::Started;
+use season::Season;
 ghost use mathlib.Core.Path.{_≡_};
 ghost use Rattle.door.specs.Readings.{reading};
 ghost use Rattle.starts.specs.Start.{startOf};

@@ -5,8 +5,8 @@
 use outline::BAD_LISTS;
 use outline::BAD_Z;
 use outline::FULL;
-use outline::NO_SUCH_ROW;
 use outline::NOT_A_RUN;
+use outline::NO_SUCH_ROW;
 use runs::Run;
 ghost use mathlib.Core.Path.{_≡_};
 ghost use Rattle.refusals.specs.Columns.{columns, lengthsFit};
@@ -84,7 +84,14 @@ pub fn row_refusal(
 }
 
 // 1 and 7, which every call on a run asks first.
-pub fn run_refusal(run: Run, x1: &[i32], x2: &[i32], x3: &[i32], index: &[i32], mark: &[u8]) -> u8
+pub fn run_refusal(
+    run: Run,
+    x1: &[i32],
+    x2: &[i32],
+    x3: &[i32],
+    index: &[i32],
+    mark: &[u8],
+) -> u8
     ensures { λ k. ⌜ k ≡ runRefusal run (columns (now (x1 .entry)) (now (x2 .entry)) (now (x3 .entry)) (now (index .entry)) (now (mark .entry))) ⌝ }
 {
     let n = x1.len();

@@ -131,3 +131,4 @@ fn joined_by(s: SoFar, m: MonthAdded) -> SoFar
         progress,
     }
 }
+
