@@ -3,8 +3,6 @@
 // only which line was refused and why. `division_input` reads, `layout` judges a line, `rows` lays out; here bytes are only
 // moved, and a refusal is put in words.
 use division_session::ROOM;
-use division_session::ROOM;
-use division_session::Session;
 use division_session::Session;
 use fields::Digits;
 use fields::FIRST_VALUE;
