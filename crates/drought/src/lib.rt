@@ -131,8 +131,7 @@ pub fn add_z(
     ensures { λ a. ⌜ result a (columns (now (x1 .exit)) (now (x2 .exit)) (now (x3 .exit)) (now (index .exit)) (now (mark .exit))) ≡ addZ run z (columns (now (x1 .entry)) (now (x2 .entry)) (now (x3 .entry)) (now (index .entry)) (now (mark .entry))) ⌝ }
 {
     let at = runs::progress_of(run);
-    let constants = run.constants;
-    let number = refusals::z_refusal(at, &constants, z, x1, x2, x3, index, mark);
+    let number = refusals::z_refusal(at, &run.constants, z, x1, x2, x3, index, mark);
     if number != 0 {
         return adding::refuse(number, run);
     }
@@ -155,8 +154,7 @@ pub fn row(
     ensures { λ r. ⌜ r ≡ rowOfRun run i (columns (now (x1 .entry)) (now (x2 .entry)) (now (x3 .entry)) (now (index .entry)) (now (mark .entry))) ⌝ }
 {
     let at = runs::progress_of(run);
-    let constants = run.constants;
-    let number = refusals::row_refusal(at, &constants, i, x1, x2, x3, index, mark);
+    let number = refusals::row_refusal(at, &run.constants, i, x1, x2, x3, index, mark);
     if number != 0 {
         return Shown {
             number,

@@ -73,7 +73,10 @@ pub fn length_fits(n: usize) -> bool
 pub fn z_fits(z: i32) -> bool
     ensures { λ r. ⌜ r ≡ zFits z ⌝ }
 {
-    within(z as i64, MOST_Z as i64)
+    if z < 0 - MOST_Z {
+        return false;
+    }
+    z <= MOST_Z
 }
 
 pub fn calendar_fits(month: u32) -> bool
