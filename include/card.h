@@ -67,11 +67,11 @@
  *
  *     card_read               8
  *     card_start            296
- *     card_add_water       2504
- *     card_add_inches      2488
- *     card_add_z           1480
- *     card_add_season      1944
- *     card_row              392
+ *     card_add_water       2392
+ *     card_add_inches      2376
+ *     card_add_z           1528
+ *     card_add_season      2024
+ *     card_row              520
  *     card_whole_series   41080
  *
  * It is counted from the return address, which is included, down to the lowest word of 8 bytes that was
