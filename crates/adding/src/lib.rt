@@ -238,13 +238,13 @@ fn figures_of(water: WaterFigures, z: i32, s: SpellMonth, mark: u8) -> Figures
 
 // ---- the answer
 
-// A month added to the run given.
-pub fn added_of(t: MonthAdded, run: Run) -> Added
-    ensures { λ a. ⌜ a ≡ addedOf t (run .constants) ⌝ }
+// A month added to a run with these constants.
+pub fn added_of(t: MonthAdded, constants: [i32; MANY_CONSTANTS]) -> Added
+    ensures { λ a. ⌜ a ≡ addedOf t constants ⌝ }
 {
     let figures = t.figures;
     let progress = t.progress;
-    let next = runs::run_of(progress, run);
+    let next = runs::run_of(progress, constants);
     Added {
         number: 0,
         settled: t.settled,

@@ -112,10 +112,10 @@ fn add_answers(
         mark,
     );
     if number != 0 {
-        return adding::refuse(number, run);
+        return adding::refuse(number, runs::run_of(at, constants));
     }
     let t = adding::add_measured(at, &constants, measured, potential, x1, x2, x3, index, mark);
-    adding::added_of(t, run)
+    adding::added_of(t, constants)
 }
 
 // Adds a Z: the storages stay, the calendar moves on. 1, 7, 12, 10.
@@ -131,14 +131,15 @@ pub fn add_z(
     ensures { λ a. ⌜ result a (columns (now (x1 .exit)) (now (x2 .exit)) (now (x3 .exit)) (now (index .exit)) (now (mark .exit))) ≡ addZ run z (columns (now (x1 .entry)) (now (x2 .entry)) (now (x3 .entry)) (now (index .entry)) (now (mark .entry))) ⌝ }
 {
     let at = runs::progress_of(run);
-    let number = refusals::z_refusal(at, &run.constants, z, x1, x2, x3, index, mark);
+    let constants = run.constants;
+    let number = refusals::z_refusal(at, &constants, z, x1, x2, x3, index, mark);
     if number != 0 {
-        return adding::refuse(number, run);
+        return adding::refuse(number, runs::run_of(at, constants));
     }
-    let soil = run.soil;
+    let soil = at.soil;
     let water = adding::no_water();
     let t = adding::add_month(at, soil, water, z, x1, x2, x3, index, mark);
-    adding::added_of(t, run)
+    adding::added_of(t, constants)
 }
 
 // Shows a month's row, from 0 on: 1, 7, 11.

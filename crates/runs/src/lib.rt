@@ -51,13 +51,12 @@ pub fn progress_of(run: Run) -> Progress
     }
 }
 
-// The run that stands so, with the constants of the run given.
-pub fn run_of(s: Progress, run: Run) -> Run
-    ensures { λ r. ⌜ r ≡ runOf s (run .constants) ⌝ }
+// The run that stands so, with these constants.
+pub fn run_of(s: Progress, constants: [i32; MANY_CONSTANTS]) -> Run
+    ensures { λ r. ⌜ r ≡ runOf s constants ⌝ }
 {
     let soil = s.soil;
     let values = s.values;
-    let constants = run.constants;
     Run {
         months: s.months,
         opens: s.opens,

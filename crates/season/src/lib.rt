@@ -108,7 +108,8 @@ fn season_of(s: SoFar, number: u8, run: Run) -> Season
 {
     let figures = s.figures;
     let progress = s.progress;
-    let last = runs::run_of(progress, run);
+    let constants = run.constants;
+    let last = runs::run_of(progress, constants);
     Season {
         number,
         added: s.added,

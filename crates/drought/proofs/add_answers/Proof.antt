@@ -11,7 +11,7 @@ use Rattle.refusals.specs.Columns.{Columns, columns, long}
 use Rattle.refusals.specs.Good.{Good}
 use Rattle.refusals.specs.Refusals.{waterRefusal}
 use Rattle.refusals.proofs.Refused.{water-passes}
-use Rattle.adding.specs.Taken.{takenWater}
+use Rattle.adding.specs.Taken.{refusal, takenWater}
 use Rattle.adding.proofs.Readiness.{ready, watered}
 use Rattle.adding.proofs.Answered.{refuses, accepts}
 use Rattle.drought.specs.Calls.{addOutcomes}
@@ -81,12 +81,19 @@ same-length-4 c = search needs
 same-length-5 : tie.Need-same-length-5
 same-length-5 c = search needs
 
+run-of-requires : tie.Need-run-of-requires
+run-of-requires c κs = search needs
+
+-- the run that is handed back is the run given
+back : (o : tie.After-run-of) → let s = entered (o .before .before) in o .run-of .result ≡ s .args .run
+back o = let d = o .before .before in o .run-of .ensures ∙ ap (λ (p : Progress). runOf p (entered d .args .run .constants)) (apart d .progress-of .ensures)
+
 returns : tie.Need-returns
 unfolding addOutcomes
 returns c =
-    let d = c .before .before in
+    let d = c .before .before .before in
     let s = entered d in
-    refuses (d .water-refusal .result) (asked s) (s .args .run) (lent s) (takenWater (s .args .run) (outcome (s .args .p) .water) (outcome (s .args .pe) .water) (lent s)) (number-is d) (c .refuse .result) (c .before .if1 .taken) (c .refuse .ensures)
+    refuses (d .water-refusal .result) (asked s) (s .args .run) (lent s) (takenWater (s .args .run) (outcome (s .args .p) .water) (outcome (s .args .pe) .water) (lent s)) (number-is d) (c .refuse .result) (c .before .before .if1 .taken) (c .refuse .ensures ∙ ap (refusal (d .water-refusal .result)) (back (c .before)))
 
 below : {a b : ℕ} → a ≡ b → b ≤ mostReading → a ≤ mostReading
 below e h = rw e h
@@ -144,6 +151,7 @@ add-answers-spec =
     water-requires
     water-requires-2
     water-refusal-requires
+    run-of-requires
     refuse-requires
     same-length
     same-length-2

@@ -13,7 +13,7 @@ use Rattle.refusals.specs.Good.{Good}
 use Rattle.refusals.specs.Refusals.{zRefusal}
 use Rattle.refusals.proofs.Refused.{z-passes}
 use Rattle.adding.specs.Figures.{noWater}
-use Rattle.adding.specs.Taken.{taken, takenZ}
+use Rattle.adding.specs.Taken.{refusal, taken, takenZ}
 use Rattle.adding.proofs.Readiness.{ready}
 use Rattle.adding.proofs.Answered.{refuses, accepts}
 use Rattle.drought.specs.Calls.{addZ}
@@ -37,17 +37,17 @@ abbrev apart : tie.After-z-refusal → tie.After-progress-of
 apart c = c .before .before .before .before .before .before .before .before
 
 -- its number is the definition's
-number-is : (c : tie.After-z-refusal) → c .z-refusal .result ≡ zRefusal (entered c .args .t1) (entered c .args .z) (lent (entered c))
+number-is : (c : tie.After-z-refusal) → c .z-refusal .result ≡ zRefusal (entered c .args .run) (entered c .args .z) (lent (entered c))
 number-is c =
     let s = entered c in
     let f = s .fits .z in
     rw (toZ-ofZ f) at (c .z-refusal .ensures)
-    ∙ ap (λ (p : Progress). zRefusal (runOf p (s .args .t1 .constants)) (s .args .z) (lent s)) (apart c .progress-of .ensures)
+    ∙ ap (λ (p : Progress). zRefusal (runOf p (s .args .run .constants)) (s .args .z) (lent s)) (apart c .progress-of .ensures)
 
 passes : (c : tie.Else1)
     → let s = entered (c .before) in
-    Good (s .args .t1) (lent s) × (s .args .t1 .months < long (lent s)) × (natAbs (s .args .z) ≤ mostZ)
-passes c = let s = entered (c .before) in z-passes (s .args .t1) (lent s) (s .args .z) (sym (number-is (c .before)) ∙ c .if1 .left)
+    Good (s .args .run) (lent s) × (s .args .run .months < long (lent s)) × (natAbs (s .args .z) ≤ mostZ)
+passes c = let s = entered (c .before) in z-passes (s .args .run) (lent s) (s .args .z) (sym (number-is (c .before)) ∙ c .if1 .left)
 
 same-length : tie.Need-same-length
 same-length c = search needs
@@ -64,12 +64,19 @@ same-length-4 c = search needs
 same-length-5 : tie.Need-same-length-5
 same-length-5 c = search needs
 
+run-of-requires : tie.Need-run-of-requires
+run-of-requires c κs = search needs
+
+-- the run that is handed back is the run given
+back : (o : tie.After-run-of) → let s = entered (o .before .before) in o .run-of .result ≡ s .args .run
+back o = let d = o .before .before in o .run-of .ensures ∙ ap (λ (p : Progress). runOf p (entered d .args .run .constants)) (apart d .progress-of .ensures)
+
 returns : tie.Need-returns
 unfolding addZ
 returns c =
-    let d = c .before .before in
+    let d = c .before .before .before in
     let s = entered d in
-    refuses (d .z-refusal .result) _ (s .args .t1) (lent s) (takenZ (s .args .t1) (s .args .z) (lent s)) (number-is d) (c .refuse .result) (c .before .if1 .taken) (c .refuse .ensures)
+    refuses (d .z-refusal .result) _ (s .args .run) (lent s) (takenZ (s .args .run) (s .args .z) (lent s)) (number-is d) (c .refuse .result) (c .before .before .if1 .taken) (c .refuse .ensures ∙ ap (refusal (d .z-refusal .result)) (back (c .before)))
 
 no-water-requires : tie.Need-no-water-requires
 no-water-requires c κs = search needs
@@ -85,7 +92,7 @@ add-month-requires c κs =
     let s = entered (e .before) in
     let f = s .fits .z in
     let p = passes e in
-    (rw (o .progress-of .ensures) (ready (s .args .t1) (lent s) (p .0) (p .1)), simp toZ-ofZ (p .2))
+    (rw (o .progress-of .ensures) (ready (s .args .run) (lent s) (p .0) (p .1)), simp toZ-ofZ (p .2))
 
 added-of-requires : tie.Need-added-of-requires
 added-of-requires c κs = search needs
@@ -114,9 +121,9 @@ returns-2 c =
     let o = apart (e .before) in
     let s = entered (e .before) in
     let f = s .fits .z in
-    accepts (e .before .z-refusal .result) _ (s .args .t1) (lent s) (takenZ (s .args .t1) (s .args .z) (lent s)) (number-is (e .before)) _ (e .if1 .left)
-    (rw (c .added-of .ensures) (rw (w .no-water .ensures, toZ-ofZ f) at (t .add-month .ensures (s .args .t1 .constants)))
-    ∙ ap (λ (p : Progress). taken (runOf p (s .args .t1 .constants)) (s .args .t1 .soil) noWater (s .args .z) (lent s)) (o .progress-of .ensures))
+    accepts (e .before .z-refusal .result) _ (s .args .run) (lent s) (takenZ (s .args .run) (s .args .z) (lent s)) (number-is (e .before)) _ (e .if1 .left)
+    (rw (c .added-of .ensures) (rw (w .no-water .ensures, toZ-ofZ f) at (t .add-month .ensures (s .args .run .constants)))
+    ∙ ap (λ (p : Progress). taken (runOf p (s .args .run .constants)) (p .soil) noWater (s .args .z) (lent s)) (o .progress-of .ensures))
 
 pub add-z-spec : {M : Type 1} → statement M
 add-z-spec =
@@ -124,6 +131,7 @@ add-z-spec =
     (tie.spec
     progress-of-requires
     z-refusal-requires
+    run-of-requires
     refuse-requires
     same-length
     same-length-2
