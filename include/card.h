@@ -67,9 +67,9 @@
  *
  *     card_read               8
  *     card_start            296
- *     card_add_water       2392
- *     card_add_inches      2376
- *     card_add_z           1528
+ *     card_add_water       2136
+ *     card_add_inches      2120
+ *     card_add_z           1480
  *     card_add_season      2024
  *     card_row              520
  *     card_whole_series   41080

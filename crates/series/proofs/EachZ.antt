@@ -1,6 +1,6 @@
 -- The test of a list of Z: it holds exactly when every Z of the list is in its range. A scan that has passed only such Z has it from those
 -- that are left. Assumes nothing.
-use mathlib.Core.Path.{_≡_, refl, sym, _∙_}
+use mathlib.Core.Path.{_≡_, refl, sym, ap, _∙_}
 use mathlib.Core.Bool.{Bool, true, false, _&&_}
 use mathlib.Core.Logic.{_↔_}
 use mathlib.Core.List.{List, [], _∷_}
@@ -16,18 +16,11 @@ use Rattle.series.specs.Series.{allZFit}
 
 -- ---- the scan
 
--- at a Z that is left, the test is its own, and that of the later ones
-scan-at : (z : List ℤ) (i : ℕ) (t : Bool) → i < length z → allZFit z ≡ allZFit (drop i z) → t ≡ zFits (getD z i (pos 0))
-    → allZFit z ≡ (t && allZFit (drop (suc i) z))
-scan-at z i t l e f = rw (e, drop-cons z i (pos 0) l, f) refl
-
-pub scan-out : (z : List ℤ) (i : ℕ) (t : Bool) → i < length z → allZFit z ≡ allZFit (drop i z) → t ≡ zFits (getD z i (pos 0)) → t ≡ false
-    → false ≡ allZFit z
-scan-out z i t l e f g = sym (scan-at z i t l e f ∙ rw g refl)
-
-pub scan-next : (z : List ℤ) (i : ℕ) (t : Bool) → i < length z → allZFit z ≡ allZFit (drop i z) → t ≡ zFits (getD z i (pos 0)) → t ≡ true
-    → allZFit z ≡ allZFit (drop (i + 1) z)
-scan-next z i t l e f g = scan-at z i t l e f ∙ rw (g, add-one) refl
+-- with one Z more looked at: what has come out so far and the test of those that are left
+pub scan-next : (z : List ℤ) (i : ℕ) (fit t : Bool) → i < length z → t ≡ zFits (getD z i (pos 0)) → (fit && allZFit (drop i z)) ≡ allZFit z
+    → ((fit && t) && allZFit (drop (i + 1) z)) ≡ allZFit z
+scan-next z i true t l f h = rw (f, add-one) (sym (ap allZFit (drop-cons z i (pos 0) l)) ∙ h)
+scan-next z i false t l f h = h
 
 drop-out : (z : List ℤ) (i : ℕ) → length z ≤ i → drop i z ≡ []
 drop-out [] zero h = refl
@@ -35,8 +28,9 @@ drop-out [] (suc i) h = refl
 drop-out (x ∷ z) zero h = absurd (omega arith)
 drop-out (x ∷ z) (suc i) h = drop-out z i (omega arith)
 
-pub scan-all : (z : List ℤ) (i : ℕ) → length z ≤ i → allZFit z ≡ allZFit (drop i z) → true ≡ allZFit z
-scan-all z i h e = sym (e ∙ rw (drop-out z i h) refl)
+pub scan-all : (z : List ℤ) (i : ℕ) (fit : Bool) → length z ≤ i → (fit && allZFit (drop i z)) ≡ allZFit z → fit ≡ allZFit z
+scan-all z i true l h = ap allZFit (sym (drop-out z i l)) ∙ h
+scan-all z i false l h = h
 
 -- ---- each Z
 

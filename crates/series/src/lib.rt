@@ -15,15 +15,14 @@ ghost use Rattle.series.specs.Series.{allZFit, listsFit, seriesRefusal, 
 fn all_z_fit(z: &[i32]) -> bool
     ensures { λ r. ⌜ r ≡ allZFit (now (z .entry)) ⌝ }
 {
+    let mut fit = true;
     let mut i = 0;
     while i < z.len() {
         let t = z[i];
-        if !ranges::z_fits(t) {
-            return false;
-        }
+        fit = fit & ranges::z_fits(t);
         i += 1;
     }
-    true
+    fit
 }
 
 fn lists_fit(z: usize, index: usize, mark: usize) -> bool

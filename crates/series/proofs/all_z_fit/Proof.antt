@@ -1,9 +1,9 @@
--- `series::all_z_fit`: the Z passed are in range, so that the test is that of the Z left. Assumes nothing.
+-- `series::all_z_fit`: what has come out so far, and the test of the Z left, are the test of all. Assumes nothing.
 use mathlib.Core.Path.{_≡_, refl}
+use mathlib.Core.Bool.{_&&_}
 use Prim.Native.Nat.{_-_, _≤_}
 use native.Mathlib.Omega.{arith}
 use borrow.Author.Needs.{needs}
-use borrow.Author.Tests.{not-true, not-false}
 use lib.IntN.{pos}
 use lib.ListN.{length, getD, drop}
 use denote.Ref.{now}
@@ -11,15 +11,15 @@ use mir.Syntax.{w32}
 use mir.Val.{SFits}
 use mir.Facts.{toZ-ofZ}
 use Rattle.series.specs.Series.{allZFit}
-use Rattle.series.proofs.EachZ.{scan-out, scan-next, scan-all}
+use Rattle.series.proofs.EachZ.{scan-next, scan-all}
 use Rattle.series.proofs.all_z_fit.Statement.{statement}
 use Rattle.series.proofs.all_z_fit.Tie as tie
 
 abbrev Inv-loop : tie.InvT-loop
-Inv-loop z i₀ i = (i ≤ length z) × (allZFit z ≡ allZFit (drop i z))
+Inv-loop z fit₀ i₀ fit i = (i ≤ length z) × ((fit && allZFit (drop i z)) ≡ allZFit z)
 
 abbrev μ-loop : tie.MeasureT-loop
-μ-loop z i₀ i = length z - i
+μ-loop z fit₀ i₀ fit i = length z - i
 
 loop-holds : tie.Need-loop-holds Inv-loop μ-loop
 loop-holds c = (omega arith, refl)
@@ -33,13 +33,6 @@ shared-slice-copy-out-t c = omega arith
 z-fits-requires : tie.Need-z-fits-requires Inv-loop μ-loop
 z-fits-requires c κs = search needs
 
-returns : tie.Need-returns Inv-loop μ-loop
-returns c =
-    let lp = c .before .before .before .before in
-    let s = lp .before in
-    let zt : SFits w32 (getD (now (s .args .z)) (lp .loop .i) (pos 0)) = record { sfits = c .before .before .t .given } in
-    scan-out (now (s .args .z)) (lp .loop .i) (c .before .z-fits .result) (omega arith) (lp .loop .inv .1) (rw (toZ-ofZ zt) at (c .before .z-fits .ensures)) (not-true _ (c .if1 .taken))
-
 add-i : tie.Need-add-i Inv-loop μ-loop
 add-i c = omega arith
 
@@ -48,26 +41,13 @@ loop-less c = omega arith
 
 loop-again : tie.Need-loop-again Inv-loop μ-loop
 loop-again c =
-    let lp = c .before .before .before .before in
+    let lp = c .before .before .before in
     let s = lp .before in
-    let zt : SFits w32 (getD (now (s .args .z)) (lp .loop .i) (pos 0)) = record { sfits = c .before .before .t .given } in
-    (omega arith, scan-next (now (s .args .z)) (lp .loop .i) (c .before .z-fits .result) (omega arith) (lp .loop .inv .1) (rw (toZ-ofZ zt) at (c .before .z-fits .ensures)) (not-false _ (c .if1 .left)))
+    let zt : SFits w32 (getD (now (s .args .z)) (lp .loop .i) (pos 0)) = record { sfits = c .before .t .given } in
+    (omega arith, scan-next (now (s .args .z)) (lp .loop .i) (lp .loop .fit) (c .z-fits .result) (omega arith) (rw (toZ-ofZ zt) at (c .z-fits .ensures)) (lp .loop .inv .1))
 
-returns-2 : tie.Need-returns-2 Inv-loop μ-loop
-returns-2 c = scan-all (now (c .before .before .args .z)) (c .before .loop .i) (omega arith) (c .before .loop .inv .1)
+returns : tie.Need-returns Inv-loop μ-loop
+returns c = scan-all (now (c .before .before .args .z)) (c .before .loop .i) (c .before .loop .fit) (omega arith) (c .before .loop .inv .1)
 
 pub all-z-fit-spec : {M : Type 1} → statement M
-all-z-fit-spec =
-    tie.close
-    (tie.spec
-    Inv-loop
-    μ-loop
-    loop-holds
-    mul-t
-    shared-slice-copy-out-t
-    z-fits-requires
-    returns
-    add-i
-    loop-less
-    loop-again
-    returns-2)
+all-z-fit-spec = tie.close (tie.spec Inv-loop μ-loop loop-holds mul-t shared-slice-copy-out-t z-fits-requires add-i loop-less loop-again returns)
