@@ -519,14 +519,16 @@ def redirected(words, data, change):
 
 
 def unread(words, data, some):
-    """What is printed into a pipe of which nobody reads more than so many bytes."""
-    with subprocess.Popen(words, stdin=subprocess.PIPE, stdout=subprocess.PIPE, stderr=subprocess.PIPE) as program:
-        if not some:
-            program.stdout.close()
+    """What is printed into a pipe of which nobody reads more than so many bytes: none, and it is closed before the program begins."""
+    end, into = os.pipe()
+    if not some:
+        os.close(end)
+    with subprocess.Popen(words, stdin=subprocess.PIPE, stdout=into, stderr=subprocess.PIPE) as program:
+        os.close(into)
         running.given(program.stdin, data, 1)
         if some:
-            program.stdout.read(some)
-            program.stdout.close()
+            os.read(end, some)
+            os.close(end)
         err = program.stderr.read()
         return b'', err, program.wait()
 
