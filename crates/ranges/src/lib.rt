@@ -24,7 +24,7 @@ const MOST_GAMMA: u32 = 50_000;
 const MOST_K: u32 = 100_000;
 
 // The capacity's ends.
-pub const LEAST_CAPACITY: u32 = 1_000;
+pub const LEAST_CAPACITY: u32 = 100;
 
 pub const MOST_CAPACITY: u32 = 30_000;
 

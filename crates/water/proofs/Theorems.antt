@@ -18,7 +18,7 @@ use Rattle.water.specs.declared.Soil.{Soil}
 use Rattle.water.specs.declared.Constants.{Constants}
 use Rattle.water.specs.declared.Month.{Month}
 use Rattle.water.proofs.LayerLaws.{soil-sum}
-use Rattle.water.proofs.WaterLaws.{kept, within-potential, potential-shares, potential-loss, potentials-fit}
+use Rattle.water.proofs.WaterLaws.{kept, emptied, filled, within-potential, potential-shares, potential-loss, potentials-fit}
 use Rattle.water.proofs.Sizes.{n-between, n-most, cafec-most, cafec-least, short-by-ends, z-most}
 
 module _ (s : Soil) (p pe : ℕ) (f : SoilFits s) where
@@ -63,6 +63,15 @@ module _ (s : Soil) (p pe : ℕ) (f : SoilFits s) where
   -- a month recharges at most "PR", and loses at most "PL"
   pub within-potentials : (balanceOf s p pe .r ≤ potentialsOf s pe .pr) × (balanceOf s p pe .ls + balanceOf s p pe .lu ≤ potentialsOf s pe .pl)
   within-potentials = within-potential s p pe f
+
+  -- Appendix B of source 000, of a soil of 0.10 inch: "One dry day or one completely dry year will produce the same result, viz, no water in
+  -- storage." So it is of any soil whose underlying layer is empty, as a thin one's always is, where PE passes P by the capacity
+  pub dry-empties : s .underlying ≡ 0 → p + s .capacity ≤ pe → (balanceOf s p pe .surface ≡ 0) × (balanceOf s p pe .underlying ≡ 0)
+  dry-empties u h = emptied s p pe f u h
+
+  -- "Likewise, a wet day or a wet year will produce full storage." So it is of any soil, where P passes PE by the capacity
+  pub wet-fills : pe + s .capacity ≤ p → (balanceOf s p pe .surface ≡ surfaceHolds (s .capacity)) × (balanceOf s p pe .underlying ≡ underlyingHolds (s .capacity))
+  wet-fills h = filled s p pe f h
 
 -- the same of the month, whole
 module _ (s : Soil) (p pe : ℕ) (k : Constants) (f : SoilFits s) where

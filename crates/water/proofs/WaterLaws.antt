@@ -88,7 +88,7 @@ unfolding wetMonth
 other-kept s p pe f h =
     let u = to-surface s p pe f h in
     let v = to-underlying s p pe f h in
-    let l = layers-sum (s .capacity) (f .least) in
+    let l = layers-sum (s .capacity) in
     record {
       water = omega arith;
       surface = omega arith;
@@ -103,6 +103,25 @@ other-kept s p pe f h =
 
 pub kept : (s : Soil) (p pe : ℕ) → SoilFits s → Kept s p pe (balanceOf s p pe)
 kept s p pe f = by-month (Kept s p pe) s p pe (dry-kept s p pe f) (other-kept s p pe f)
+
+-- ---- a month as dry, or as wet, as the soil is deep
+abbrev pub Ends : ℕ → ℕ → Balance → Type 0
+Ends surface underlying b = (b .surface ≡ surface) × (b .underlying ≡ underlying)
+
+-- it takes all that the surface layer has, where the underlying one has nothing
+pub emptied : (s : Soil) (p pe : ℕ) → SoilFits s → s .underlying ≡ 0 → p + s .capacity ≤ pe → Ends 0 0 (balanceOf s p pe)
+unfolding dryMonth lossSurface
+emptied s p pe f u h =
+    let l = soil-sum s f in
+    let c = soil-some s f in
+    by-month (Ends 0 0) s p pe (λ g. omega arith) (λ g. absurd (omega arith))
+
+-- it fills both layers, whatever they had
+pub filled : (s : Soil) (p pe : ℕ) → SoilFits s → pe + s .capacity ≤ p → Ends (surfaceHolds (s .capacity)) (underlyingHolds (s .capacity)) (balanceOf s p pe)
+unfolding wetMonth toSurface toUnderlying
+filled s p pe f h =
+    let l = layers-sum (s .capacity) in
+    by-month (Ends (surfaceHolds (s .capacity)) (underlyingHolds (s .capacity))) s p pe (λ g. absurd (omega arith)) (λ g. omega arith)
 
 -- ---- the potentials
 pub potential-shares : (s : Soil) (pe : ℕ) → SoilFits s → potentialsOf s pe .pr + potentialsOf s pe .pro ≡ s .capacity
@@ -139,7 +158,7 @@ unfolding wetMonth potentialsOf
 other-potential s p pe f h =
     let u = to-surface s p pe f h in
     let v = to-underlying s p pe f h in
-    let l = layers-sum (s .capacity) (f .least) in
+    let l = layers-sum (s .capacity) in
     (omega arith, omega arith)
 
 pub within-potential : (s : Soil) (p pe : ℕ) → SoilFits s → Potential s pe (balanceOf s p pe)

@@ -1,20 +1,20 @@
--- Document 01, "Quantities": the capacity and the two layers. Every other file and proof goes by these names and the laws of
--- proofs/LayerLaws.antt, so that other layer sizes are a change of this file alone. Assumes nothing.
-use Prim.Native.Nat.{ℕ, _-_, _≤_}
+-- Document 01, "Quantities", as document 02, E5, has it since: the capacity and the two layers. Every other file and proof goes by these
+-- names and the laws of proofs/LayerLaws.antt, so that other layer sizes are a change of this file alone. Assumes nothing.
+use Prim.Native.Nat.{ℕ, _-_, _≤_, min}
 use Rattle.water.specs.declared.Soil.{Soil}
 
--- "Capacity C: 1,000 to 30,000."
+-- "C may be 100 to 30,000."
 abbrev pub leastCapacity : ℕ
-leastCapacity = 1000
+leastCapacity = 100
 
 abbrev pub mostCapacity : ℕ
 mostCapacity = 30000
 
--- "The surface layer holds 1,000,
+-- "the surface layer holds the smaller of 1,000 and C,
 unfoldable pub surfaceHolds : ℕ → ℕ
-surfaceHolds c = 1000
+surfaceHolds c = min 1000 c
 
--- the underlying layer C - 1,000."
+-- the underlying layer the rest, possibly nothing"
 unfoldable pub underlyingHolds : ℕ → ℕ
 underlyingHolds c = c - surfaceHolds c
 

@@ -1,8 +1,9 @@
--- Document 01, "Worked months": W1 to W4, one row for each figure that they name. "C is 6,000 throughout."
--- The crate `demands` joins them with the spells' rows to one table, and its one claim is that every row agrees. Assumes nothing.
+-- Document 01, "Worked months": W1 to W4, one row for each figure that they name. "C is 6,000 throughout." Beside them two months of a
+-- thin soil (document 02, E5), every figure of each. The crate `demands` joins them with the spells' rows to one table, and its one claim
+-- is that every row agrees. Assumes nothing.
 use Prim.Native.Nat.{ℕ}
-use mathlib.Core.List.{List, [], _∷_}
-use lib.IntN.{pos, negℤ}
+use mathlib.Core.List.{List, [], _∷_, _++_}
+use lib.IntN.{ℤ, pos, negℤ}
 use Rattle.exact.specs.Worked.{Row, _gives_}
 use Rattle.water.specs.Balance.{balanceOf}
 use Rattle.water.specs.Expected.{potentialsOf, nOf, monthOf}
@@ -33,6 +34,43 @@ w3 pe = balanceOf (holding 0 1) 0 pe
 -- "W4 1,000, 5,000, P 0, PE 100,000"
 abbrev pub w4 : Balance
 w4 = balanceOf (holding 1000 5000) 0 100000
+
+-- a soil of 100 that holds ss: all surface layer
+abbrev pub thin : ℕ → Soil
+thin ss = record { capacity = 100; surface = ss; underlying = 0 }
+
+-- it dries: Ss 100, P 30, PE 80, with W1's constants
+abbrev pub thinDry : Month
+thinDry = monthOf (thin 100) 30 80 of1
+
+-- it overflows: Ss 50, P 200, PE 20, with the same
+abbrev pub thinWet : Month
+thinWet = monthOf (thin 50) 200 20 of1
+
+-- the twelve figures of a month
+abbrev figures : Month → ℕ → ℕ → ℕ → ℕ → ℕ → ℕ → ℕ → ℕ → ℤ → ℤ → ℕ → ℕ → List Row
+figures m ls lu et r ro pr pro pl cafec z surface underlying =
+    (pos (m .ls) gives pos ls)
+    ∷ (pos (m .lu) gives pos lu)
+    ∷ (pos (m .et) gives pos et)
+    ∷ (pos (m .r) gives pos r)
+    ∷ (pos (m .ro) gives pos ro)
+    ∷ (pos (m .pr) gives pos pr)
+    ∷ (pos (m .pro) gives pos pro)
+    ∷ (pos (m .pl) gives pos pl)
+    ∷ (m .cafec gives cafec)
+    ∷ (m .z gives z)
+    ∷ (pos (m .surface) gives pos surface)
+    ∷ (pos (m .underlying) gives pos underlying)
+    ∷ []
+
+-- worked out by hand, from the documents' words. It dries: Ls 50, ET 80, PRO 100, PL 80; N = 640,000 + 0 + 50,000 - 160,000 is 530,000, so
+-- CAFEC 53, and Z is -34.5, a half, away from zero; end 50. It overflows: ET 20, R 50, RO 130, PR 50, PRO 50, PL 20; N = 160,000 + 50,000 +
+-- 25,000 - 40,000 is 195,000, so CAFEC 19.5, a half; Z 270.75; end 100
+abbrev pub thinTable : List Row
+thinTable =
+    figures thinDry 50 0 80 0 0 0 100 80 (pos 53) (negℤ (pos 35)) 50 0
+    ++ figures thinWet 0 0 20 50 130 50 50 20 (pos 20) (pos 271) 100 0
 
 abbrev pub waterTable : List Row
 waterTable =

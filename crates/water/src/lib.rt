@@ -18,6 +18,9 @@ const ONE: i64 = 10_000;
 // One, in the ten-thousandths of K times the ten-thousandths of another constant.
 const Z_DIVISOR: i64 = 100_000_000;
 
+// What the surface layer holds when it is full, in a soil that has as much: one inch.
+const SURFACE: u32 = 1_000;
+
 // The soil: its capacity, and what each layer holds.
 #[repr(C)]
 pub struct Soil {
@@ -81,22 +84,21 @@ fn smaller(a: u32, b: u32) -> u32
     if a < b { a } else { b }
 }
 
-// What the surface layer holds when it is full.
+// What the surface layer holds when it is full: all of a thin soil.
 pub fn surface_holds(capacity: u32) -> u32
     ensures { λ r. ⌜ r ≡ surfaceHolds capacity ⌝ }
 {
-    1_000
+    smaller(SURFACE, capacity)
 }
 
-// What the underlying layer holds when it is full.
+// What the underlying layer holds when it is full: the rest, and nothing in a thin soil.
 pub fn underlying_holds(capacity: u32) -> u32
     ensures { λ r. ⌜ r ≡ underlyingHolds capacity ⌝ }
 {
-    let surface = surface_holds(capacity);
-    if capacity < surface {
+    if capacity < SURFACE {
         0
     } else {
-        capacity - surface
+        capacity - SURFACE
     }
 }
 
