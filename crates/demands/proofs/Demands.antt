@@ -5,11 +5,13 @@ use Prim.Native.Nat.{ℕ}
 use lib.IntN.{ℤ}
 use lib.ListN.{length}
 use Rattle.starts.specs.Start.{startRefusal}
+use Rattle.starts.proofs.Theorems.{soil-starts}
 use Rattle.series.specs.Series.{seriesRefusal, wholeSeries}
 use Rattle.series.proofs.SeriesLaws.{number-of, refused-writes-nothing}
 use Rattle.refusals.specs.Columns.{Columns}
 use Rattle.demands.specs.Demands.{Demand1, Demand2, Demand3}
 use Rattle.demands.proofs.Shown.{refused-add, refused-start, figures-are, layers-hold, water-balances, inches-balance, settled-is-hindsight, open-exactly-when, settled-stays-settled, values-never-change, open-are-last, opens-are-counted, settled-are-counted}
+use Rattle.demands.proofs.Soils.{z-given, soil-started, soil-always}
 use Rattle.demands.proofs.Honest.{never-refused-7}
 use Rattle.demands.proofs.Singly.{series-as-singly, singly-accepted}
 
@@ -32,7 +34,17 @@ demand-1 =
     }
 
 pub demand-2 : Demand2
-demand-2 = record { figures = figures-are; balances = water-balances; balances-inches = inches-balance; layers = layers-hold }
+demand-2 =
+    record {
+      figures = figures-are;
+      balances = water-balances;
+      balances-inches = inches-balance;
+      anomalies = z-given;
+      layers = layers-hold;
+      started = soil-started;
+      always = soil-always;
+      soils = soil-starts;
+    }
 
 pub demand-3 : (constants : List ℤ) (c ss su m : ℤ) (cs : Columns) → startRefusal constants c ss su m ≡ 0 → Demand3 constants c ss su m cs
 demand-3 constants c ss su m cs started =

@@ -1,4 +1,4 @@
--- Document 01's worked months, W1 to W4 and S1 to S6: one table, one claim, by computation. Assumes nothing.
+-- Document 01's worked months, W1 to W4 and S1 to S6, and two of a thin soil: one table, one claim, by computation. Assumes nothing.
 use mathlib.Core.Path.{_≡_, refl}
 use mathlib.Core.Bool.{true}
 use Rattle.exact.specs.Nearest.{nearest, nearestℕ}

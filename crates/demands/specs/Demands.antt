@@ -8,12 +8,15 @@ use mathlib.Core.Bool.{true}
 use mathlib.Core.Logic.{_↔_}
 use mathlib.Core.List.{List, _++_, map}
 use Prim.Native.Nat.{ℕ, _+_, _-_, _≤_, _<_}
-use lib.IntN.{ℤ, pos}
+use lib.IntN.{ℤ, pos, natAbs}
 use lib.ListN.{length, getD, take, replicate}
+use Rattle.outline.specs.Numbers.{mostZ}
+use Rattle.outline.specs.Refusals.{badCapacity, badStorage}
 use Rattle.door.specs.Readings.{reading, month}
 use Rattle.door.specs.declared.Reading.{Reading}
 use Rattle.door.specs.declared.MonthInches.{MonthInches}
 use Rattle.water.specs.Layers.{SoilFits}
+use Rattle.water.specs.declared.Soil.{Soil}
 use Rattle.spells.specs.Spells.{stepOf}
 use Rattle.hindsight.specs.Rule.{Row, forward}
 use Rattle.hindsight_laws.specs.Counts.{NoneFrom, count}
@@ -84,8 +87,20 @@ pub record Demand2 : Type 0 where
   -- an accepted month of water balances, by whichever call it came
   pub balances : (r : Run) (p pe : Reading) (cs : Columns) → asked r (water p pe) cs .answer .number ≡ 0 → Balances r (asked r (water p pe) cs)
   pub balances-inches : (r : Run) (q : MonthInches) (cs : Columns) → asked r (inches q) cs .answer .number ≡ 0 → Balances r (asked r (inches q) cs)
-  -- neither layer ever passes its capacity
+  -- its Z is one that may be "given directly", by whichever call it came
+  pub anomalies : (r : Run) (a : Ask) (cs : Columns) → asked r a cs .answer .number ≡ 0 → natAbs (asked r a cs .answer .figures .z) ≤ mostZ
+  -- neither layer ever passes its capacity: not after an accepted month,
   pub layers : (r : Run) (a : Ask) (cs : Columns) → asked r a cs .answer .number ≡ 0 → SoilFits (asked r a cs .answer .run .soil)
+  -- not at a start,
+  pub started : (constants : List ℤ) (c ss su m : ℤ) → startRefusal constants c ss su m ≡ 0 → SoilFits (startOf constants c ss su m .run .soil)
+  -- and not after any months from a start on, accepted or refused, on whatever columns
+  pub always :
+      (constants : List ℤ) (c ss su m : ℤ) (cs : Columns) → startRefusal constants c ss su m ≡ 0 → (asks : List Ask)
+      → SoilFits (afterAll (begun constants c ss su m cs) asks .run .soil)
+  -- "C may be 100 to 30,000": a soil in which neither does is refused with 4 or 5 by no start
+  pub soils :
+      (constants : List ℤ) (s : Soil) (m : ℤ) → SoilFits s
+      → let k = startRefusal constants (pos (s .capacity)) (pos (s .surface)) (pos (s .underlying)) m in (k ≡ badCapacity → ⊥) × (k ≡ badStorage → ⊥)
 
 -- ---- 3. "Take any accepted months added one by one to a fresh run whose columns nobody else writes."
 module _ (constants : List ℤ) (c ss su m : ℤ) (cs : Columns) where

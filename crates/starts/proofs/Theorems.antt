@@ -1,17 +1,27 @@
--- The theorems about a start: one that is not refused gives a run, and the promise of `start` allows one answer. Assumes nothing.
+-- The theorems about a start: one that is not refused gives a run, every soil that fits has one, and the promise of `start` allows one
+-- answer. Assumes nothing.
 use mathlib.Core.Path.{_≡_, sym, _∙_}
-use mathlib.Core.Bool.{true}
+use mathlib.Core.Bool.{Bool, true, false, cond}
 use mathlib.Core.List.{List}
-use Prim.Native.Nat.{ℕ}
+use Prim.Native.Nat.{ℕ, _≤_}
 use native.Mathlib.Omega.{arith}
-use lib.IntN.{ℤ, natAbs}
+use borrow.Author.Tests.{le-leb}
+use lib.Dec.{eqb}
+use lib.IntN.{ℤ, pos, natAbs}
+use lib.ListN.{length}
+use Rattle.outline.specs.Numbers.{manyConstants}
+use Rattle.outline.specs.Refusals.{notSixty, badConstant, badCapacity, badStorage, badMonth}
+use Rattle.outline.proofs.Tests.{both}
 use Rattle.exact.proofs.Orders.{natural}
+use Rattle.water.specs.Layers.{leastCapacity, mostCapacity, surfaceHolds, underlyingHolds, SoilFits}
+use Rattle.water.specs.declared.Soil.{Soil}
+use Rattle.ranges.specs.Ranges.{constantsFit}
 use Rattle.ranges.proofs.RangeLaws.{is-calendar}
 use Rattle.calendar.proofs.CalendarLaws.{constants-at-fit}
 use Rattle.runs.specs.Runs.{isRun}
 use Rattle.runs.specs.RunFits.{RunFits}
 use Rattle.runs.proofs.RunLaws.{fits-run}
-use Rattle.starts.specs.Start.{startRefusal, freshRun, startOf}
+use Rattle.starts.specs.Start.{upTo, capacityFits, storagesFit, monthFits, startRefusal, freshRun, startOf}
 use Rattle.starts.specs.declared.Started.{Started}
 use Rattle.starts.proofs.StartLaws.{capacity-is, month-is, surface-is, underlying-is, start-fits}
 
@@ -47,3 +57,29 @@ module _ (cs : List ℤ) (c ss su m : ℤ) where
   -- any two answers that the promise of `start` allows are the same
   pub one-start : (a b : Started) → a ≡ startOf cs c ss su m → b ≡ startOf cs c ss su m → a ≡ b
   one-start a b p q = p ∙ sym q
+
+-- ---- every soil that fits has its start
+-- a number that is not below 0, and not above the most
+up-to : (most n : ℕ) → n ≤ most → upTo most (pos n) ≡ true
+up-to most n h = both (le-leb 0 n (omega arith)) (le-leb n most h)
+
+soil-passes : (s : Soil) → SoilFits s → (capacityFits (pos (s .capacity)) ≡ true) × (storagesFit (pos (s .capacity)) (pos (s .surface)) (pos (s .underlying)) ≡ true)
+unfolding capacityFits storagesFit
+soil-passes s f = (
+  both (le-leb leastCapacity (s .capacity) (f .least)) (le-leb (s .capacity) mostCapacity (f .most)),
+  both (up-to (surfaceHolds (s .capacity)) (s .surface) (f .surface)) (up-to (underlyingHolds (s .capacity)) (s .underlying) (f .underlying)),
+)
+
+-- neither 4 nor 5 is left of the five tests
+neither : (a b e : Bool) → let k = cond a (cond b (cond e 0 badMonth) badConstant) notSixty in (k ≡ badCapacity → ⊥) × (k ≡ badStorage → ⊥)
+neither true true true = ((λ h. omega arith), (λ h. omega arith))
+neither true true false = ((λ h. omega arith), (λ h. omega arith))
+neither true false e = ((λ h. omega arith), (λ h. omega arith))
+neither false b e = ((λ h. omega arith), (λ h. omega arith))
+
+pub soil-starts : (cs : List ℤ) (s : Soil) (m : ℤ) → SoilFits s
+    → let k = startRefusal cs (pos (s .capacity)) (pos (s .surface)) (pos (s .underlying)) m in (k ≡ badCapacity → ⊥) × (k ≡ badStorage → ⊥)
+unfolding startRefusal
+soil-starts cs s m f =
+    let p = soil-passes s f in
+    rw (p .0, p .1) (neither (eqb (length cs) manyConstants) (constantsFit cs) (monthFits m))
