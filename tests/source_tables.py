@@ -5,8 +5,9 @@
   source_tables.py --write      writes it
   source_tables.py --scan FILE  says whether the tables are what FILE has, the scan of the paper as text
 
-It shares nothing with the Rattle code and with the other programs of these tests but document 01 and the tables: one month
-of water, one month of spells and hindsight are written here from the document's words, over whole numbers.
+It shares nothing with the Rattle code and with the other programs of these tests but document 01, with document 02's thin
+soils, and the tables: one month of water, one month of spells and hindsight are written here from the documents' words, over
+whole numbers. tests/station.py holds months of thin soils to the same reckoning.
 """
 import os
 import re
@@ -98,8 +99,9 @@ def water(capacity, surface, underlying, p, pe, alpha, beta, gamma, delta, k):
     else:
         m['Ls'] = m['Lu'] = 0
         m['ET'] = pe
-        first = min(p - pe, 1000 - surface)
-        second = min(p - pe - first, capacity - 1000 - underlying)
+        holds = min(1000, capacity)
+        first = min(p - pe, holds - surface)
+        second = min(p - pe - first, capacity - holds - underlying)
         m['RO'] = p - pe - first - second
     m['R'] = first + second
     m['Ss'] = surface - m['Ls'] + first

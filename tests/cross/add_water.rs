@@ -6,6 +6,7 @@ use crate::check::Check;
 use crate::lists::{Fill, Lists};
 use crate::random::Random;
 use crate::read::edge_readings;
+use crate::reference::layers;
 use crate::runs::{any_good_run, MOST};
 
 /// A reading of a month's water, in one of the three units.
@@ -34,18 +35,18 @@ pub fn readings_in_adds(c: &mut Check) {
 }
 
 /// The two amounts of a month, each at and beside what a layer holds and the end of its range, and equal.
-const AMOUNTS: [i32; 11] = [0, 1, 2, 499, 500, 999, 1_000, 1_001, 7_000, 99_999, 100_000];
+const AMOUNTS: [i32; 14] = [0, 1, 2, 99, 100, 101, 499, 500, 999, 1_000, 1_001, 7_000, 99_999, 100_000];
 
 /// Months of water with each layer empty, full and next to it.
 pub fn water_at_ends(c: &mut Check) {
     c.kind("adds of water, ends of the soil");
     let mut lists = Lists::new(&mut c.random, [4; 5], Fill::Small);
-    for capacity in [1_000, 1_001, 6_000, 29_999, 30_000] {
-        let layer: u32 = capacity - 1_000;
-        for surface in [0, 1, 500, 999, 1_000] {
-            for underlying in [0, 1, layer / 2, layer.saturating_sub(1), layer] {
+    for capacity in [100, 101, 500, 999, 1_000, 1_001, 6_000, 29_999, 30_000] {
+        let [most_surface, most_underlying] = layers(capacity);
+        for surface in [0, 1, most_surface / 2, most_surface - 1, most_surface] {
+            for underlying in [0, 1, most_underlying / 2, most_underlying.saturating_sub(1), most_underlying] {
                 let mut run = any_good_run(&mut c.random, 3);
-                run.soil = Soil { capacity, surface, underlying: underlying.min(layer) };
+                run.soil = Soil { capacity, surface, underlying: underlying.min(most_underlying) };
                 for p in AMOUNTS {
                     for pe in AMOUNTS {
                         c.add(Add::Water(Reading::whole(p), Reading::whole(pe)), &run, &mut lists);

@@ -6,7 +6,7 @@ use crate::add_z::STYLES;
 use crate::card::{MonthInches, Reading, Run, Values};
 use crate::check::Check;
 use crate::lists::{Fill, Lists};
-use crate::reference::{MOST_MONTHS, MOST_Z};
+use crate::reference::{self, MOST_MONTHS, MOST_Z};
 use crate::runs::{
     any_good_run, good_constants, good_soil, length_faults, limits, run_faults, set_field, FIELDS, NO_RUN,
 };
@@ -149,14 +149,14 @@ pub fn refusals(c: &mut Check) {
 /// Values of a run's field within its range and just past it.
 fn ends(run: &Run, field: usize, length: i64) -> Vec<i64> {
     let most_v = 4_000_150 * i64::from(run.months);
-    let layer = i64::from(run.soil.capacity) - 1_000;
+    let [surface, underlying] = reference::layers(run.soil.capacity).map(i64::from);
     match field {
         0 => vec![0, 1, length - 1, length, length + 1],
         1 => vec![0, 1, i64::from(run.months), i64::from(run.months) + 1],
         2 => vec![0, 1, 12, 13],
-        3 => vec![999, 1_000, 1_001, 30_000, 30_001],
-        4 => vec![0, 1, 1_000, 1_001],
-        5 => vec![0, 1, layer, layer + 1, 29_000, 29_001],
+        3 => vec![99, 100, 999, 1_000, 1_001, 30_000, 30_001],
+        4 => vec![0, 1, surface, surface + 1, 1_000, 1_001],
+        5 => vec![0, 1, underlying, underlying + 1, 29_000, 29_001],
         6 => vec![-1, 0, 1, 13_000_000, 13_000_001],
         7 => vec![1, 0, -1, -13_000_000, -13_000_001],
         8 => vec![-13_000_001, -13_000_000, -501, -500, -1, 0, 1, 500, 501, 13_000_000, 13_000_001],

@@ -22,6 +22,7 @@ mod runs;
 mod season;
 mod series;
 mod start;
+mod thin;
 mod whole_series;
 mod worked;
 
@@ -52,6 +53,7 @@ fn main() {
     add_water::readings_in_adds(&mut check);
     add_water::water_at_ends(&mut check);
     add_water::constants_in_use(&mut check);
+    thin::thin_soils(&mut check);
     add_inches::edges_in_inches(&mut check);
     add_z::ties(&mut check);
     add_z::ends_for_years(&mut check);

@@ -1,10 +1,11 @@
-//! Document 01 in plain Rust and in its order, with document 02's season in one call (E2), written from these two
-//! alone, for the library to be compared with and measured against. The sentences quoted in the comments are the
+//! Document 01 in plain Rust and in its order, with document 02's season in one call (E2) and thin soils (E5), written
+//! from these two alone, for the library to be compared with and measured against. The sentences quoted in the comments are the
 //! documents'. It shares the library's data types and nothing else. A call borrows the run and changes it only
 //! where it does what it was asked, a season month by month.
 #![allow(dead_code)]
 
 use crate::card::{self, Columns, Figures, MonthInches, Reading, Run, Shown, Soil, Values, Water};
+use std::ops::RangeInclusive;
 
 // ---- Quantities --------------------------------------------------------------------------------------------
 
@@ -12,13 +13,20 @@ use crate::card::{self, Columns, Figures, MonthInches, Reading, Run, Shown, Soil
 pub const MOST_MONTHS: usize = 2_400;
 /// "Z given directly: -4,000,000 to 4,000,000."
 pub const MOST_Z: i32 = 4_000_000;
-/// "The surface layer holds 1,000."
-const SURFACE: u32 = 1_000;
+/// "C may be 100 to 30,000."
+const CAPACITY: RangeInclusive<u32> = 100..=30_000;
 /// "Alpha, beta, delta 0 to 10,000; gamma 0 to 50,000; K 0 to 100,000."
 const MOST_CONSTANT: [i32; 5] = [10_000, 10_000, 50_000, 10_000, 100_000];
 /// "mark (1 open, 2 settled)"
 pub const OPEN: u8 = 1;
 pub const SETTLED: u8 = 2;
+
+/// "The surface layer holds the smaller of 1,000 and C, the underlying layer the rest, possibly nothing."
+#[inline]
+pub fn layers(capacity: u32) -> [u32; 2] {
+    let surface = capacity.min(1_000);
+    [surface, capacity - surface]
+}
 
 /// "Nearest" means the nearest whole number, halves away from zero. The divisor is above 0.
 #[inline]
@@ -134,8 +142,9 @@ fn water_month(soil: &mut Soil, constants: &[i32], p: u32, pe: u32) -> (Water, i
     } else {
         // "The excess P - PE fills the surface layer, then the underlying layer; the rest is RO."
         let excess = p - pe;
-        let upper = excess.min(SURFACE - soil.surface);
-        let lower = (excess - upper).min(soil.capacity - SURFACE - soil.underlying);
+        let [surface, underlying] = layers(soil.capacity);
+        let upper = excess.min(surface - soil.surface);
+        let lower = (excess - upper).min(underlying - soil.underlying);
         w.et = pe;
         w.r = upper + lower;
         w.ro = excess - w.r;
@@ -323,16 +332,25 @@ fn constants_in_range(constants: &[i32]) -> bool {
         .all(|month| month.iter().zip(&MOST_CONSTANT).all(|(c, most)| (0..=*most).contains(c)))
 }
 
+/// Neither layer "above its layer".
+#[inline]
+fn storages_in_range(soil: &Soil) -> bool {
+    let [surface, underlying] = layers(soil.capacity);
+    soil.surface <= surface && soil.underlying <= underlying
+}
+
 /// "Start a run." "Order at a start, which takes no columns: 2 to 6."
 pub fn start(constants: &[i32], capacity: i32, surface: i32, underlying: i32, month: i32) -> Result<Run, Refusal> {
     let constants: &[i32; 60] = constants.try_into().map_err(|_| Refusal::NotSixty)?;
     if !constants_in_range(constants) {
         return Err(Refusal::Constant);
     }
-    if !(1_000..=30_000).contains(&capacity) {
+    // A number below 0 comes out above every range.
+    let soil = Soil { capacity: capacity as u32, surface: surface as u32, underlying: underlying as u32 };
+    if !CAPACITY.contains(&soil.capacity) {
         return Err(Refusal::Capacity);
     }
-    if !(0..=1_000).contains(&surface) || !(0..=capacity - 1_000).contains(&underlying) {
+    if !storages_in_range(&soil) {
         return Err(Refusal::Storage);
     }
     if !(1..=12).contains(&month) {
@@ -342,7 +360,7 @@ pub fn start(constants: &[i32], capacity: i32, surface: i32, underlying: i32, mo
         months: 0,
         opens: 0,
         calendar: month as u32,
-        soil: Soil { capacity: capacity as u32, surface: surface as u32, underlying: underlying as u32 },
+        soil,
         // "A fresh run has X1 = X2 = X3 = V = 0."
         values: Values { x1: 0, x2: 0, x3: 0, v: 0 },
         constants: *constants,
@@ -366,14 +384,12 @@ fn check(run: &Run, k: &Columns) -> Result<usize, Refusal> {
 
 /// The paragraph "Not a run", turned round.
 fn is_run(run: &Run, length: usize) -> bool {
-    let Soil { capacity, surface, underlying } = run.soil;
     let Values { x1, x2, x3, v } = run.values;
     run.months as usize <= length
         && run.opens <= run.months
         && (1..=12).contains(&run.calendar)
-        && (1_000..=30_000).contains(&capacity)
-        && surface <= SURFACE
-        && underlying <= capacity - SURFACE
+        && CAPACITY.contains(&run.soil.capacity)
+        && storages_in_range(&run.soil)
         && (0..=13_000_000).contains(&x1)
         && (-13_000_000..=0).contains(&x2)
         && (-13_000_000..=13_000_000).contains(&x3)

@@ -2,7 +2,7 @@
 
 use crate::card::{Run, Soil, Values};
 use crate::random::Random;
-use crate::reference::MOST_MONTHS;
+use crate::reference::{layers, MOST_MONTHS};
 
 /// "A refused start: all zeros."
 pub const NO_RUN: Run = Run {
@@ -31,16 +31,13 @@ pub fn good_constants(random: &mut Random) -> Vec<i32> {
 
 /// A capacity, two storages and a month that are good.
 pub fn good_soil(random: &mut Random) -> [i32; 4] {
-    let any = random.within(1_000, 30_000) as i32;
-    let capacity = random.pick(&[1_000, 1_001, 6_000, 30_000, any]);
-    let surface = random.within(0, 1_000) as i32;
-    let underlying = random.within(0, i64::from(capacity) - 1_000) as i32;
-    [
-        capacity,
-        random.pick(&[0, surface, 1_000]),
-        random.pick(&[0, underlying, capacity - 1_000]),
-        random.within(1, 12) as i32,
-    ]
+    let (thin, any) = (random.within(100, 999), random.within(100, 30_000));
+    let capacity = random.pick(&[100, thin, thin, 999, 1_000, 1_001, 6_000, 30_000, any, any]);
+    let storages = layers(capacity as u32).map(|most| {
+        let some = random.within(0, i64::from(most)) as i32;
+        random.pick(&[0, some, most as i32])
+    });
+    [capacity as i32, storages[0], storages[1], random.within(1, 12) as i32]
 }
 
 /// A run that is one, with any values: most of them no series leads to.
@@ -94,9 +91,9 @@ pub fn set_field(run: &mut Run, field: usize, value: i64) {
 pub fn limits(run: &Run, length: usize) -> Vec<i64> {
     let most_v = 4_000_150 * i64::from(run.months);
     let ends =
-        [0, 1, 12, 500, 1_000, 10_000, 30_000, 50_000, 100_000, 13_000_000, 1 << 31, 1 << 32, most_v, i64::MAX];
-    let own =
-        [length as i64, 2_400, i64::from(run.months), i64::from(run.opens), i64::from(run.soil.capacity) - 1_000];
+        [0, 1, 12, 100, 500, 1_000, 10_000, 30_000, 50_000, 100_000, 13_000_000, 1 << 31, 1 << 32, most_v, i64::MAX];
+    let [surface, underlying] = layers(run.soil.capacity).map(i64::from);
+    let own = [length as i64, 2_400, i64::from(run.months), i64::from(run.opens), surface, underlying];
     let mut values: Vec<i64> = ends
         .iter()
         .chain(&own)
@@ -131,7 +128,7 @@ pub fn run_faults(run: &Run) -> Vec<Run> {
     for months in [run.months, 5] {
         let good = Run { months, ..*run };
         found.push(good);
-        let faults = [(0, 6), (0, 2_500), (1, i64::from(months) + 1), (2, 0), (3, 999), (4, 1_001), (5, 29_001)];
+        let faults = [(0, 6), (0, 2_500), (1, i64::from(months) + 1), (2, 0), (3, 99), (4, 1_001), (5, 29_001)];
         for (field, value) in faults.into_iter().chain([(6, -1), (7, 1), (8, 13_000_001), (9, 1), (FIELDS, -1)]) {
             let mut spoiled = good;
             set_field(&mut spoiled, field, value);

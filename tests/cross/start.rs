@@ -41,8 +41,8 @@ pub fn starts(c: &mut Check, times: u64) {
         let list: Vec<i32> = constants.iter().cycle().take(length).copied().collect();
         c.start(&list, [6_000, 500, 3_000, 7]);
     }
-    for capacity in [i32::MIN, -1, 0, 999, 1_000, 1_001, 29_999, 30_000, 30_001, i32::MAX] {
-        for surface in [i32::MIN, -1, 0, 1, 999, 1_000, 1_001, i32::MAX] {
+    for capacity in [i32::MIN, -1, 0, 99, 100, 101, 999, 1_000, 1_001, 29_999, 30_000, 30_001, i32::MAX] {
+        for surface in [i32::MIN, -1, 0, 1, 99, 100, 101, 999, 1_000, 1_001, i32::MAX] {
             let layer = capacity.saturating_sub(1_000);
             for underlying in
                 [i32::MIN, -1, 0, 1, layer.saturating_sub(1), layer, layer.saturating_add(1), i32::MAX]
@@ -73,8 +73,8 @@ fn starts_with_faults(c: &mut Check, times: u64) {
             if has(0) {
                 constants.resize(length, 0);
             }
-            let capacity = if has(2) { 999 } else { 1_000 };
-            let surface = if has(3) { 1_001 } else { 1_000 };
+            let capacity = if has(2) { 99 } else { 100 };
+            let surface = if has(3) { 101 } else { 100 };
             let underlying = if has(4) { 1 } else { 0 };
             let month = if has(5) { 13 } else { 12 };
             c.start(&constants, [capacity, surface, underlying, month]);

@@ -45,7 +45,21 @@ pub fn worked_months(c: &mut Check) {
     assert_eq!(lists.library.lend().index[..4], [1197, -487, -970, 2091]);
     assert_eq!(c.whole(&[-3000, 1040, 0], 3, 3), (0, vec![-1000, 347, 311], vec![2; 3]));
     more_water(c, &constants, &mut lists);
+    thin_water(c, &constants, &mut lists);
     turned_spells(c, &constants, &mut lists);
+}
+
+/// Two months of a soil of 100, from document 02's thin soils, worked out by hand: one that dries, one that overflows.
+fn thin_water(c: &mut Check, constants: &[i32], lists: &mut Lists) {
+    let run = c.start(constants, [100, 100, 0, 1]).run;
+    let dry = c.add(Add::Water(Reading::whole(30), Reading::whole(80)), &run, lists);
+    let w = dry.figures.water;
+    assert_eq!([w.ls, w.lu, w.et, w.r, w.ro, w.pr, w.pro, w.pl], [50, 0, 80, 0, 0, 0, 100, 80]);
+    assert_eq!((w.cafec, dry.figures.z, dry.run.soil.surface, dry.run.soil.underlying), (53, -35, 50, 0));
+    let wet = c.add(Add::Water(Reading::whole(200), Reading::whole(20)), &dry.run, lists);
+    let w = wet.figures.water;
+    assert_eq!([w.ls, w.lu, w.et, w.r, w.ro, w.pr, w.pro, w.pl], [0, 0, 20, 50, 130, 50, 50, 20]);
+    assert_eq!((w.cafec, wet.figures.z, wet.run.soil.surface, wet.run.soil.underlying), (20, 271, 100, 0));
 }
 
 /// W3 and W4.
