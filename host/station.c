@@ -10,9 +10,9 @@
  * may also be closed by the end of the input. A line that begins with # is a comment: it may stand anywhere
  * before end, and what it holds is not looked at. Every other line is words parted by spaces, in this order:
  *
- *   capacity 6000                        thousandths of an inch
- *   surface 0                            what the surface layer stores at the start, thousandths
- *   underlying 1330                      what the underlying layer stores at the start
+ *   capacity 6000                        what the soil can hold, thousandths of an inch: 100 to 30000
+ *   surface 0                            what the surface layer stores at the start: 0 to 1000, or to capacity if less
+ *   underlying 1330                      what the underlying layer stores then: 0 to capacity - 1000, or 0 if less
  *   constants alpha beta gamma delta K   these words
  *   January 9466 722 23 4694 25800       twelve lines, January to December, ten-thousandths
  *   months inches                        or: months millimetres
@@ -522,13 +522,14 @@ static card_run start(const station *st) {
     card_started a = card_start(constants, CARD_CONSTANTS, capacity, surface, underlying, calendar);
     if (a.number == CARD_DONE) return a.run;
     if (a.number == CARD_CONSTANT) refuse_constant(st, calendar, a.number);
-    if (a.number == CARD_CAPACITY) refuse_whole(st->capacity, "capacity", a.number, "1000 to 30000");
+    if (a.number == CARD_CAPACITY) refuse_whole(st->capacity, "capacity", a.number, "100 to 30000");
     /* of the two storages, the one that is refused beside 0 for the other */
     if (a.number == CARD_STORAGE) {
         if (card_start(constants, CARD_CONSTANTS, capacity, surface, 0, calendar).number == a.number)
-            refuse_whole(st->surface, "surface", a.number, "0 to 1000");
+            refuse_whole(st->surface, "surface", a.number, "0 to 1000, or to capacity where that is less");
         if (card_start(constants, CARD_CONSTANTS, capacity, 0, underlying, calendar).number == a.number)
-            refuse_whole(st->underlying, "underlying", a.number, "0 to capacity - 1000");
+            refuse_whole(st->underlying, "underlying", a.number,
+                         "0 to capacity - 1000, or 0 where capacity is below 1000");
     }
     stop(REFUSED, "the start is refused (%d: %s)", a.number, card_meaning(a.number));
     return a.run;

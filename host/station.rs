@@ -623,14 +623,16 @@ fn start(st: &Station) -> Result<Run, Stop> {
     match a.number {
         DONE => return Ok(a.run),
         CONSTANT_OUT => refuse_constant(st, calendar, a.number)?,
-        CAPACITY_OUT => return refuse_whole(st.capacity, "capacity", a.number, "1000 to 30000"),
+        CAPACITY_OUT => return refuse_whole(st.capacity, "capacity", a.number, "100 to 30000"),
         // of the two storages, the one that is refused beside 0 for the other
         STORAGE_OUT => {
             if card::start(&constants, capacity, surface, 0, calendar).number == a.number {
-                return refuse_whole(st.surface, "surface", a.number, "0 to 1000");
+                let range = "0 to 1000, or to capacity where that is less";
+                return refuse_whole(st.surface, "surface", a.number, range);
             }
             if card::start(&constants, capacity, 0, underlying, calendar).number == a.number {
-                return refuse_whole(st.underlying, "underlying", a.number, "0 to capacity - 1000");
+                let range = "0 to capacity - 1000, or 0 where capacity is below 1000";
+                return refuse_whole(st.underlying, "underlying", a.number, range);
             }
         }
         _ => {}

@@ -192,11 +192,12 @@ card_answer card_read(card_reading reading);
 
 /* ---- A run ---------------------------------------------------------------------------------------- */
 
-/* The two layers of soil, in thousandths of an inch. */
+/* The two layers of soil, in thousandths of an inch. The surface layer holds 1,000 or, in a thin soil, whose
+ * capacity is less, all of it; the underlying layer holds the rest, which is nothing in a thin soil. */
 typedef struct card_soil {
-    uint32_t capacity;   /* C, 1,000 to 30,000 */
-    uint32_t surface;    /* what the surface layer stores, 0 to 1,000 */
-    uint32_t underlying; /* what the underlying layer stores, 0 to C - 1,000 */
+    uint32_t capacity;   /* C, 100 to 30,000 */
+    uint32_t surface;    /* what the surface layer stores, 0 to the smaller of 1,000 and C */
+    uint32_t underlying; /* what the underlying layer stores, 0 to C - 1,000; 0 where C is below 1,000 */
 } card_soil;
 
 /* The running values, as the last month left them. */
@@ -242,8 +243,13 @@ typedef struct card_started {
  *
  * constants: sixty numbers, January first, each month in the order alpha, beta, gamma, delta, K. Alpha,
  * beta, delta 0 to 10,000; gamma 0 to 50,000; K 0 to 100,000. Zero is a value, never "missing".
- * capacity: 1,000 to 30,000. surface and underlying: the storages to start with, 0 to 1,000 and 0 to
- * capacity - 1,000. month: the calendar month of the first month to be added, 1 to 12. */
+ * capacity: 100 to 30,000. surface: what the surface layer stores at the start, 0 to the smaller of 1,000 and
+ * capacity. underlying: the same of the underlying layer, 0 to capacity - 1,000; 0 where capacity is below
+ * 1,000. month: the calendar month of the first month to be added, 1 to 12.
+ *
+ * The constants are those that were worked out with this capacity: another capacity needs others. A thin soil
+ * keeps little of the months before. With a capacity of 100, a month whose PE passes its rain by a tenth of
+ * an inch leaves the soil empty, and one whose rain passes its PE by as much leaves it full, whatever it held. */
 card_started card_start(const int32_t *constants, size_t constants_length,
                         int32_t capacity, int32_t surface, int32_t underlying, int32_t month);
 

@@ -17,6 +17,7 @@ import sys
 from collections import Counter
 
 import running
+import source_tables
 from stored import TOP
 
 PROGRAMS = [shlex.split(os.environ.get(name, '')) or [os.path.join(TOP, 'target', 'host', file)]
@@ -343,14 +344,20 @@ def library_cases():
     two = worded(DECEMBER, 5, b'-2147483648')[0].replace(b'722', b'2147483647')
     yield 'two constants', two, JANUARY, 14, b'beta 2147483647 is refused (3: a constant outside its range)'
     yield 'a constant and all that comes after it', two.replace(b'capacity 6000', b'capacity 1').replace(b'5.56', b'-'), JANUARY, 14, b'beta 2147483647 is refused (3: '
-    for word in (b'999', b'30001', b'-6000', b'0', b'2147483647'):
-        yield 'capacity %s' % word.decode(), worded(1, 1, word)[0], 1, 10, b'capacity ' + word + b' is refused (4: capacity outside its range), capacity is 1000 to 30000'
+    for word in (b'99', b'30001', b'-6000', b'0', b'1', b'2147483647'):
+        yield 'capacity %s' % word.decode(), worded(1, 1, word)[0], 1, 10, b'capacity ' + word + b' is refused (4: capacity outside its range), capacity is 100 to 30000'
     storage = b' is refused (5: a start storage negative or above its layer), '
+    surface, underlying = b'surface is 0 to 1000, or to capacity where that is less', b'underlying is 0 to capacity - 1000, or 0 where capacity is below 1000'
     for word in (b'-1', b'1001', b'99999'):
-        yield 'surface %s' % word.decode(), worded(2, 1, word)[0], 2, 9, b'surface ' + word + storage + b'surface is 0 to 1000'
+        yield 'surface %s' % word.decode(), worded(2, 1, word)[0], 2, 9, b'surface ' + word + storage + surface
     for word in (b'-1', b'5001', b'99999'):
-        yield 'underlying %s' % word.decode(), worded(3, 1, word)[0], 3, 12, b'underlying ' + word + storage + b'underlying is 0 to capacity - 1000'
+        yield 'underlying %s' % word.decode(), worded(3, 1, word)[0], 3, 12, b'underlying ' + word + storage + underlying
     yield 'both storages', worded(2, 1, b'1001')[0].replace(b'1330', b'-5'), 2, 9, b'surface 1001 is refused (5: '
+    for capacity, surface_word, underlying_word in ((100, 101, 0), (100, 1000, 0), (999, 1000, 0), (1000, 1001, 0), (1001, 1001, 1)):
+        yield 'capacity %d, surface %d' % (capacity, surface_word), soiled(capacity, surface_word, underlying_word), 2, 9, b'surface %d' % surface_word + storage + surface
+    for capacity, surface_word, underlying_word in ((100, 0, 1), (100, 0, 100), (999, 999, 1), (1000, 1000, 1), (1001, 0, 2)):
+        yield 'capacity %d, underlying %d' % (capacity, underlying_word), soiled(capacity, surface_word, underlying_word), 3, 12, b'underlying %d' % underlying_word + storage + underlying
+    yield 'a thin soil in deep storages', worded(1, 1, b'100')[0], 3, 12, b'underlying 1330' + storage + underlying
     missing = b' is missing (8: reading missing); README.md, "Missing months", says what to do'
     bad = b' is refused (9: reading not acceptable), inches are 0 to 100, and a missing reading is written -'
     for number in (FIRST, FIRST + 5, FIRST + 6, LAST):
@@ -388,6 +395,30 @@ def millimetres():
 def padded(size):
     """The good file behind a comment, so many bytes together."""
     return b'#' * (size - len(GOOD) - 1) + b'\n' + GOOD
+
+
+def soiled(capacity, surface, underlying):
+    """The good file with another soil."""
+    return b''.join(b'%s %d\n' % pair for pair in zip((b'capacity', b'surface', b'underlying'), (capacity, surface, underlying))) + b''.join(text + b'\n' for text in LINES[3:])
+
+
+def thin_files(count):
+    """Soils at and beside an inch, and the thinnest: CAFEC and Z of the sample's months are those of a reckoning of its own."""
+    for soil in ((100, 0, 0), (100, 100, 0), (101, 50, 0), (999, 999, 0), (1000, 0, 0), (1000, 1000, 0), (1001, 1000, 1), (1001, 0, 0)):
+        constants = [[int(word) for word in text.split(b' ')[1:]] for text in LINES[JANUARY - 1:DECEMBER]]
+        surface, underlying = soil[1:]
+        wanted = []
+        for text in LINES[FIRST - 1:LAST]:
+            when, p, pe = text.split(b' ')
+            p, pe = [10 * int(word.replace(b'.', b'')) for word in (p, pe)]
+            m = source_tables.water(soil[0], surface, underlying, p, pe, *constants[int(when[5:]) - 1])
+            surface, underlying = m['Ss'], m['Su']
+            wanted.append(b'%s %d %d %d %d' % (when, p, pe, m['CAFEC'], m['Z']))
+        name = 'the soil %d %d %d' % soil
+        lines = good(name, (), soiled(*soil)).split(b'\n')[1:len(wanted) + 1]
+        if [b' '.join(line.split(b' ')[:5]) for line in lines] != wanted:
+            sys.exit('station: %s: the months are not those of tests/source_tables.py: %r' % (name, lines))
+        count['good'] += 1
 
 
 def same_cases():
@@ -470,6 +501,7 @@ def good_files(count):
             if rows(good(name, arguments, data)) != rows(whole):
                 sys.exit('station: %s, arguments %r: the rows are not those of single months' % (name, arguments))
             count['good'] += 1
+    thin_files(count)
     for pieces in (7, 200):
         if good('the sample in pieces', (), SAMPLE, pieces) != singly[()]:
             sys.exit('station: the sample in %d pieces: it should print the same' % pieces)

@@ -559,6 +559,53 @@ static void try_pointers(void) {
     check_number("function pointers", series(SEASON_P, 3, held.index, 3, held.mark, 3), CARD_DONE);
 }
 
+/* ---- Soils ---------------------------------------------------------------------------------------- */
+
+/* What the header says of a start's soil: 4, 5 or done. */
+static uint8_t soil_number(int32_t capacity, int32_t surface, int32_t underlying) {
+    if (capacity < 100 || capacity > 30000) return CARD_CAPACITY;
+    if (surface < 0 || surface > 1000 || surface > capacity) return CARD_STORAGE;
+    if (underlying < 0 || (underlying > 0 && underlying > capacity - 1000)) return CARD_STORAGE;
+    return CARD_DONE;
+}
+
+/* A soil at a start, and in a run that is handed in: what is 4 or 5 there is 7 here. */
+static void try_soil(int32_t capacity, int32_t surface, int32_t underlying) {
+    lists held = fresh_lists();
+    uint8_t expected = soil_number(capacity, surface, underlying);
+    card_started a = card_start(CONSTANTS, CARD_CONSTANTS, capacity, surface, underlying, 6);
+    check_number("a soil at a start", a.number, expected);
+    card_run run = station();
+    run.soil.capacity = (uint32_t)capacity;
+    run.soil.surface = (uint32_t)surface;
+    run.soil.underlying = (uint32_t)underlying;
+    if (expected == CARD_DONE) check("a soil at a start", same_run(&a.run, &run), "another soil");
+    card_added z = card_add_z_in(lent(&held, MONTHS), run, 0);
+    check_number("a soil in a run", z.number, expected == CARD_DONE ? CARD_DONE : CARD_NOT_A_RUN);
+}
+
+static void try_soils(void) {
+    static const int32_t capacities[] = {-1, 0, 99, 100, 101, 500, 999, 1000, 1001, 6000, 29999, 30000, 30001};
+    for (size_t i = 0; i < sizeof capacities / sizeof *capacities; i++) {
+        int32_t c = capacities[i];
+        int32_t storages[] = {-1, 0, 1, 999, 1000, 1001, c - 1001, c - 1000, c - 999, c - 1, c, c + 1};
+        for (int upper = 0; upper < 12; upper++)
+            for (int lower = 0; lower < 12; lower++) try_soil(c, storages[upper], storages[lower]);
+    }
+}
+
+/* With a capacity of 100 a month's tenth of an inch empties the soil or fills it, whatever it held. */
+static void try_thin(void) {
+    lists held = fresh_lists();
+    for (int32_t surface = 0; surface <= 100; surface++) {
+        card_run run = card_start(CONSTANTS, CARD_CONSTANTS, 100, surface, 0, 6).run;
+        card_soil dry = card_add_water_in(lent(&held, MONTHS), run, card_whole(700), card_whole(800)).run.soil;
+        card_soil wet = card_add_water_in(lent(&held, MONTHS), run, card_whole(800), card_whole(700)).run.soil;
+        check("a thin soil", dry.surface == 0 && dry.underlying == 0, "a dry month does not empty it");
+        check("a thin soil", wet.surface == 100 && wet.underlying == 0, "a wet month does not fill it");
+    }
+}
+
 /* ---- Missing months ------------------------------------------------------------------------------- */
 
 /* A missing reading is 8, and leaves run, calendar and columns; a season stops at it. */
@@ -670,6 +717,8 @@ int main(void) {
     try_unequal();
     try_a_run();
     try_pointers();
+    try_soils();
+    try_thin();
     try_missing();
     try_waiting();
     try_z_0();
