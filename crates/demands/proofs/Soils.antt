@@ -1,9 +1,9 @@
--- Demand 2's soil: from a start on neither layer ever passes its capacity, whatever was asked, accepted or refused; every soil of which that
--- holds has its start; and no month has a Z that could not have been given directly. Assumes nothing.
-use mathlib.Core.Path.{_≡_, sym, ap, _∙_, subst}
+-- Demand 2's soil: from a start on neither layer ever passes its capacity, whatever was asked, accepted or refused, by induction over what
+-- was asked; and no month has a Z that could not have been given directly. Assumes nothing.
+use mathlib.Core.Path.{_≡_, sym, _∙_, subst}
 use mathlib.Core.Logic.{⊎-elim}
 use mathlib.Core.List.{List, [], _∷_}
-use Prim.Native.Nat.{ℕ, _≤_}
+use Prim.Native.Nat.{_≤_}
 use lib.IntN.{ℤ, natAbs}
 use Rattle.outline.specs.Numbers.{mostZ}
 use Rattle.water.specs.Layers.{SoilFits}

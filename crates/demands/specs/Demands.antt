@@ -97,7 +97,7 @@ pub record Demand2 : Type 0 where
   pub always :
       (constants : List ℤ) (c ss su m : ℤ) (cs : Columns) → startRefusal constants c ss su m ≡ 0 → (asks : List Ask)
       → SoilFits (afterAll (begun constants c ss su m cs) asks .run .soil)
-  -- "C may be 100 to 30,000": a soil in which neither does is refused with 4 or 5 by no start
+  -- "C may be 100 to 30,000": and no start refuses such a soil with 4 or 5
   pub soils :
       (constants : List ℤ) (s : Soil) (m : ℤ) → SoilFits s
       → let k = startRefusal constants (pos (s .capacity)) (pos (s .surface)) (pos (s .underlying)) m in (k ≡ badCapacity → ⊥) × (k ≡ badStorage → ⊥)

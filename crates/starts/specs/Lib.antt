@@ -1,2 +1,3 @@
--- What the contracts of `starts` cite: a start.
+-- What the contracts of `starts` cite: a start; and the soils at the ends of their ranges.
 pub mod Start
+pub mod Worked

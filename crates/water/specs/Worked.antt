@@ -3,7 +3,7 @@
 -- is that every row agrees. Assumes nothing.
 use Prim.Native.Nat.{ℕ}
 use mathlib.Core.List.{List, [], _∷_, _++_}
-use lib.IntN.{ℤ, pos, negℤ}
+use lib.IntN.{pos, negℤ}
 use Rattle.exact.specs.Worked.{Row, _gives_}
 use Rattle.water.specs.Balance.{balanceOf}
 use Rattle.water.specs.Expected.{potentialsOf, nOf, monthOf}
@@ -47,30 +47,62 @@ thinDry = monthOf (thin 100) 30 80 of1
 abbrev pub thinWet : Month
 thinWet = monthOf (thin 50) 200 20 of1
 
--- the twelve figures of a month
-abbrev figures : Month → ℕ → ℕ → ℕ → ℕ → ℕ → ℕ → ℕ → ℕ → ℤ → ℤ → ℕ → ℕ → List Row
-figures m ls lu et r ro pr pro pl cafec z surface underlying =
-    (pos (m .ls) gives pos ls)
-    ∷ (pos (m .lu) gives pos lu)
-    ∷ (pos (m .et) gives pos et)
-    ∷ (pos (m .r) gives pos r)
-    ∷ (pos (m .ro) gives pos ro)
-    ∷ (pos (m .pr) gives pos pr)
-    ∷ (pos (m .pro) gives pos pro)
-    ∷ (pos (m .pl) gives pos pl)
-    ∷ (m .cafec gives cafec)
-    ∷ (m .z gives z)
-    ∷ (pos (m .surface) gives pos surface)
-    ∷ (pos (m .underlying) gives pos underlying)
+-- what is said of them, worked out by hand from the documents' words. Ls 50 of a want of 50, and end 50. N = 640,000 + 0 + 50,000 - 160,000 is
+-- 530,000, and Z is -34.5, a half, away from zero
+abbrev pub thinDrySaid : Month
+thinDrySaid =
+    record {
+      ls = 50;
+      lu = 0;
+      et = 80;
+      r = 0;
+      ro = 0;
+      pr = 0;
+      pro = 100;
+      pl = 80;
+      cafec = pos 53;
+      z = negℤ (pos 35);
+      surface = 50;
+      underlying = 0;
+    }
+
+-- R 50 of an excess of 180, and end 100. N = 160,000 + 50,000 + 25,000 - 40,000 is 195,000, so that CAFEC is 19.5, a half, and Z 270.75
+abbrev pub thinWetSaid : Month
+thinWetSaid =
+    record {
+      ls = 0;
+      lu = 0;
+      et = 20;
+      r = 50;
+      ro = 130;
+      pr = 50;
+      pro = 50;
+      pl = 20;
+      cafec = pos 20;
+      z = pos 271;
+      surface = 100;
+      underlying = 0;
+    }
+
+-- every figure of a month beside what is said of it
+abbrev pub eachFigure : Month → Month → List Row
+eachFigure m said =
+    (pos (m .ls) gives pos (said .ls))
+    ∷ (pos (m .lu) gives pos (said .lu))
+    ∷ (pos (m .et) gives pos (said .et))
+    ∷ (pos (m .r) gives pos (said .r))
+    ∷ (pos (m .ro) gives pos (said .ro))
+    ∷ (pos (m .pr) gives pos (said .pr))
+    ∷ (pos (m .pro) gives pos (said .pro))
+    ∷ (pos (m .pl) gives pos (said .pl))
+    ∷ (m .cafec gives said .cafec)
+    ∷ (m .z gives said .z)
+    ∷ (pos (m .surface) gives pos (said .surface))
+    ∷ (pos (m .underlying) gives pos (said .underlying))
     ∷ []
 
--- worked out by hand, from the documents' words. It dries: Ls 50, ET 80, PRO 100, PL 80; N = 640,000 + 0 + 50,000 - 160,000 is 530,000, so
--- CAFEC 53, and Z is -34.5, a half, away from zero; end 50. It overflows: ET 20, R 50, RO 130, PR 50, PRO 50, PL 20; N = 160,000 + 50,000 +
--- 25,000 - 40,000 is 195,000, so CAFEC 19.5, a half; Z 270.75; end 100
 abbrev pub thinTable : List Row
-thinTable =
-    figures thinDry 50 0 80 0 0 0 100 80 (pos 53) (negℤ (pos 35)) 50 0
-    ++ figures thinWet 0 0 20 50 130 50 50 20 (pos 20) (pos 271) 100 0
+thinTable = eachFigure thinDry thinDrySaid ++ eachFigure thinWet thinWetSaid
 
 abbrev pub waterTable : List Row
 waterTable =

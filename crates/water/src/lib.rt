@@ -18,7 +18,7 @@ const ONE: i64 = 10_000;
 // One, in the ten-thousandths of K times the ten-thousandths of another constant.
 const Z_DIVISOR: i64 = 100_000_000;
 
-// What the surface layer holds when it is full, in a soil that has as much: one inch.
+// One inch, which the surface layer holds where the soil does.
 const SURFACE: u32 = 1_000;
 
 // The soil: its capacity, and what each layer holds.
@@ -84,14 +84,14 @@ fn smaller(a: u32, b: u32) -> u32
     if a < b { a } else { b }
 }
 
-// What the surface layer holds when it is full: all of a thin soil.
+// What the surface layer holds when it is full: an inch, or all of a thinner soil.
 pub fn surface_holds(capacity: u32) -> u32
     ensures { λ r. ⌜ r ≡ surfaceHolds capacity ⌝ }
 {
     smaller(SURFACE, capacity)
 }
 
-// What the underlying layer holds when it is full: the rest, and nothing in a thin soil.
+// What the underlying layer holds when it is full: the rest, possibly nothing.
 pub fn underlying_holds(capacity: u32) -> u32
     ensures { λ r. ⌜ r ≡ underlyingHolds capacity ⌝ }
 {
