@@ -99,8 +99,8 @@ enum {
                                 length */
     CARD_NOT_SIXTY = 2,      /* constants not sixty numbers */
     CARD_CONSTANT = 3,       /* a constant outside its range */
-    CARD_CAPACITY = 4,       /* capacity outside its range */
-    CARD_STORAGE = 5,        /* a start storage negative or above its layer */
+    CARD_CAPACITY = 4,       /* capacity outside its range, 100 to 30,000 */
+    CARD_STORAGE = 5,        /* a start storage negative or above its layer: see card_soil */
     CARD_START_MONTH = 6,    /* start month not 1 to 12 */
     CARD_NOT_A_RUN = 7,      /* not a run: see card_run */
     CARD_MISSING_READING = 8,/* reading missing */
