@@ -1,6 +1,6 @@
 -- The laws of the two layers, for every capacity. With specs/Layers.antt, `surface_holds` and `underlying_holds` and their proofs,
--- this is all that knows how much the surface layer holds: other proofs keep `surfaceHolds` and `underlyingHolds` shut and use these laws.
--- Assumes nothing.
+-- this is all that knows how much the surface layer holds: other proofs keep `surfaceHolds` and `underlyingHolds` shut and use these laws, but
+-- for months with given numbers, which are computed. Assumes nothing.
 use mathlib.Core.Path.{_≡_}
 use Prim.Native.Nat.{ℕ, _+_, _≤_, _<_}
 use native.Mathlib.Omega.{arith}
