@@ -6,12 +6,13 @@ use mathlib.Core.List.{List, [], _∷_}
 use lib.IntN.{ℤ, pos}
 use Rattle.exact.specs.Worked.{Row, _gives_}
 use Rattle.outline.specs.Numbers.{lastMonth}
+use Rattle.water.specs.Worked.{of1}
 use Rattle.starts.specs.Start.{startRefusal}
 
 -- the constants of W1 (document 01), so many months of them
 abbrev months : ℕ → List ℤ
 months zero = []
-months (suc n) = pos 8000 ∷ pos 1000 ∷ pos 500 ∷ pos 2000 ∷ pos 15000 ∷ months n
+months (suc n) = pos (of1 .alpha) ∷ pos (of1 .beta) ∷ pos (of1 .gamma) ∷ pos (of1 .delta) ∷ pos (of1 .k) ∷ months n
 
 -- the number of a start with this capacity and these storages
 abbrev soil : ℕ → ℕ → ℕ → ℤ
