@@ -1,17 +1,23 @@
--- The laws of the calendar: it goes round the twelve months, and where the sixty constants are in range, so are the five of any of them.
--- Assumes nothing.
-use mathlib.Core.Path.{_≡_, refl}
-use mathlib.Core.Bool.{true}
+-- The laws of the calendar: it goes round the twelve months; where the sixty constants are in range, so are the five of any of them; and
+-- what the test for a K of 0 says, month by month. Assumes nothing.
+use mathlib.Core.Path.{_≡_, refl, sym, ap, _∙_}
+use mathlib.Core.Bool.{Bool, true, false, _||_, or-true, false≢true}
+use mathlib.Core.Logic.{_⊎_, inl, inr, ⊎-elim, _↔_}
 use mathlib.Core.List.{List}
-use Prim.Native.Nat.{ℕ, _+_, _%_, _≤_, _<_}
+use Prim.Native.Nat.{ℕ, zero, suc, _+_, _-_, _*_, _%_, _≤_, _<_}
+use native.Mathlib.Nat.{not-suc-le-zero, le-of-suc-le-suc, eq-or-lt-of-le}
+use native.Mathlib.Numerals.{add-one}
 use native.Mathlib.Omega.{arith}
-use lib.IntN.{ℤ, pos, natAbs}
+use borrow.Author.Tests.{eq-eqb, ne-eqb, eqb-true}
+use lib.Dec.{eqb}
+use lib.IntN.{ℤ, pos, negsuc, natAbs}
 use lib.ListN.{getD}
 use Rattle.outline.specs.Numbers.{manyConstants, manyOfAMonth, lastMonth}
+use Rattle.outline.proofs.Tests.{if-so}
 use Rattle.water.specs.Constants.{ConstantsFit}
 use Rattle.ranges.specs.Ranges.{limitOf, constantsFit, calendarFits}
 use Rattle.ranges.proofs.RangeLaws.{calendar-is, is-calendar, each-fits, constant-is}
-use Rattle.calendar.specs.Calendar.{placeOf, constantsAt, nextCalendar}
+use Rattle.calendar.specs.Calendar.{placeOf, constantsAt, zeroKWithin, someZeroK, ZeroK, nextCalendar}
 
 -- ---- the calendar
 -- the month after any is one of the twelve
@@ -51,3 +57,66 @@ module _ (l : List ℤ) (m : ℕ) (f : constantsFit l ≡ true) (c : calendarFit
         delta = at-place 3 (omega arith);
         weight = at-place 4 (omega arith);
       }
+
+-- ---- a K of 0
+-- one of two tests that do not both fail
+either : (t u : Bool) → (t || u) ≡ true → (t ≡ true) ⊎ (u ≡ true)
+either true u h = inl refl
+either false u h = inr h
+
+abs-zero : (x : ℤ) → natAbs x ≡ 0 → x ≡ pos 0
+abs-zero (pos n) e = ap pos e
+abs-zero (negsuc n) e = absurd (omega arith)
+
+module _ (l : List ℤ) where
+  pub none-yet : zeroKWithin l 0 ≡ false
+  unfolding zeroKWithin
+  none-yet = refl
+
+  -- the next month's
+  next-month : (m : ℕ) → zeroKWithin l (suc m) ≡ (zeroKWithin l m || eqb (constantsAt l (suc m) .k) 0)
+  unfolding zeroKWithin
+  next-month m = refl
+
+  k-at : (m : ℕ) → constantsAt l (suc m) .k ≡ natAbs (getD l (manyOfAMonth * m + 4) (pos 0))
+  unfolding constantsAt
+  k-at m = let e : suc m - 1 ≡ m = omega arith in rw e refl
+
+  pub not-yet : (m : ℕ) → zeroKWithin l m ≡ false → (getD l (manyOfAMonth * m + 4) (pos 0) ≡ pos 0 → ⊥) → zeroKWithin l (m + 1) ≡ false
+  not-yet m p q = simp add-one (next-month m ∙ rw (p, ne-eqb (constantsAt l (suc m) .k) 0 (λ e. q (abs-zero _ (sym (k-at m) ∙ e)))))
+
+  -- one is enough
+  within : (m n : ℕ) → m < n → constantsAt l (suc m) .k ≡ 0 → zeroKWithin l n ≡ true
+  within m zero h e = absurd (not-suc-le-zero h)
+  within m (suc n) h e =
+      ⊎-elim
+      (λ (b : m ≡ n). next-month n ∙ rw (sym b, eq-eqb (constantsAt l (suc m) .k) 0 e) (or-true (zeroKWithin l m)))
+      (λ (b : m < n). next-month n ∙ rw (within m n b e))
+      (eq-or-lt-of-le (le-of-suc-le-suc h))
+
+  pub found-zero : (m : ℕ) → m < lastMonth → getD l (manyOfAMonth * m + 4) (pos 0) ≡ pos 0 → someZeroK l ≡ true
+  found-zero m h e = within m lastMonth h (k-at m ∙ ap natAbs e)
+
+  -- and there is one where the test finds it
+  which : (n : ℕ) → n ≤ lastMonth → zeroKWithin l n ≡ true → ZeroK l
+  which zero h e = absurd (false≢true (sym none-yet ∙ e))
+  which (suc n) h e =
+      ⊎-elim
+      (λ a. which n (omega arith) a)
+      (λ b. record { month = suc n; one-of-twelve = is-calendar (suc n) (omega arith) h; nothing = eqb-true (constantsAt l (suc n) .k) 0 b })
+      (either (zeroKWithin l n) (eqb (constantsAt l (suc n) .k) 0) (sym (next-month n) ∙ e))
+
+  -- the test says what it is to say
+  pub zero-k-exactly : (someZeroK l ≡ true) ↔ ZeroK l
+  zero-k-exactly = (which lastMonth (omega arith), told)
+    where
+      told : ZeroK l → someZeroK l ≡ true
+      told z =
+          let c = calendar-is (z .month) (z .one-of-twelve) in
+          let e : suc (z .month - 1) ≡ z .month = omega arith in
+          within (z .month - 1) lastMonth (omega arith) (rw e (z .nothing))
+
+  pub no-zero-k-exactly : (someZeroK l ≡ false) ↔ (ZeroK l → ⊥)
+  no-zero-k-exactly =
+      let x = zero-k-exactly in
+      (λ f z. false≢true (sym f ∙ x .1 z), λ n. if-so (someZeroK l) (λ t. absurd (n (x .0 t))) (λ f. f))

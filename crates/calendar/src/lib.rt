@@ -1,6 +1,8 @@
-// What a month's work asks of the calendar: the month's five constants, and which month is next.
+// What a month's work asks of the calendar: the month's five constants, whether some month's K is 0, and which
+// month is next.
 //
-// `constants_at` is for the crate above, which holds the constants and the month in range before it calls.
+// `constants_at` is for the crate above, which holds the constants and the month in range before it calls, and so is
+// `some_zero_k`, which is handed sixty of them.
 use outline::LAST_MONTH;
 use outline::MANY_OF_A_MONTH;
 use water::Constants;
@@ -11,7 +13,12 @@ ghost use lib.IntN.{pos, natAbs};
 ghost use lib.ListN.{length, getD};
 ghost use Rattle.outline.specs.Numbers.{manyConstants};
 ghost use Rattle.ranges.specs.Ranges.{constantsFit, calendarFits};
-ghost use Rattle.calendar.specs.Calendar.{constantsAt, nextCalendar};
+ghost use Rattle.calendar.specs.Calendar.{constantsAt, someZeroK, nextCalendar};
+
+// The months of a year, and the place of K among a month's five constants.
+const MONTHS: usize = LAST_MONTH as usize;
+
+const PLACE_OF_K: usize = 4;
 
 // The constant at a place, which is not below zero.
 fn constant(c: &[i32], i: usize) -> u32
@@ -33,7 +40,7 @@ pub fn constants_at(c: &[i32], month: u32) -> Constants
     let beta = constant(c, at + 1);
     let gamma = constant(c, at + 2);
     let delta = constant(c, at + 3);
-    let k = constant(c, at + 4);
+    let k = constant(c, at + PLACE_OF_K);
     Constants {
         alpha,
         beta,
@@ -41,6 +48,22 @@ pub fn constants_at(c: &[i32], month: u32) -> Constants
         delta,
         k,
     }
+}
+
+// Some calendar month's K, the last of its five, is 0.
+pub fn some_zero_k(c: &[i32]) -> bool
+    requires { ⌜ manyConstants ≤ length (now c) ⌝ }
+    ensures { λ r. ⌜ r ≡ someZeroK (now (c .entry)) ⌝ }
+{
+    let mut month = 0;
+    while month < MONTHS {
+        let k = c[MANY_OF_A_MONTH * month + PLACE_OF_K];
+        if k == 0 {
+            return true;
+        }
+        month += 1;
+    }
+    false
 }
 
 // The calendar month after this one.

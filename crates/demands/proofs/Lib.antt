@@ -4,6 +4,7 @@ pub mod Sequence
 pub mod Rows
 pub mod Shown
 pub mod Honest
+pub mod ZeroK
 pub mod Soils
 pub mod Singly
 pub mod Demands

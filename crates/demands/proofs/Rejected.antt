@@ -19,10 +19,10 @@ use Rattle.water.specs.Layers.{surfaceHolds, underlyingHolds}
 use Rattle.spells.specs.Spells.{raised, lowered, largerInSize, provisional, steadyMonth, abatingValues, abatingMonth, founded, unfounded, tried, noSpell, endingMonth, inForce, stepOf}
 use Rattle.ending.specs.Ending.{turn, uOf, vOf, eOf, qOf, endingOf, percentOf}
 use Rattle.ranges.specs.Ranges.{limitOf, constantFits, constantsFitTo, calendarFits}
-use Rattle.calendar.specs.Calendar.{nextCalendar}
+use Rattle.calendar.specs.Calendar.{constantsAt, zeroKWithin, nextCalendar}
 use Rattle.runs.specs.Runs.{soilFits, sizesFit, signsFit, vFits, isRun}
 use Rattle.outline.specs.Numbers.{lengthFits, zFits}
-use Rattle.starts.specs.Start.{freshRun}
+use Rattle.starts.specs.Start.{freshRun, runForZ}
 use Rattle.runs.specs.declared.Run.{Run}
 use Rattle.refusals.specs.Columns.{Columns, columns, long, lengthsFit, columnsFit}
 use Rattle.refusals.specs.Refusals.{runRefusal, roomRefusal, waterRefusal, zRefusal, rowRefusal}
@@ -36,13 +36,15 @@ use Rattle.outline.proofs.Refusals.{or-first}
 abbrev minus : ℕ → ℤ
 minus n = negℤ (pos n)
 
--- a run as a start of this capacity gives it, with constants and storages of 0, and columns of n places
-abbrev pub bare : ℤ → Run
-bare capacity = freshRun (replicate 60 (pos 0)) capacity (pos 0) (pos 0) (pos 1)
+-- a run whose months are all a Z
+abbrev begun : Run
+begun = runForZ
 
-abbrev pub begun : Run
-begun = bare (pos 6000)
+-- one that is none: every K of it is 0
+abbrev weightless : Run
+weightless = freshRun (replicate 60 (pos 0)) (pos 6000) (pos 0) (pos 0) (pos 1)
 
+-- columns of n places
 abbrev pub blank : ℕ → Columns
 blank n = columns (replicate n (pos 0)) (replicate n (pos 0)) (replicate n (pos 0)) (replicate n (pos 0)) (replicate n 0)
 
@@ -93,10 +95,10 @@ record Worked : Type 0 where
   full-z : more full (pos 4000001) .answer .number ≡ 12
   full-p : addWater (full .answer .run) Missing Missing (full .columns) .answer .number ≡ 8
   one-fits : columnsFit (blank 1) ≡ true
-  no-run : rowOfRun (bare (pos 0)) 0 (blank 1) .number ≡ 7
+  no-run : rowOfRun weightless 0 (blank 1) .number ≡ 7
 
 worked : Worked
-unfolding nearest nearestℕ nextOf turn uOf vOf eOf qOf endingOf percentOf raised lowered largerInSize provisional steadyMonth abatingValues abatingMonth founded unfounded tried noSpell endingMonth inForce stepOf surfaceHolds underlyingHolds limitOf constantFits constantsFitTo calendarFits nextCalendar lengthFits zFits soilFits sizesFit signsFit vFits isRun reading lengthsFit runRefusal roomRefusal waterRefusal zRefusal rowRefusal taken addOutcomes addWater addZ rowOfRun
+unfolding nearest nearestℕ nextOf turn uOf vOf eOf qOf endingOf percentOf raised lowered largerInSize provisional steadyMonth abatingValues abatingMonth founded unfounded tried noSpell endingMonth inForce stepOf surfaceHolds underlyingHolds limitOf constantFits constantsFitTo constantsAt zeroKWithin calendarFits nextCalendar lengthFits zFits soilFits sizesFit signsFit vFits isRun reading lengthsFit runRefusal roomRefusal waterRefusal zRefusal rowRefusal taken addOutcomes addWater addZ rowOfRun
 worked =
     record {
       mild-taken = refl;
@@ -224,7 +226,7 @@ module _ (f : Run → Reading → Reading → Columns → Result) (keeps : (r : 
 module _ (f : Run → ℕ → Columns → Shown) (keeps : (r : Run) (i : ℕ) (cs : Columns) → f r i cs ≡ rowOfRun r i cs) where
   pub eleven-before-seven : ((r : Run) (i : ℕ) (cs : Columns) → columnsFit cs ≡ true → r .months ≤ i → f r i cs .number ≡ 11) → ⊥
   eleven-before-seven h =
-      let a = rw (keeps (bare (pos 0)) 0 (blank 1)) at (h (bare (pos 0)) 0 (blank 1)) in
+      let a = rw (keeps weightless 0 (blank 1)) at (h weightless 0 (blank 1)) in
       let n = sym (worked .no-run) ∙ a (worked .one-fits) (omega arith) in
       omega arith
 

@@ -18,9 +18,10 @@ use Rattle.water.specs.Expected.{potentialSurface, potentialUnderlying, potenti
 use Rattle.spells.specs.Spells.{raised, lowered, largerInSize, provisional, steadyMonth, abatingValues, abatingMonth, founded, unfounded, tried, noSpell, endingMonth, inForce, stepOf}
 use Rattle.ending.specs.Ending.{turn, uOf, vOf, eOf, qOf, endingOf, percentOf}
 use Rattle.ranges.specs.Ranges.{limitOf, constantFits, constantsFitTo, calendarFits}
-use Rattle.calendar.specs.Calendar.{constantsAt, nextCalendar}
+use Rattle.calendar.specs.Calendar.{constantsAt, zeroKWithin, nextCalendar}
 use Rattle.runs.specs.Runs.{soilFits, sizesFit, signsFit, vFits, isRun}
 use Rattle.outline.specs.Numbers.{lengthFits, zFits}
+use Rattle.starts.specs.Start.{freshRun, ones}
 use Rattle.runs.specs.declared.Run.{Run}
 use Rattle.refusals.specs.Columns.{Columns, long, lengthsFit, columnsFit}
 use Rattle.refusals.specs.Refusals.{runRefusal, roomRefusal, waterRefusal}
@@ -31,7 +32,11 @@ use Rattle.adding.specs.Taken.{taken, takenWater}
 use Rattle.adding.specs.declared.Figures.{Figures}
 use Rattle.season.specs.Season.{SeasonResult, addEach, seasonRefusal, addSeason}
 use Rattle.season_month.specs.Listed.{listed}
-use Rattle.demands.proofs.Rejected.{begun, blank}
+use Rattle.demands.proofs.Rejected.{blank}
+
+-- a run as a start gives it. With such constants a few thousandths of rain are no anomaly
+abbrev begun : Run
+begun = freshRun ones (pos 6000) (pos 0) (pos 0) (pos 1)
 
 -- a thousandth, two thousandths, and a missing month; PE is 0
 abbrev rain : List ℤ
@@ -70,7 +75,7 @@ record WorkedSeason : Type 0 where
   last-settled : last .answer .settled ≡ 1
 
 worked : WorkedSeason
-unfolding nearest nearestℕ nextOf turn uOf vOf eOf qOf endingOf percentOf raised lowered largerInSize provisional steadyMonth abatingValues abatingMonth founded unfounded tried noSpell endingMonth inForce stepOf surfaceHolds underlyingHolds underLoss balanceOf wetMonth toSurface toUnderlying potentialSurface potentialUnderlying potentialsOf nOf expectedOf zOf monthOf limitOf constantFits constantsFitTo constantsAt calendarFits nextCalendar lengthFits zFits soilFits sizesFit signsFit vFits isRun reading whole lengthsFit runRefusal roomRefusal waterRefusal taken takenWater addOutcomes addWater listed addEach seasonRefusal addSeason
+unfolding nearest nearestℕ nextOf turn uOf vOf eOf qOf endingOf percentOf raised lowered largerInSize provisional steadyMonth abatingValues abatingMonth founded unfounded tried noSpell endingMonth inForce stepOf surfaceHolds underlyingHolds underLoss balanceOf wetMonth toSurface toUnderlying potentialSurface potentialUnderlying potentialsOf nOf expectedOf zOf monthOf limitOf constantFits constantsFitTo constantsAt zeroKWithin calendarFits nextCalendar lengthFits zFits soilFits sizesFit signsFit vFits isRun reading whole lengthsFit runRefusal roomRefusal waterRefusal taken takenWater addOutcomes addWater listed addEach seasonRefusal addSeason
 worked =
     record {
       broken-number = refl;

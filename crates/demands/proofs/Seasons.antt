@@ -31,6 +31,7 @@ use Rattle.demands.specs.Seasons.{monthsOf, settledBy, lastOf, leftOf, S
 use Rattle.demands.proofs.Took.{Took, took, good-kept, months-next, x1-next, x2-next, x3-next}
 use Rattle.demands.proofs.Sequence.{after-append, accepted-append}
 use Rattle.demands.proofs.Honest.{zero-or, not-both, never-refused, good-always}
+use Rattle.demands.proofs.ZeroK.{zero-k-season}
 
 -- ---- what the months of two lists make of a season so far: n of them are added
 record Made (t : SeasonResult) (months : List Ask) (u : SeasonResult) : Type 0 where
@@ -295,4 +296,4 @@ honest constants c ss su m cs started fit asks ps pes e =
     season-honest (afterAll s asks .run) ps pes (afterAll s asks .columns) e g
 
 pub seasons : Seasons
-seasons = record { refused = refused; singly = singly; empty = empty; beyond = beyond; more = more; honest = honest }
+seasons = record { refused = refused; zero-k = λ r ps pes cs z. zero-k-season r cs z ps pes; singly = singly; empty = empty; beyond = beyond; more = more; honest = honest }

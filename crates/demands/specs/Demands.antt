@@ -4,14 +4,14 @@
 -- `rowsOfMonths` are in Months.antt beside this file; `forward`, the rule that looks forward from a month, is in the crate `hindsight`,
 -- specs/Rule.antt. Assumes nothing.
 use mathlib.Core.Path.{_≡_}
-use mathlib.Core.Bool.{true}
+use mathlib.Core.Bool.{true, cond}
 use mathlib.Core.Logic.{_↔_}
 use mathlib.Core.List.{List, _++_, map}
 use Prim.Native.Nat.{ℕ, _+_, _-_, _≤_, _<_}
 use lib.IntN.{ℤ, pos, natAbs}
 use lib.ListN.{length, getD, take, replicate}
 use Rattle.outline.specs.Numbers.{mostZ}
-use Rattle.outline.specs.Refusals.{badCapacity, badStorage}
+use Rattle.outline.specs.Refusals.{badLists, badCapacity, badStorage, notARun}
 use Rattle.door.specs.Readings.{reading, month}
 use Rattle.door.specs.declared.Reading.{Reading}
 use Rattle.door.specs.declared.MonthInches.{MonthInches}
@@ -20,13 +20,16 @@ use Rattle.water.specs.declared.Soil.{Soil}
 use Rattle.spells.specs.Spells.{stepOf}
 use Rattle.hindsight.specs.Rule.{Row, forward}
 use Rattle.hindsight_laws.specs.Counts.{NoneFrom, count}
+use Rattle.calendar.specs.Calendar.{constantsAt, ZeroK}
 use Rattle.starts.specs.Start.{startRefusal, startOf, freshRun, zeroRun}
+use Rattle.starts.specs.Given.{StartGives}
 use Rattle.runs.specs.declared.Run.{Run}
 use Rattle.series.specs.Series.{allZFit, seriesRefusal, filled, wholeSeries}
 use Rattle.refusals.specs.Columns.{Columns, long, columnsFit}
 use Rattle.refusals.specs.Refusals.{waterRefusal, zRefusal}
 use Rattle.adding.specs.Figures.{figuresOf, noFigures}
 use Rattle.adding.specs.Taken.{Result, heldBy}
+use Rattle.drought.specs.Calls.{rowOfRun}
 use Rattle.demands.specs.Months.{Ask, water, inches, anomaly, asked, State, after, afterAll, Accepted, stationOf, zFor, waterFor, rowsOfMonths}
 
 -- ---- 1. "Every reading, constant, month and list gets its answer or a numbered refusal. Nobody has to check beforehand. A refused call
@@ -59,6 +62,15 @@ pub record Demand1 : Type 0 where
       (constants : List ℤ) (c ss su m : ℤ)
       → (startOf constants c ss su m .number ≡ startRefusal constants c ss su m)
       × ((startRefusal constants c ss su m ≡ 0 → ⊥) → startOf constants c ss su m .run ≡ zeroRun)
+  -- each number of a start, exactly when
+  pub starts-exactly : (constants : List ℤ) (c ss su m : ℤ) (n : ℕ) → (startOf constants c ss su m .number ≡ n) ↔ StartGives constants c ss su m n
+  -- a run that holds a K of 0 is none: 7, whatever is asked of it; 1 is asked before
+  pub zero-k :
+      (r : Run) (cs : Columns) → ZeroK (r .constants)
+      → let k = cond (columnsFit cs) notARun badLists in
+      ((a : Ask) → asked r a cs .answer .number ≡ k) × ((i : ℕ) → rowOfRun r i cs .number ≡ k)
+  -- so no month that counts for nothing is ever added
+  pub counts : (r : Run) (a : Ask) (cs : Columns) → asked r a cs .answer .number ≡ 0 → 1 ≤ constantsAt (r .constants) (r .calendar) .k
   -- every whole series
   pub series :
       (z index : List ℤ) (mark : List ℕ)

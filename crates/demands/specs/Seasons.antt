@@ -2,11 +2,14 @@
 -- up to the first that a single add refuses. So each theorem of the three demands holds of its months as it stands. `seasons` of
 -- proofs/Seasons.antt proves it. Assumes nothing.
 use mathlib.Core.Path.{_≡_}
-use mathlib.Core.Bool.{true}
+use mathlib.Core.Bool.{true, _&&_, cond}
 use mathlib.Core.List.{List, [], _∷_, _++_}
 use Prim.Native.Nat.{ℕ, _+_, _≤_}
+use lib.Dec.{eqb}
 use lib.IntN.{ℤ, pos}
 use lib.ListN.{length, getD, take}
+use Rattle.outline.specs.Refusals.{badLists, notARun}
+use Rattle.calendar.specs.Calendar.{ZeroK}
 use Rattle.starts.specs.Start.{startRefusal}
 use Rattle.runs.specs.declared.Run.{Run}
 use Rattle.refusals.specs.Columns.{Columns, columnsFit}
@@ -64,6 +67,10 @@ pub record SameFrom (n : ℕ) (cs ds : Columns) : Type 0 where
 pub record Seasons : Type 0 where
   -- 1 and 7, before the first month: nothing is added
   pub refused : (r : Run) (ps pes : List ℤ) (cs : Columns) → (seasonRefusal r ps pes cs ≡ 0 → ⊥) → addSeason r ps pes cs ≡ seasonResult (nothing (seasonRefusal r ps pes cs) r) cs
+  -- 7 too where the run holds a K of 0
+  pub zero-k :
+      (r : Run) (ps pes : List ℤ) (cs : Columns) → ZeroK (r .constants)
+      → addSeason r ps pes cs .answer .number ≡ cond (eqb (length ps) (length pes) && columnsFit cs) notARun badLists
   -- otherwise it is what the single adds make of it
   pub singly : (r : Run) (ps pes : List ℤ) (cs : Columns) → seasonRefusal r ps pes cs ≡ 0 → Singly (record { run = r; columns = cs }) (monthsOf ps pes) (addSeason r ps pes cs)
   -- "Empty lists add nothing."

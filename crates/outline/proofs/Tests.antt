@@ -19,6 +19,11 @@ pub alike : (a b : Bool) → (a ≡ true → b ≡ true) → (a ≡ false → b 
 alike true b p q = sym (p refl)
 alike false b p q = sym (q refl)
 
+-- a test comes out one way or the other
+pub if-so : {A : Type 0} (t : Bool) → (t ≡ true → A) → (t ≡ false → A) → A
+if-so true p q = p refl
+if-so false p q = q refl
+
 -- both of two, and each
 pub both : {a b : Bool} → a ≡ true → b ≡ true → (a && b) ≡ true
 both p q = rw (p, q)

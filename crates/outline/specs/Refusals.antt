@@ -1,5 +1,5 @@
--- Document 01, the table of refusals: 0 is done. And the two ways in which a refusal is used: the first of several is the call's, and it
--- stands in for what the call would have done. Assumes nothing.
+-- Document 01, the table of refusals: 0 is done; and document 02's that its calls give. And the two ways in which a refusal is used: the
+-- first of several is the call's, and it stands in for what the call would have done. Assumes nothing.
 use Prim.Native.Nat.{ℕ, zero, suc}
 
 -- 1: the five columns, or the three lists of a whole series, not all of one length, or length 0 or above 2,400
@@ -53,6 +53,10 @@ badZ = 12
 -- 13: program only: a line is not a whole number
 abbrev pub notANumber : ℕ
 notANumber = 13
+
+-- 21: document 02, E11, "zero K, at a start right after 3"
+abbrev pub zeroK : ℕ
+zeroK = 21
 
 -- the first refusal of two
 abbrev pub orElse : ℕ → ℕ → ℕ

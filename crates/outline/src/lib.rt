@@ -69,3 +69,5 @@ pub const NO_SUCH_ROW: u8 = 11;
 pub const BAD_Z: u8 = 12;
 
 pub const NOT_A_NUMBER: u8 = 13;
+
+pub const ZERO_K: u8 = 21;

@@ -4,17 +4,15 @@
 use Prim.Native.Nat.{ℕ}
 use mathlib.Core.Bool.{Bool, cond, not, _||_}
 use mathlib.Core.List.{List}
-use lib.IntN.{ℤ, pos}
-use lib.ListN.{set, replicate}
+use lib.IntN.{ℤ}
+use lib.ListN.{set}
 use lib.Dec.{eqb}
-use Rattle.outline.specs.Numbers.{manyConstants}
 use Rattle.outline.specs.Refusals.{unlessRefused}
-use Rattle.water.specs.Layers.{leastCapacity}
 use Rattle.text.specs.Bytes.{lineFeed}
 use Rattle.lines.specs.Line.{Judged}
 use Rattle.lines.specs.Reading.{begun, fed, finished}
 use Rattle.lines.specs.declared.Line.{Line}
-use Rattle.starts.specs.Start.{startOf}
+use Rattle.starts.specs.Start.{runForZ}
 use Rattle.runs.specs.declared.Run.{Run}
 use Rattle.refusals.specs.Columns.{Columns}
 use Rattle.drought.specs.Calls.{addZ}
@@ -30,12 +28,8 @@ pub record State : Type 0 where
 abbrev pub state : Session → Columns → List ℕ → State
 state s cs ps = record { session = s; columns = cs; percents = ps }
 
--- a run that is started with the constants 0, the least capacity, empty storages and January: to an added Z none of these matters
-abbrev pub freshRun : Run
-freshRun = startOf (replicate manyConstants (pos 0)) (pos leastCapacity) (pos 0) (pos 0) (pos 1) .run
-
 abbrev pub fresh : Session
-fresh = record { line = begun; refused = 0; run = freshRun }
+fresh = record { line = begun; refused = 0; run = runForZ }
 
 -- a month's percent is kept, unless the month was refused
 abbrev pub percentKept : ℕ → ℕ → ℕ → List ℕ → List ℕ

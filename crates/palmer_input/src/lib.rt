@@ -12,6 +12,7 @@ use runs::Run;
 ghost use mathlib.Core.Path.{_≡_};
 ghost use mathlib.Core.List.{foldl};
 ghost use Rattle.refusals.specs.Columns.{columns};
+ghost use Rattle.starts.specs.Start.{runForZ};
 ghost use Rattle.palmer_input.specs.Input.{state, fresh, isBlank, percentKept, afterLine, withZ, lineClosed, byteFed, inputEnded};
 
 // What has been read: the line so far, the refusal that ended the reading (0: none yet), and the run.
@@ -28,14 +29,20 @@ const CAPACITY: i32 = LEAST_CAPACITY as i32;
 
 const JANUARY: i32 = 1;
 
+// A run for Z alone, as a start gives it. It looks at no constant either, but no K of a run is 0.
+fn run_for_z() -> Run
+    ensures { λ r. ⌜ r ≡ runForZ ⌝ }
+{
+    let ones = [1i32; MANY_CONSTANTS];
+    let started = drought::start(&ones, CAPACITY, 0, 0, JANUARY);
+    started.run
+}
+
 // A fresh run, and nothing read.
 pub fn begin() -> Session
     ensures { λ s. ⌜ s ≡ fresh ⌝ }
 {
-    let constants = [0i32; MANY_CONSTANTS];
-    let started = drought::start(&constants, CAPACITY, 0, 0, JANUARY);
-    let run = started.run;
-    after_line(0, run)
+    after_line(0, run_for_z())
 }
 
 // A month's percent, beside the columns; nothing where the month was refused.

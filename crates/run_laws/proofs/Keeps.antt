@@ -125,6 +125,7 @@ module _ (r : Run) (cs : Columns) (g : Good r cs) (room : r .months < long cs) w
           first-month = c .0;
           last-month = c .1;
           constants = f .constants;
+          all-count = f .all-count;
           month-constants = constants-at-fit (r .constants) (nextCalendar (r .calendar)) (f .constants) (calendar-next (r .calendar));
           x1-size = v .x1-size;
           x2-size = v .x2-size;

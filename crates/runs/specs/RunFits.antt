@@ -1,7 +1,7 @@
 -- A proof's vocabulary: a run as facts, what `isRun` tests, each as an order or a record of the crates below. The two say the same
 -- (proofs/RunLaws.antt, `run-fits` and `fits-run`). Assumes nothing.
 use mathlib.Core.Path.{_≡_}
-use mathlib.Core.Bool.{true}
+use mathlib.Core.Bool.{true, false}
 use Prim.Native.Nat.{ℕ, _*_, _≤_}
 use lib.IntN.{pos, natAbs}
 use lib.Signed.{_≤ℤ_, _<ℤ_}
@@ -9,7 +9,7 @@ use Rattle.outline.specs.Numbers.{mostX, mostU, lastMonth}
 use Rattle.water.specs.Layers.{SoilFits}
 use Rattle.water.specs.Constants.{ConstantsFit}
 use Rattle.ranges.specs.Ranges.{constantsFit}
-use Rattle.calendar.specs.Calendar.{constantsAt}
+use Rattle.calendar.specs.Calendar.{constantsAt, someZeroK}
 use Rattle.runs.specs.declared.Run.{Run}
 
 -- a run, for columns of this length
@@ -20,6 +20,7 @@ pub record RunFits (long : ℕ) (r : Run) : Type 0 where
   pub first-month : 1 ≤ r .calendar
   pub last-month : r .calendar ≤ lastMonth
   pub constants : constantsFit (r .constants) ≡ true
+  pub all-count : someZeroK (r .constants) ≡ false
   -- those of the calendar month, so
   pub month-constants : ConstantsFit (constantsAt (r .constants) (r .calendar))
   pub x1-size : natAbs (r .values .x1) ≤ mostX

@@ -1,6 +1,6 @@
--- Document 01, "Not a run", clause by clause, as tests. Assumes nothing.
+-- Document 01, "Not a run", clause by clause, as tests; and document 02, E11. Assumes nothing.
 use Prim.Native.Nat.{ℕ, _*_}
-use mathlib.Core.Bool.{Bool, _&&_, _||_}
+use mathlib.Core.Bool.{Bool, not, _&&_, _||_}
 use lib.IntN.{pos, natAbs}
 use lib.Signed.{leZ, ltZ}
 use lib.Dec.{leb}
@@ -9,6 +9,7 @@ use Rattle.water.specs.Layers.{leastCapacity, mostCapacity, surfaceHolds, under
 use Rattle.water.specs.declared.Soil.{Soil}
 use Rattle.spells.specs.declared.Running.{Running}
 use Rattle.ranges.specs.Ranges.{constantsFit, calendarFits}
+use Rattle.calendar.specs.Calendar.{someZeroK}
 use Rattle.runs.specs.declared.Run.{Run}
 
 -- "capacity or storages out of range": not so
@@ -36,12 +37,13 @@ unfoldable pub vFits : ℕ → Running → Bool
 vFits months v = leb (natAbs (v .v)) (mostU * months)
 
 -- a run, for columns of this length: "months above the column length; open months above months; constants, capacity or storages out of
--- range; calendar month not 1 to 12; ..": none of these
+-- range; calendar month not 1 to 12; ..": none of these. E11: "A zero K is now refused .. in a run"
 unfoldable pub isRun : ℕ → Run → Bool
 isRun long r =
     leb (r .months) long
     && leb (r .opens) (r .months)
     && constantsFit (r .constants)
+    && not (someZeroK (r .constants))
     && soilFits (r .soil)
     && calendarFits (r .calendar)
     && sizesFit (r .values)

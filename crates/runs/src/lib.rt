@@ -135,6 +135,9 @@ pub fn is_run(long: usize, at: Progress, constants: &[i32; MANY_CONSTANTS]) -> b
     if !ranges::constants_fit(constants) {
         return false;
     }
+    if calendar::some_zero_k(constants) {
+        return false;
+    }
     let soil = at.soil;
     if !soil_fits(soil) {
         return false;

@@ -1,22 +1,26 @@
--- What the numbers of a start that is not refused say, its refusals one by one and in their order, and that no other start is refused. A chain
--- of tests, each taken apart once. Assumes nothing.
-use mathlib.Core.Path.{_≡_, refl, sym}
-use mathlib.Core.Bool.{Bool, true, false, _&&_, cond}
+-- What the numbers of a start that is not refused say, its refusals one by one and in their order, that no other start is refused, and
+-- so each number exactly when. A chain of tests, each taken apart once. Assumes nothing.
+use mathlib.Core.Path.{_≡_, refl, sym, _∙_, subst}
+use mathlib.Core.Bool.{Bool, true, false, not, _&&_, cond}
+use mathlib.Core.Logic.{_↔_}
 use mathlib.Core.List.{List}
 use Prim.Native.Nat.{ℕ, suc, _≤_}
 use native.Mathlib.Omega.{arith}
-use borrow.Author.Tests.{eq-eqb, ne-eqb, eqb-true}
+use borrow.Author.Tests.{eq-eqb, ne-eqb, eqb-true, eqb-false}
 use lib.Dec.{eqb}
 use lib.IntN.{ℤ, pos, natAbs}
 use lib.ListN.{length}
 use lib.Signed.{leZ, _≤ℤ_}
 use Rattle.outline.specs.Numbers.{manyConstants, lastMonth}
-use Rattle.outline.proofs.Tests.{first, second}
+use Rattle.outline.proofs.Tests.{if-so, first, second}
 use Rattle.outline.proofs.Refusals.{is-refused}
 use Rattle.exact.proofs.Z.{zs-abs, is-Z}
 use Rattle.water.specs.Layers.{leastCapacity, mostCapacity, surfaceHolds, underlyingHolds}
 use Rattle.ranges.specs.Ranges.{constantsFit}
+use Rattle.calendar.specs.Calendar.{someZeroK}
+use Rattle.calendar.proofs.CalendarLaws.{zero-k-exactly, no-zero-k-exactly}
 use Rattle.starts.specs.Start.{upTo, capacityFits, storagesFit, monthFits, startRefusal, zeroRun, freshRun, started, startOf}
+use Rattle.starts.specs.Given.{ConstantsTaken, StartGives, gives-2, gives-3, gives-21, gives-4, gives-5, gives-6, gives-0}
 
 -- ---- what a start is given
 -- a number from a least to a most, as orders
@@ -48,6 +52,7 @@ module _ (c ss su : ℤ) (h : storagesFit c ss su ≡ true) where
 pub record StartFits (cs : List ℤ) (c ss su m : ℤ) : Type 0 where
   pub sixty : length cs ≡ manyConstants
   pub constants : constantsFit cs ≡ true
+  pub all-count : someZeroK cs ≡ false
   pub capacity : capacityFits c ≡ true
   pub storages : storagesFit c ss su ≡ true
   pub month : monthFits m ≡ true
@@ -55,15 +60,16 @@ pub record StartFits (cs : List ℤ) (c ss su m : ℤ) : Type 0 where
 lots : (k : ℕ) → suc k ≡ 0 → ⊥
 lots k h = omega arith
 
--- five tests, all passed
-all-passed : (a b c d e : Bool) → _≡_ {A = ℕ} (cond a (cond b (cond c (cond d (cond e 0 6) 5) 4) 3) 2) 0
-    → (a ≡ true) × (b ≡ true) × (c ≡ true) × (d ≡ true) × (e ≡ true)
-all-passed true true true true true h = (refl, refl, refl, refl, refl)
-all-passed true true true true false h = absurd (lots 5 h)
-all-passed true true true false e h = absurd (lots 4 h)
-all-passed true true false d e h = absurd (lots 3 h)
-all-passed true false c d e h = absurd (lots 2 h)
-all-passed false b c d e h = absurd (lots 1 h)
+-- six tests, all passed
+all-passed : (a b c d e f : Bool) → _≡_ {A = ℕ} (cond a (cond b (cond (not c) (cond d (cond e (cond f 0 6) 5) 4) 21) 3) 2) 0
+    → (a ≡ true) × (b ≡ true) × (c ≡ false) × (d ≡ true) × (e ≡ true) × (f ≡ true)
+all-passed true true false true true true h = (refl, refl, refl, refl, refl, refl)
+all-passed true true false true true false h = absurd (lots 5 h)
+all-passed true true false true false f h = absurd (lots 4 h)
+all-passed true true false false e f h = absurd (lots 3 h)
+all-passed true true true d e f h = absurd (lots 20 h)
+all-passed true false c d e f h = absurd (lots 2 h)
+all-passed false b c d e f h = absurd (lots 1 h)
 
 module _ (cs : List ℤ) (c ss su m : ℤ) where
   -- "constants not sixty numbers"
@@ -76,33 +82,75 @@ module _ (cs : List ℤ) (c ss su m : ℤ) where
   unfolding startRefusal
   refused-3 l h = rw (eq-eqb (length cs) manyConstants l, h)
 
-  -- "capacity outside its range"
-  pub refused-4 : length cs ≡ manyConstants → constantsFit cs ≡ true → capacityFits c ≡ false → startRefusal cs c ss su m ≡ 4
+  -- "zero K"
+  pub refused-21 : length cs ≡ manyConstants → constantsFit cs ≡ true → someZeroK cs ≡ true → startRefusal cs c ss su m ≡ 21
   unfolding startRefusal
-  refused-4 l f h = rw (eq-eqb (length cs) manyConstants l, f, h)
+  refused-21 l f h = rw (eq-eqb (length cs) manyConstants l, f, h)
 
-  -- "a start storage negative or above its layer"
-  pub refused-5 : length cs ≡ manyConstants → constantsFit cs ≡ true → capacityFits c ≡ true → storagesFit c ss su ≡ false → startRefusal cs c ss su m ≡ 5
-  unfolding startRefusal
-  refused-5 l f k h = rw (eq-eqb (length cs) manyConstants l, f, k, h)
+  -- the tests of the constants are passed
+  module _ (l : length cs ≡ manyConstants) (f : constantsFit cs ≡ true) (z : someZeroK cs ≡ false) where
+    -- "capacity outside its range"
+    pub refused-4 : capacityFits c ≡ false → startRefusal cs c ss su m ≡ 4
+    unfolding startRefusal
+    refused-4 h = rw (eq-eqb (length cs) manyConstants l, f, z, h)
 
-  -- "start month not 1 to 12"
-  pub refused-6 : length cs ≡ manyConstants → constantsFit cs ≡ true → capacityFits c ≡ true → storagesFit c ss su ≡ true → monthFits m ≡ false
-      → startRefusal cs c ss su m ≡ 6
-  unfolding startRefusal
-  refused-6 l f k s h = rw (eq-eqb (length cs) manyConstants l, f, k, s, h)
+    -- "a start storage negative or above its layer"
+    pub refused-5 : capacityFits c ≡ true → storagesFit c ss su ≡ false → startRefusal cs c ss su m ≡ 5
+    unfolding startRefusal
+    refused-5 k h = rw (eq-eqb (length cs) manyConstants l, f, z, k, h)
+
+    -- "start month not 1 to 12"
+    pub refused-6 : capacityFits c ≡ true → storagesFit c ss su ≡ true → monthFits m ≡ false → startRefusal cs c ss su m ≡ 6
+    unfolding startRefusal
+    refused-6 k s h = rw (eq-eqb (length cs) manyConstants l, f, z, k, s, h)
 
   -- no other start is refused
   pub not-refused : StartFits cs c ss su m → startRefusal cs c ss su m ≡ 0
   unfolding startRefusal
-  not-refused f = rw (eq-eqb (length cs) manyConstants (f .sixty), f .constants, f .capacity, f .storages, f .month)
+  not-refused f = rw (eq-eqb (length cs) manyConstants (f .sixty), f .constants, f .all-count, f .capacity, f .storages, f .month)
 
   -- and one that is not refused has everything in range
   pub start-fits : startRefusal cs c ss su m ≡ 0 → StartFits cs c ss su m
   unfolding startRefusal
   start-fits h =
-      let p = all-passed (eqb (length cs) manyConstants) (constantsFit cs) (capacityFits c) (storagesFit c ss su) (monthFits m) h in
-      record { sixty = eqb-true (length cs) manyConstants (p .0); constants = p .1; capacity = p .2; storages = p .3; month = p .4 }
+      let p = all-passed (eqb (length cs) manyConstants) (constantsFit cs) (someZeroK cs) (capacityFits c) (storagesFit c ss su) (monthFits m) h in
+      record { sixty = eqb-true (length cs) manyConstants (p .0); constants = p .1; all-count = p .2; capacity = p .3; storages = p .4; month = p .5 }
+
+  -- ---- each number, given exactly when
+  constants-taken : length cs ≡ manyConstants → constantsFit cs ≡ true → someZeroK cs ≡ false → ConstantsTaken cs
+  constants-taken l f z = record { sixty = l; fit = f; all-count = no-zero-k-exactly cs .0 z }
+
+  given : StartGives cs c ss su m (startRefusal cs c ss su m)
+  given =
+      if-so (eqb (length cs) manyConstants) (λ a. sixty (eqb-true (length cs) manyConstants a)) (λ a. let n = eqb-false (length cs) manyConstants a in gives-2 (refused-2 n) n)
+    where
+      soil : length cs ≡ manyConstants → constantsFit cs ≡ true → someZeroK cs ≡ false → capacityFits c ≡ true → StartGives cs c ss su m (startRefusal cs c ss su m)
+      soil l f z k =
+          let t = constants-taken l f z in
+          if-so (storagesFit c ss su)
+          (λ s. if-so (monthFits m) (λ h. gives-0 (not-refused (record { sixty = l; constants = f; all-count = z; capacity = k; storages = s; month = h })) t k s h) (λ h. gives-6 (refused-6 l f z k s h) t k s h))
+          (λ s. gives-5 (refused-5 l f z k s) t k s)
+
+      sixty : length cs ≡ manyConstants → StartGives cs c ss su m (startRefusal cs c ss su m)
+      sixty l =
+          if-so (constantsFit cs)
+          (λ f. if-so (someZeroK cs) (λ z. gives-21 (refused-21 l f z) l f (zero-k-exactly cs .0 z)) (λ z. if-so (capacityFits c) (λ k. soil l f z k) (λ k. gives-4 (refused-4 l f z k) (constants-taken l f z) k)))
+          (λ f. gives-3 (refused-3 l f) l f)
+
+  pub given-exactly : (n : ℕ) → (startRefusal cs c ss su m ≡ n) ↔ StartGives cs c ss su m n
+  given-exactly n = (λ e. subst (StartGives cs c ss su m) e given, back)
+    where
+      none : ConstantsTaken cs → someZeroK cs ≡ false
+      none t = no-zero-k-exactly cs .1 (t .all-count)
+
+      back : StartGives cs c ss su m n → startRefusal cs c ss su m ≡ n
+      back (gives-2 e h) = refused-2 h ∙ sym e
+      back (gives-3 e l h) = refused-3 l h ∙ sym e
+      back (gives-21 e l f z) = refused-21 l f (zero-k-exactly cs .1 z) ∙ sym e
+      back (gives-4 e t h) = refused-4 (t .sixty) (t .fit) (none t) h ∙ sym e
+      back (gives-5 e t k h) = refused-5 (t .sixty) (t .fit) (none t) k h ∙ sym e
+      back (gives-6 e t k s h) = refused-6 (t .sixty) (t .fit) (none t) k s h ∙ sym e
+      back (gives-0 e t k s h) = not-refused (record { sixty = t .sixty; constants = t .fit; all-count = none t; capacity = k; storages = s; month = h }) ∙ sym e
 
   -- a refused start answers with its number and a run of all zeros
   pub refused-start : (n : ℕ) → n ≡ startRefusal cs c ss su m → (n ≡ 0 → ⊥) → startOf cs c ss su m ≡ record { number = n; run = zeroRun }

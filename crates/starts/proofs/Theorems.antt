@@ -1,7 +1,7 @@
--- The theorems about a start: one that is not refused gives a run, every soil that fits has one, and the promise of `start` allows one
--- answer. Assumes nothing.
-use mathlib.Core.Path.{_≡_, sym, _∙_}
-use mathlib.Core.Bool.{Bool, true, false, cond}
+-- The theorems about a start: one that is not refused gives a run, there is one for Z alone, every soil that fits has one, and the promise
+-- of `start` allows one answer. Assumes nothing.
+use mathlib.Core.Path.{_≡_, refl, sym, _∙_}
+use mathlib.Core.Bool.{Bool, true, false, not, cond}
 use mathlib.Core.List.{List}
 use Prim.Native.Nat.{ℕ, _≤_}
 use native.Mathlib.Omega.{arith}
@@ -10,18 +10,19 @@ use lib.Dec.{eqb}
 use lib.IntN.{ℤ, pos, natAbs}
 use lib.ListN.{length}
 use Rattle.outline.specs.Numbers.{manyConstants}
-use Rattle.outline.specs.Refusals.{notSixty, badConstant, badCapacity, badStorage, badMonth}
+use Rattle.outline.specs.Refusals.{notSixty, badConstant, zeroK, badCapacity, badStorage, badMonth}
 use Rattle.outline.proofs.Tests.{both}
 use Rattle.exact.proofs.Orders.{natural}
 use Rattle.water.specs.Layers.{leastCapacity, mostCapacity, surfaceHolds, underlyingHolds, SoilFits}
 use Rattle.water.specs.declared.Soil.{Soil}
-use Rattle.ranges.specs.Ranges.{constantsFit}
+use Rattle.ranges.specs.Ranges.{limitOf, constantFits, constantsFitTo, constantsFit}
 use Rattle.ranges.proofs.RangeLaws.{is-calendar}
+use Rattle.calendar.specs.Calendar.{constantsAt, zeroKWithin, someZeroK}
 use Rattle.calendar.proofs.CalendarLaws.{constants-at-fit}
 use Rattle.runs.specs.Runs.{isRun}
 use Rattle.runs.specs.RunFits.{RunFits}
 use Rattle.runs.proofs.RunLaws.{fits-run}
-use Rattle.starts.specs.Start.{upTo, capacityFits, storagesFit, monthFits, startRefusal, freshRun, startOf}
+use Rattle.starts.specs.Start.{upTo, capacityFits, storagesFit, monthFits, startRefusal, freshRun, started, startOf, ones, runForZ}
 use Rattle.starts.specs.declared.Started.{Started}
 use Rattle.starts.proofs.StartLaws.{capacity-is, month-is, surface-is, underlying-is, start-fits}
 
@@ -39,6 +40,7 @@ module _ (cs : List ℤ) (c ss su m : ℤ) where
         first-month = n .1;
         last-month = n .2;
         constants = f .constants;
+        all-count = f .all-count;
         month-constants = constants-at-fit cs (natAbs m) (f .constants) (is-calendar (natAbs m) (n .1) (n .2));
         x1-size = omega arith;
         x2-size = omega arith;
@@ -58,6 +60,11 @@ module _ (cs : List ℤ) (c ss su m : ℤ) where
   pub one-start : (a b : Started) → a ≡ startOf cs c ss su m → b ≡ startOf cs c ss su m → a ≡ b
   one-start a b p q = p ∙ sym q
 
+-- a run for Z alone is what its start gives
+pub for-z : startOf ones (pos leastCapacity) (pos 0) (pos 0) (pos 1) ≡ started 0 runForZ
+unfolding startOf startRefusal capacityFits storagesFit monthFits limitOf constantFits constantsFitTo constantsAt zeroKWithin surfaceHolds underlyingHolds
+for-z = refl
+
 -- ---- every soil that fits has its start
 -- a number that is not below 0, and not above the most
 up-to : (most n : ℕ) → n ≤ most → upTo most (pos n) ≡ true
@@ -70,16 +77,17 @@ soil-passes s f = (
   both (up-to (surfaceHolds (s .capacity)) (s .surface) (f .surface)) (up-to (underlyingHolds (s .capacity)) (s .underlying) (f .underlying)),
 )
 
--- neither 4 nor 5 is left of the five tests
-neither : (a b e : Bool) → let k = cond a (cond b (cond e 0 badMonth) badConstant) notSixty in (k ≡ badCapacity → ⊥) × (k ≡ badStorage → ⊥)
-neither true true true = ((λ h. omega arith), (λ h. omega arith))
-neither true true false = ((λ h. omega arith), (λ h. omega arith))
-neither true false e = ((λ h. omega arith), (λ h. omega arith))
-neither false b e = ((λ h. omega arith), (λ h. omega arith))
+-- neither 4 nor 5 is left of the six tests
+neither : (a b z e : Bool) → let k = cond a (cond b (cond (not z) (cond e 0 badMonth) zeroK) badConstant) notSixty in (k ≡ badCapacity → ⊥) × (k ≡ badStorage → ⊥)
+neither true true false true = ((λ h. omega arith), (λ h. omega arith))
+neither true true false false = ((λ h. omega arith), (λ h. omega arith))
+neither true true true e = ((λ h. omega arith), (λ h. omega arith))
+neither true false z e = ((λ h. omega arith), (λ h. omega arith))
+neither false b z e = ((λ h. omega arith), (λ h. omega arith))
 
 pub soil-starts : (cs : List ℤ) (s : Soil) (m : ℤ) → SoilFits s
     → let k = startRefusal cs (pos (s .capacity)) (pos (s .surface)) (pos (s .underlying)) m in (k ≡ badCapacity → ⊥) × (k ≡ badStorage → ⊥)
 unfolding startRefusal
 soil-starts cs s m f =
     let p = soil-passes s f in
-    rw (p .0, p .1) (neither (eqb (length cs) manyConstants) (constantsFit cs) (monthFits m))
+    rw (p .0, p .1) (neither (eqb (length cs) manyConstants) (constantsFit cs) (someZeroK cs) (monthFits m))

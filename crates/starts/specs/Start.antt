@@ -1,15 +1,17 @@
--- Document 01, "What can be asked": start a run. Its refusals in their order, 2 to 6, and the run that it gives. Assumes nothing.
+-- Document 01, "What can be asked": start a run. Its refusals in their order, 2 to 6 with document 02's 21 after 3, and the run that it
+-- gives. Assumes nothing.
 use Prim.Native.Nat.{ℕ}
-use mathlib.Core.Bool.{Bool, _&&_, cond}
+use mathlib.Core.Bool.{Bool, not, _&&_, cond}
 use mathlib.Core.List.{List}
 use lib.IntN.{ℤ, pos, natAbs}
 use lib.Signed.{leZ}
 use lib.Dec.{eqb}
 use lib.ListN.{length, replicate}
-use Rattle.outline.specs.Refusals.{notSixty, badConstant, badCapacity, badStorage, badMonth, unlessRefused}
+use Rattle.outline.specs.Refusals.{notSixty, badConstant, zeroK, badCapacity, badStorage, badMonth, unlessRefused}
 use Rattle.water.specs.Layers.{leastCapacity, mostCapacity, surfaceHolds, underlyingHolds}
 use Rattle.spells.specs.Values.{fresh}
 use Rattle.ranges.specs.Ranges.{constantsFit}
+use Rattle.calendar.specs.Calendar.{someZeroK}
 use Rattle.outline.specs.Numbers.{manyConstants, lastMonth}
 use Rattle.runs.specs.declared.Run.{Run}
 use Rattle.starts.specs.declared.Started.{Started}
@@ -30,11 +32,13 @@ storagesFit c ss su = upTo (surfaceHolds (natAbs c)) ss && upTo (underlyingHolds
 unfoldable pub monthFits : ℤ → Bool
 monthFits m = leZ (pos 1) m && leZ m (pos lastMonth)
 
--- "Order at a start, which takes no columns: 2 to 6."
+-- "Order at a start, which takes no columns: 2 to 6." E11: "21 zero K, at a start right after 3"
 unfoldable pub startRefusal : List ℤ → ℤ → ℤ → ℤ → ℤ → ℕ
 startRefusal constants c ss su m =
     cond (eqb (length constants) manyConstants)
-    (cond (constantsFit constants) (cond (capacityFits c) (cond (storagesFit c ss su) (cond (monthFits m) 0 badMonth) badStorage) badCapacity) badConstant)
+    (cond (constantsFit constants)
+    (cond (not (someZeroK constants)) (cond (capacityFits c) (cond (storagesFit c ss su) (cond (monthFits m) 0 badMonth) badStorage) badCapacity) zeroK)
+    badConstant)
     notSixty
 
 -- "A refusal returns its number .. (a refused start: all zeros)"
@@ -68,3 +72,12 @@ unfoldable pub startOf : List ℤ → ℤ → ℤ → ℤ → ℤ → Started
 startOf constants c ss su m =
     let k = startRefusal constants c ss su m in
     unlessRefused k (started 0 (freshRun constants c ss su m)) (started k zeroRun)
+
+-- sixty ones: no Z is reckoned with a station's constants, and to be a run's they must only be in range, with no K of 0
+abbrev pub ones : List ℤ
+ones = replicate manyConstants (pos 1)
+
+-- A RUN FOR Z ALONE: what is started where no month of water is to come. The capacity is the least, the storages are empty, and the month
+-- is January: no Z is reckoned with any of them
+abbrev pub runForZ : Run
+runForZ = freshRun ones (pos leastCapacity) (pos 0) (pos 0) (pos 1)

@@ -1,9 +1,10 @@
--- Document 02, E5, "Thin soils": what a start answers at and beside the ends of the capacity and of both layers, so that the numbers
--- themselves are claimed and not only their names. The crate `demands` joins these rows to the table of worked months, and its one claim
--- is that every row agrees. Assumes nothing.
+-- Document 02, E5, "Thin soils", and E11, "A month that counts for nothing": what a start answers at and beside the ends of the capacity
+-- and of both layers, and with a K of 0, so that the numbers themselves are claimed and not only their names. The crate `demands` joins
+-- these rows to the table of worked months, and its one claim is that every row agrees. Assumes nothing.
 use Prim.Native.Nat.{ℕ, zero, suc}
 use mathlib.Core.List.{List, [], _∷_}
 use lib.IntN.{ℤ, pos}
+use lib.ListN.{set}
 use Rattle.exact.specs.Worked.{Row, _gives_}
 use Rattle.outline.specs.Numbers.{lastMonth}
 use Rattle.water.specs.Worked.{of1}
@@ -39,4 +40,34 @@ soilTable =
     ∷ (soil 30000 1000 29000 gives pos 0)
     ∷ (soil 30000 0 29001 gives pos 5)
     ∷ (soil 30001 0 0 gives pos 4)
+    ∷ []
+
+-- the number of a start with W1's constants, of which the one at this place is another, and this capacity
+abbrev with : ℕ → ℕ → ℕ → ℤ
+with place n c = pos (startRefusal (set (months lastMonth) place (pos n)) (pos c) (pos 0) (pos 0) (pos 1))
+
+abbrev pub kTable : List Row
+kTable =
+    -- "21 zero K": of any calendar month, and of the K alone; a K of 1 will do
+    (with 4 0 6000 gives pos 21)
+    ∷ (with 9 0 6000 gives pos 21)
+    ∷ (with 14 0 6000 gives pos 21)
+    ∷ (with 19 0 6000 gives pos 21)
+    ∷ (with 24 0 6000 gives pos 21)
+    ∷ (with 29 0 6000 gives pos 21)
+    ∷ (with 34 0 6000 gives pos 21)
+    ∷ (with 39 0 6000 gives pos 21)
+    ∷ (with 44 0 6000 gives pos 21)
+    ∷ (with 49 0 6000 gives pos 21)
+    ∷ (with 54 0 6000 gives pos 21)
+    ∷ (with 59 0 6000 gives pos 21)
+    ∷ (with 14 1 6000 gives pos 0)
+    ∷ (with 10 0 6000 gives pos 0)
+    ∷ (with 11 0 6000 gives pos 0)
+    ∷ (with 12 0 6000 gives pos 0)
+    ∷ (with 13 0 6000 gives pos 0)
+    -- "at a start right after 3": before 4, and after all sixty are in range
+    ∷ (with 14 0 99 gives pos 21)
+    ∷ (with 14 100001 6000 gives pos 3)
+    ∷ (pos (startRefusal (set (set (months lastMonth) 14 (pos 0)) 59 (pos 100001)) (pos 6000) (pos 0) (pos 0) (pos 1)) gives pos 3)
     ∷ []

@@ -6,6 +6,7 @@ use outline::BAD_STORAGE;
 use outline::LAST_MONTH;
 use outline::MANY_CONSTANTS;
 use outline::NOT_SIXTY;
+use outline::ZERO_K;
 use ranges::LEAST_CAPACITY;
 use ranges::MOST_CAPACITY;
 use runs::Run;
@@ -46,7 +47,7 @@ fn month_fits(m: i32) -> bool
     ranges::signed_between(1, m, LAST_MONTH)
 }
 
-// The number of a start's refusal, or 0: decided here, in the paper's order.
+// The number of a start's refusal, or 0: decided here, in the paper's order, with 21 after 3.
 fn start_refusal(constants: &[i32], c: i32, ss: i32, su: i32, m: i32) -> u8
     ensures { λ r. ⌜ r ≡ startRefusal (now (constants .entry)) c ss su m ⌝ }
 {
@@ -54,9 +55,13 @@ fn start_refusal(constants: &[i32], c: i32, ss: i32, su: i32, m: i32) -> u8
         return NOT_SIXTY;
     }
     let constants_in = ranges::constants_fit(constants);
+    let zero_k = calendar::some_zero_k(constants);
     let capacity_in = capacity_fits(c);
     if !constants_in {
         return BAD_CONSTANT;
+    }
+    if zero_k {
+        return ZERO_K;
     }
     if !capacity_in {
         return BAD_CAPACITY;
@@ -109,7 +114,7 @@ fn zero_run() -> Run
     }
 }
 
-// Starts a run, or refuses with 2 to 6 and a run of all zeros.
+// Starts a run, or refuses with 2, 3, 21, 4, 5 or 6 and a run of all zeros.
 pub fn start(constants: &[i32], capacity: i32, surface: i32, underlying: i32, month: i32) -> Started
     ensures { λ r. ⌜ r ≡ startOf (now (constants .entry)) capacity surface underlying month ⌝ }
 {

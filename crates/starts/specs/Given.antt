@@ -1,0 +1,35 @@
+-- Which number a start gives, and exactly when: one case for each number, in the order in which they are asked. The tests before its own
+-- were passed, and its own was not. Assumes nothing.
+use mathlib.Core.Path.{_≡_}
+use mathlib.Core.Bool.{true, false}
+use mathlib.Core.List.{List}
+use Prim.Native.Nat.{ℕ}
+use lib.IntN.{ℤ}
+use lib.ListN.{length}
+use Rattle.outline.specs.Numbers.{manyConstants}
+use Rattle.outline.specs.Refusals.{notSixty, badConstant, zeroK, badCapacity, badStorage, badMonth}
+use Rattle.ranges.specs.Ranges.{constantsFit}
+use Rattle.calendar.specs.Calendar.{ZeroK}
+use Rattle.starts.specs.Start.{capacityFits, storagesFit, monthFits}
+
+-- sixty constants, each in its range, and no calendar month's K is 0
+pub record ConstantsTaken (cs : List ℤ) : Type 0 where
+  pub sixty : length cs ≡ manyConstants
+  pub fit : constantsFit cs ≡ true
+  pub all-count : ZeroK cs → ⊥
+
+pub data StartGives (cs : List ℤ) (c ss su m : ℤ) (n : ℕ) : Type 0 where
+  -- "constants not sixty numbers"
+  gives-2 : n ≡ notSixty → (length cs ≡ manyConstants → ⊥) → StartGives cs c ss su m n
+  -- "a constant outside its range"
+  gives-3 : n ≡ badConstant → length cs ≡ manyConstants → constantsFit cs ≡ false → StartGives cs c ss su m n
+  -- "zero K": 3 looks at all sixty first, and lets a 0 through
+  gives-21 : n ≡ zeroK → length cs ≡ manyConstants → constantsFit cs ≡ true → ZeroK cs → StartGives cs c ss su m n
+  -- "capacity outside its range"
+  gives-4 : n ≡ badCapacity → ConstantsTaken cs → capacityFits c ≡ false → StartGives cs c ss su m n
+  -- "a start storage negative or above its layer"
+  gives-5 : n ≡ badStorage → ConstantsTaken cs → capacityFits c ≡ true → storagesFit c ss su ≡ false → StartGives cs c ss su m n
+  -- "start month not 1 to 12"
+  gives-6 : n ≡ badMonth → ConstantsTaken cs → capacityFits c ≡ true → storagesFit c ss su ≡ true → monthFits m ≡ false → StartGives cs c ss su m n
+  -- and 0 where none of these holds
+  gives-0 : n ≡ 0 → ConstantsTaken cs → capacityFits c ≡ true → storagesFit c ss su ≡ true → monthFits m ≡ true → StartGives cs c ss su m n
