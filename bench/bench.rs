@@ -549,12 +549,13 @@ mod stack {
 
     fn deepest_start() -> usize {
         let constants = fresh_run().constants;
-        let bad = [-1; 60];
+        let (bad, zero_k) = ([-1; 60], [0; 60]);
         let tries = [
             (&constants, 60, 6_000, 0, 1),
             (&constants, 59, 6_000, 0, 1),
             (&bad, 60, 6_000, 0, 1),
-            (&constants, 60, 999, 0, 1),
+            (&zero_k, 60, 6_000, 0, 1),
+            (&constants, 60, 99, 0, 1),
             (&constants, 60, 6_000, -1, 1),
             (&constants, 60, 6_000, 0, 13),
         ];

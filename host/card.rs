@@ -16,6 +16,7 @@ pub const BAD_READING: u8 = 9;
 pub const FULL: u8 = 10;
 pub const NO_ROW: u8 = 11;
 pub const BAD_Z: u8 = 12;
+pub const ZERO_K: u8 = 21;
 
 /// What a column holds at most, how many constants a station has, and the two marks of a month.
 pub const MOST_MONTHS: usize = 2400;
@@ -39,6 +40,7 @@ pub fn meaning(number: u8) -> &'static str {
         FULL => "months already equal the column length",
         NO_ROW => "row number not below the months added",
         BAD_Z => "Z outside its range",
+        ZERO_K => "a K of 0, by which a month counts for nothing",
         _ => "no number of this library",
     }
 }

@@ -51,7 +51,7 @@ static const char *const CALENDAR[12] = {"January", "February", "March",     "Ap
 static const char *const CONSTANT[5] = {"alpha", "beta", "gamma", "delta", "K"};
 /* The ranges in words, for whom the library has refused; see card_start. */
 static const char *const CONSTANT_RANGE[5] = {"0 to 10000", "0 to 10000", "0 to 50000", "0 to 10000",
-                                              "0 to 100000"};
+                                              "1 to 100000"};
 
 /* ---- What is said ----------------------------------------------------------------------------------------- */
 
@@ -502,11 +502,11 @@ static void refuse_whole(whole n, const char *name, uint8_t number, const char *
            name, range);
 }
 
-/* Asks again with zeros for all constants but one: the one that is refused by itself is the place. */
+/* Asks again with ones for all constants but one: the one that is refused by itself is the place. */
 static void refuse_constant(const station *st, int32_t calendar, uint8_t number) {
     for (int i = 0; i < CARD_CONSTANTS; i++) {
-        int32_t alone[CARD_CONSTANTS] = {0};
-        alone[i] = st->constants[i].value;
+        int32_t alone[CARD_CONSTANTS];
+        for (int j = 0; j < CARD_CONSTANTS; j++) alone[j] = j == i ? st->constants[i].value : 1;
         card_started again = card_start(alone, CARD_CONSTANTS, st->capacity.value, st->surface.value,
                                         st->underlying.value, calendar);
         if (again.number == number)
@@ -521,7 +521,7 @@ static card_run start(const station *st) {
     for (int i = 0; i < CARD_CONSTANTS; i++) constants[i] = st->constants[i].value;
     card_started a = card_start(constants, CARD_CONSTANTS, capacity, surface, underlying, calendar);
     if (a.number == CARD_DONE) return a.run;
-    if (a.number == CARD_CONSTANT) refuse_constant(st, calendar, a.number);
+    if (a.number == CARD_CONSTANT || a.number == CARD_ZERO_K) refuse_constant(st, calendar, a.number);
     if (a.number == CARD_CAPACITY) refuse_whole(st->capacity, "capacity", a.number, "100 to 30000");
     /* of the two storages, the one that is refused beside 0 for the other */
     if (a.number == CARD_STORAGE) {

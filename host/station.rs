@@ -10,7 +10,7 @@ mod card;
 
 use card::{
     meaning, Columns, Figures, Reading, Run, Shown, BAD_READING, CAPACITY_OUT, CONSTANTS, CONSTANT_OUT, DONE,
-    FULL, MISSING_READING, MOST_MONTHS, SETTLED, STORAGE_OUT,
+    FULL, MISSING_READING, MOST_MONTHS, SETTLED, STORAGE_OUT, ZERO_K,
 };
 use std::fs::File;
 use std::io::{Read, Write};
@@ -29,7 +29,7 @@ const CALENDAR: [&str; 12] = ["January", "February", "March", "April", "May", "J
                               "July", "August", "September", "October", "November", "December"];
 const CONSTANT: [&str; 5] = ["alpha", "beta", "gamma", "delta", "K"];
 /// The ranges in words, for whom the library has refused; see card_start.
-const CONSTANT_RANGE: [&str; 5] = ["0 to 10000", "0 to 10000", "0 to 50000", "0 to 10000", "0 to 100000"];
+const CONSTANT_RANGE: [&str; 5] = ["0 to 10000", "0 to 10000", "0 to 50000", "0 to 10000", "1 to 100000"];
 
 // ---- What is said ---------------------------------------------------------------------------------------------
 
@@ -601,10 +601,10 @@ fn refuse_whole<T>(n: Whole, name: &str, number: u8, range: &str) -> Result<T, S
     refuse(n.word.at, format!("{name} {} is refused ({number}: {why}), {name} is {range}", n.word.said()))
 }
 
-/// Asks again with zeros for all constants but one: the one that is refused by itself is the place.
+/// Asks again with ones for all constants but one: the one that is refused by itself is the place.
 fn refuse_constant(st: &Station, calendar: i32, number: u8) -> Result<(), Stop> {
     for (i, constant) in st.constants.iter().enumerate() {
-        let mut alone = [0; CONSTANTS];
+        let mut alone = [1; CONSTANTS];
         alone[i] = constant.value;
         let (capacity, surface, underlying) = (st.capacity.value, st.surface.value, st.underlying.value);
         if card::start(&alone, capacity, surface, underlying, calendar).number == number {
@@ -622,7 +622,7 @@ fn start(st: &Station) -> Result<Run, Stop> {
     let a = card::start(&constants, capacity, surface, underlying, calendar);
     match a.number {
         DONE => return Ok(a.run),
-        CONSTANT_OUT => refuse_constant(st, calendar, a.number)?,
+        CONSTANT_OUT | ZERO_K => refuse_constant(st, calendar, a.number)?,
         CAPACITY_OUT => return refuse_whole(st.capacity, "capacity", a.number, "100 to 30000"),
         // of the two storages, the one that is refused beside 0 for the other
         STORAGE_OUT => {

@@ -66,12 +66,12 @@
  * The deepest stack of each call of the library in bytes, as bench/run measures it:
  *
  *     card_read               8
- *     card_start            296
+ *     card_start            312
  *     card_add_water       2136
  *     card_add_inches      2120
  *     card_add_z           1480
  *     card_add_season      2024
- *     card_row              520
+ *     card_row              536
  *     card_whole_series   41080
  *
  * It is counted from the return address, which is included, down to the lowest word of 8 bytes that was
@@ -107,7 +107,8 @@ enum {
     CARD_BAD_READING = 9,    /* reading not acceptable */
     CARD_FULL = 10,          /* months already equal the column length */
     CARD_NO_ROW = 11,        /* row number not below the months added */
-    CARD_BAD_Z = 12          /* Z outside its range */
+    CARD_BAD_Z = 12,         /* Z outside its range */
+    CARD_ZERO_K = 21         /* a K of 0: every such month would count for nothing */
 };
 
 /* What a number means, in words. */
@@ -126,6 +127,7 @@ static inline const char *card_meaning(uint8_t number) {
     case CARD_FULL: return "months already equal the column length";
     case CARD_NO_ROW: return "row number not below the months added";
     case CARD_BAD_Z: return "Z outside its range";
+    case CARD_ZERO_K: return "a K of 0, by which a month counts for nothing";
     default: return "no number of this library";
     }
 }
@@ -218,9 +220,15 @@ typedef struct card_values {
  * and its settled months may then change.
  *
  * These are not a run, and the calls refuse them (7): months above the column length; open months above
- * months; a constant, the capacity or a storage out of range; a calendar month not 1 to 12; an X beyond
- * 13,000,000 in size; X1 negative or X2 positive; V beyond 4,000,150 x months in size; V above 0 without
- * X3 below 0, or V below 0 without X3 above 0.
+ * months; a constant, the capacity or a storage out of range; a K of 0; a calendar month not 1 to 12; an X
+ * beyond 13,000,000 in size; X1 negative or X2 positive; V beyond 4,000,150 x months in size; V above 0
+ * without X3 below 0, or V below 0 without X3 above 0.
+ *
+ * A card may hold a run that was started with a K of 0 before that was refused. Every call refuses it now,
+ * card_row too: not even its rows are shown. Where run.constants[5 * month - 1] is 0, month 1 to 12, put the
+ * station's K for that month there, and it is a run again, with its columns as they stand. What they hold is
+ * not made right by that: each month of water of that name was added with a Z of 0, and settled months stay
+ * as they are. To have them judged with the K, start anew and add all months again, in other columns.
  *
  * 7 is no checksum. A run that was damaged within these ranges is taken, and so are constants that were
  * copied in the wrong order: whoever swaps a card compares all sixty with the station's own list. */
@@ -238,14 +246,19 @@ typedef struct card_started {
     card_run run;
 } card_started;
 
-/* Starts a run of no months. Refusals, in this order: 2, 3, 4, 5, 6. It takes no columns and writes
+/* Starts a run of no months. Refusals, in this order: 2, 3, 21, 4, 5, 6. It takes no columns and writes
  * nothing that is lent.
  *
  * constants: sixty numbers, January first, each month in the order alpha, beta, gamma, delta, K. Alpha,
- * beta, delta 0 to 10,000; gamma 0 to 50,000; K 0 to 100,000. Zero is a value, never "missing".
+ * beta, delta 0 to 10,000; gamma 0 to 50,000; K 1 to 100,000. Zero is a value, never "missing"; of the K
+ * alone it is refused, with a number of its own (21), since the Z of such a month is 0 whatever falls. 3 comes
+ * first, for any of the sixty. A K of 1 is taken, and weighs as good as nothing.
  * capacity: 100 to 30,000. surface: what the surface layer stores at the start, 0 to the smaller of 1,000 and
  * capacity. underlying: the same of the underlying layer, 0 to capacity - 1,000; 0 where capacity is below
  * 1,000. month: the calendar month of the first month to be added, 1 to 12.
+ *
+ * A run to which Z alone will be added is started with sixty ones and any soil: a Z that is given is not
+ * reckoned with them. It is for no month of water.
  *
  * The constants are those that were worked out with this capacity: another capacity needs others. A thin soil
  * keeps little of the months before. With a capacity of 100, a month whose PE passes its rain by a tenth of

@@ -84,13 +84,13 @@ def station():
 
 
 def refusals():
-    """README's table has the header's words, and for 13 the program's."""
+    """README's table has the header's words, for 13 the program's, and 14 to 16, which are the division file's."""
     table = {int(number): words for number, words in re.findall(r'^\| (\d+) \| (.*) \|$', README, re.M)}
     names = dict(re.findall(r'(CARD_\w+) = (\d+)', text('include', 'card.h').split('/* What a number means')[0]))
     header = {int(names[name]): words for name, words in re.findall(r'case (CARD_\w+): return "(.*)";', text('include', 'card.h'))}
     numbers = dict(re.findall(r'^pub const (\w+): u8 = (\d+);$', text('host', 'card.rs'), re.M))
     rust = {int(numbers[name]): words for name, words in re.findall(r'^\s*([A-Z]\w+) => "(.*)",$', text('host', 'card.rs'), re.M)}
-    if sorted(table) != list(range(17)) or {k: v for k, v in table.items() if k < 13} != header or header != rust:
+    if sorted(table) != list(range(17)) + [21] or {k: v for k, v in table.items() if k not in range(13, 17)} != header or header != rust:
         sys.exit('readme: the table of refusals differs from card_meaning of include/card.h, or meaning of host/card.rs')
     if not program.MEANS[13].endswith(b'13 means: ' + table[13].encode() + b'\n'):
         sys.exit('readme: 13 is told otherwise by palmer')

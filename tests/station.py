@@ -335,12 +335,21 @@ def end_cases():
 
 def library_cases():
     """What the library refuses, at its place."""
-    ranges = (b'0 to 10000', b'0 to 10000', b'0 to 50000', b'0 to 10000', b'0 to 100000')
+    ranges = (b'0 to 10000', b'0 to 10000', b'0 to 50000', b'0 to 10000', b'1 to 100000')
     for number in (JANUARY, JANUARY + 5, DECEMBER):
         for place, (name, span, word) in enumerate(zip((b'alpha', b'beta', b'gamma', b'delta', b'K'), ranges, (b'10001', b'60000', b'50001', b'-1', b'100001'))):
             data, column = worded(number, place + 1, word)
             said = name + b' ' + word + b' is refused (3: a constant outside its range), ' + name + b' is ' + span
             yield 'line %d, %s %s' % (number, name.decode(), word.decode()), data, number, column, said
+    zero_k = b'K 0 is refused (21: a K of 0, by which a month counts for nothing), K is 1 to 100000'
+    for number in range(JANUARY, DECEMBER + 1):
+        data, column = worded(number, 5, b'0')
+        yield 'line %d, K 0' % number, data, number, column, zero_k
+    data, column = worded(JANUARY + 2, 5, b'0')
+    yield 'K 0 and a capacity', data.replace(b'capacity 6000', b'capacity 1'), JANUARY + 2, column, zero_k
+    data, column = worded(DECEMBER, 5, b'100001')
+    march = LINES[JANUARY + 1]
+    yield 'K 0 in March and a December K', data.replace(march, march.rsplit(b' ', 1)[0] + b' 0'), DECEMBER, column, b'K 100001 is refused (3: a constant outside its range), K is 1 to 100000'
     two = worded(DECEMBER, 5, b'-2147483648')[0].replace(b'722', b'2147483647')
     yield 'two constants', two, JANUARY, 14, b'beta 2147483647 is refused (3: a constant outside its range)'
     yield 'a constant and all that comes after it', two.replace(b'capacity 6000', b'capacity 1').replace(b'5.56', b'-'), JANUARY, 14, b'beta 2147483647 is refused (3: '

@@ -14,7 +14,7 @@ use crate::season::Months;
 use crate::whole_series::whole_refusals;
 
 /// All the calls that take a run.
-fn all_calls(c: &mut Check, run: &Run, lists: &mut Lists) {
+pub fn all_calls(c: &mut Check, run: &Run, lists: &mut Lists) {
     let z = c.random.within(-3_000, 3_000) as i32;
     c.add(Add::Z(z), run, lists);
     let (p, pe) = (pick_reading(&mut c.random, 9_000), pick_reading(&mut c.random, 9_000));

@@ -20,6 +20,9 @@ pub enum Call {
 const CALLS: [&str; 8] =
     ["read", "start", "add water", "add inches", "add Z", "add season", "row", "whole series"];
 
+/// The numbers that a call may answer with.
+const NUMBERS: [usize; 14] = [0, 1, 2, 3, 4, 5, 6, 7, 8, 9, 10, 11, 12, 21];
+
 pub fn differ(call: Call, inputs: &dyn Debug, library: &dyn Debug, reference: &dyn Debug) -> ! {
     println!("difference at {}", CALLS[call as usize]);
     println!("inputs: {inputs:?}");
@@ -53,7 +56,7 @@ pub struct Check {
     pub random: Random,
     kinds: Vec<(&'static str, u64)>,
     kind: usize,
-    refused: [[u64; 13]; CALLS.len()],
+    refused: [[u64; 22]; CALLS.len()],
     branches: Branches,
     pub seasons: Seasons,
 }
@@ -64,7 +67,7 @@ impl Check {
             random: Random(seed),
             kinds: Vec::new(),
             kind: 0,
-            refused: [[0; 13]; CALLS.len()],
+            refused: [[0; 22]; CALLS.len()],
             branches: Branches::default(),
             seasons: Seasons::default(),
         }
@@ -110,9 +113,9 @@ impl Check {
             println!("{name:<34}{cases:>12}");
         }
         println!();
-        println!("{:<12}{}", "answered", (0..13).map(|number| format!("{number:>10}")).collect::<String>());
+        println!("{:<12}{}", "answered", NUMBERS.map(|number| format!("{number:>10}")).concat());
         for (name, row) in CALLS.iter().zip(&self.refused) {
-            println!("{name:<12}{}", row.iter().map(|count| format!("{count:>10}")).collect::<String>());
+            println!("{name:<12}{}", NUMBERS.map(|number| format!("{:>10}", row[number])).concat());
         }
         println!();
         let b = &self.branches;

@@ -25,6 +25,7 @@ mod start;
 mod thin;
 mod whole_series;
 mod worked;
+mod zero_k;
 
 use check::Check;
 
@@ -54,6 +55,7 @@ fn main() {
     add_water::water_at_ends(&mut check);
     add_water::constants_in_use(&mut check);
     thin::thin_soils(&mut check);
+    zero_k::zero_k(&mut check);
     add_inches::edges_in_inches(&mut check);
     add_z::ties(&mut check);
     add_z::ends_for_years(&mut check);

@@ -1,6 +1,6 @@
-//! Document 01 in plain Rust and in its order, with document 02's season in one call (E2) and thin soils (E5), written
-//! from these two alone, for the library to be compared with and measured against. The sentences quoted in the comments are the
-//! documents'. It shares the library's data types and nothing else. A call borrows the run and changes it only
+//! Document 01 in plain Rust and in its order, with document 02's season in one call (E2), thin soils (E5) and refused
+//! zero K (E11), written from these two alone, for the library to be compared with and measured against. The sentences
+//! quoted in the comments are the documents'. It shares the library's data types and nothing else. A call borrows the run and changes it only
 //! where it does what it was asked, a season month by month.
 #![allow(dead_code)]
 
@@ -53,6 +53,7 @@ pub enum Refusal {
     Full = 10,
     NoRow = 11,
     BadZ = 12,
+    ZeroK = 21,
 }
 
 // ---- Readings at the door ----------------------------------------------------------------------------------
@@ -332,6 +333,11 @@ fn constants_in_range(constants: &[i32]) -> bool {
         .all(|month| month.iter().zip(&MOST_CONSTANT).all(|(c, most)| (0..=*most).contains(c)))
 }
 
+/// "A month that counts for nothing".
+fn holds_zero_k(constants: &[i32]) -> bool {
+    constants.chunks_exact(5).any(|month| month[4] == 0)
+}
+
 /// Neither layer "above its layer".
 #[inline]
 fn storages_in_range(soil: &Soil) -> bool {
@@ -339,11 +345,14 @@ fn storages_in_range(soil: &Soil) -> bool {
     soil.surface <= surface && soil.underlying <= underlying
 }
 
-/// "Start a run." "Order at a start, which takes no columns: 2 to 6."
+/// "Start a run." "Order at a start, which takes no columns: 2 to 6." "21 zero K, at a start right after 3".
 pub fn start(constants: &[i32], capacity: i32, surface: i32, underlying: i32, month: i32) -> Result<Run, Refusal> {
     let constants: &[i32; 60] = constants.try_into().map_err(|_| Refusal::NotSixty)?;
     if !constants_in_range(constants) {
         return Err(Refusal::Constant);
+    }
+    if holds_zero_k(constants) {
+        return Err(Refusal::ZeroK);
     }
     // A number below 0 comes out above every range.
     let soil = Soil { capacity: capacity as u32, surface: surface as u32, underlying: underlying as u32 };
@@ -382,7 +391,7 @@ fn check(run: &Run, k: &Columns) -> Result<usize, Refusal> {
     }
 }
 
-/// The paragraph "Not a run", turned round.
+/// The paragraph "Not a run", turned round. "A run holding one is 7": a zero K.
 fn is_run(run: &Run, length: usize) -> bool {
     let Values { x1, x2, x3, v } = run.values;
     run.months as usize <= length
@@ -397,6 +406,7 @@ fn is_run(run: &Run, length: usize) -> bool {
         && (v <= 0 || x3 < 0)
         && (v >= 0 || x3 > 0)
         && constants_in_range(&run.constants)
+        && !holds_zero_k(&run.constants)
 }
 
 /// Adds a month whose water and Z are known. The month's place is there.

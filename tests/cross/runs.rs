@@ -14,7 +14,8 @@ pub const NO_RUN: Run = Run {
     constants: [0; 60],
 };
 
-/// The most that each of a month's five constants may be.
+/// The least that each of a month's five constants may be in a run, and the most.
+const LEAST: [i32; 5] = [0, 0, 0, 0, 1];
 pub const MOST: [i32; 5] = [10_000, 10_000, 50_000, 10_000, 100_000];
 
 /// Sixty good constants: like a real station's, or anywhere in their ranges, or at their ends.
@@ -23,8 +24,8 @@ pub fn good_constants(random: &mut Random) -> Vec<i32> {
     let constant = |place: usize| match way {
         0 => random.within([7_000, 0, 0, 0, 9_000][place % 5], [10_000, 4_000, 2_500, 6_000, 25_000][place % 5])
             as i32,
-        1 => random.within(0, i64::from(MOST[place % 5])) as i32,
-        _ => random.pick(&[0, 1, MOST[place % 5] - 1, MOST[place % 5]]),
+        1 => random.within(i64::from(LEAST[place % 5]), i64::from(MOST[place % 5])) as i32,
+        _ => random.pick(&[LEAST[place % 5], LEAST[place % 5] + 1, MOST[place % 5] - 1, MOST[place % 5]]),
     };
     (0..60).map(constant).collect()
 }
@@ -63,7 +64,7 @@ pub fn any_good_run(random: &mut Random, length: usize) -> Run {
         calendar: month,
         soil: Soil { capacity, surface, underlying },
         values,
-        constants: good_constants(random).try_into().unwrap_or([0; 60]),
+        constants: good_constants(random).try_into().unwrap_or([-1; 60]),
     }
 }
 

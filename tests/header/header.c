@@ -292,16 +292,16 @@ static call good_call(int kind) {
 /* ---- What is tried -------------------------------------------------------------------------------- */
 
 static void try_meanings(void) {
-    static const char *const words[15] = {
+    static const char *const words[13] = {
         "done", "lists not all of one length, or length 0 or above 2,400", "constants not sixty numbers",
         "a constant outside its range", "capacity outside its range",
         "a start storage negative or above its layer", "start month not 1 to 12", "not a run",
         "reading missing", "reading not acceptable", "months already equal the column length",
-        "row number not below the months added", "Z outside its range", "no number of this library",
-        "no number of this library"};
-    for (int i = 0; i < 15; i++) {
-        uint8_t number = (uint8_t)(i < 14 ? i : 255);
-        check("card_meaning", strcmp(card_meaning(number), words[i]) == 0, words[i]);
+        "row number not below the months added", "Z outside its range"};
+    for (int i = 0; i < 256; i++) {
+        const char *expected = i < 13 ? words[i] : "no number of this library";
+        if (i == 21) expected = "a K of 0, by which a month counts for nothing";
+        check("card_meaning", strcmp(card_meaning((uint8_t)i), expected) == 0, expected);
     }
 }
 
@@ -606,6 +606,58 @@ static void try_thin(void) {
     }
 }
 
+/* ---- A K of 0 ------------------------------------------------------------------------------------- */
+
+/* At a start it is 21, and 3 where a constant is out of range, of whichever month. Any other constant may be 0. */
+static void try_zero_k_at_a_start(void) {
+    card_run zeros = {0};
+    for (int place = 0; place < CARD_CONSTANTS; place++) {
+        int32_t list[CARD_CONSTANTS];
+        memcpy(list, CONSTANTS, sizeof list);
+        list[place] = 0;
+        card_started a = card_start(list, CARD_CONSTANTS, 6000, 0, 1330, 6);
+        check_number("a constant of 0", a.number, place % 5 == 4 ? CARD_ZERO_K : CARD_DONE);
+        if (place % 5 != 4) continue;
+        check("a K of 0", same_run(&a.run, &zeros), "not a run of zeros");
+        check_number("a K of 0", card_start(list, CARD_CONSTANTS, 99, 0, 0, 0).number, CARD_ZERO_K);
+        list[place == 59 ? 4 : 59] = 100001;
+        check_number("a K of 0", card_start(list, CARD_CONSTANTS, 6000, 0, 1330, 6).number, CARD_CONSTANT);
+    }
+}
+
+/* A run that holds one is refused by every call until its K is put in, and is then what it was. */
+static void try_zero_k_in_a_run(void) {
+    lists held = fresh_lists();
+    card_columns k = lent(&held, MONTHS);
+    card_run run = card_add_water_in(k, station(), card_whole(5560), card_whole(4800)).run;
+    const lists before = held;
+    for (int i = 0; i < 12 * KINDS; i++) {
+        int32_t *weight = &run.constants[5 * (i / KINDS + 1) - 1], good = *weight;
+        *weight = 0;
+        answer a = by_columns(good_call(i % KINDS), run, k);
+        check_refused("a run with a K of 0", &a, CARD_NOT_A_RUN, run);
+        check("a run with a K of 0", same_lists(&held, &before), "something was written");
+        *weight = good;
+        check("a K put in", card_row_in(k, run, 0).index == 1047, "the row is not shown");
+    }
+}
+
+/* A run for Z alone: sixty ones, and any soil. */
+static void try_z_alone(void) {
+    lists held = fresh_lists(), other = held;
+    int32_t ones[CARD_CONSTANTS];
+    for (int i = 0; i < CARD_CONSTANTS; i++) ones[i] = 1;
+    card_started a = card_start(ones, CARD_CONSTANTS, 100, 0, 0, 1);
+    check_number("sixty ones", a.number, CARD_DONE);
+    card_run run = a.run, stations = station();
+    for (int i = 0; i < MONTHS; i++) {
+        int32_t z = i % 3 == 0 ? -2000 : 900;
+        run = card_add_z_in(lent(&held, MONTHS), run, z).run;
+        stations = card_add_z_in(lent(&other, MONTHS), stations, z).run;
+    }
+    check("sixty ones", same_lists(&held, &other), "a Z is reckoned with constants");
+}
+
 /* ---- Missing months ------------------------------------------------------------------------------- */
 
 /* A missing reading is 8, and leaves run, calendar and columns; a season stops at it. */
@@ -719,6 +771,9 @@ int main(void) {
     try_pointers();
     try_soils();
     try_thin();
+    try_zero_k_at_a_start();
+    try_zero_k_in_a_run();
+    try_z_alone();
     try_missing();
     try_waiting();
     try_z_0();

@@ -41,6 +41,11 @@ impl Card {
         Ok(Card { run: started.run, x, mark: vec![0; months] })
     }
 
+    /// A run for Z alone: no Z is reckoned with constants or soil, but no K of a run is 0.
+    pub fn for_z(when: When, months: usize) -> Result<Card, Fault> {
+        Card::start(&[1; card::CONSTANTS], [100, 0, 0], when, months)
+    }
+
     pub fn soil(&self) -> Soil {
         let soil = self.run.soil;
         [soil.capacity, soil.surface, soil.underlying].map(|amount| amount as i32)

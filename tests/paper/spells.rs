@@ -1,17 +1,14 @@
 //! The paper's spells of western Kansas: table 13, table 12 and the text of sections 9 and 10.
 
-use crate::card::{Added, CONSTANTS};
+use crate::card::Added;
 use crate::listing::Part;
-use crate::runs::{Card, Soil};
+use crate::runs::Card;
 use crate::tables::{Fault, Tables, When};
 
 /// What may be off, in thousandths: two units of the last place printed for an index, which the paper carried in
 /// hundredths from month to month, and one for V and for a percent.
 pub const INDEX: i32 = 20;
 const LAST_PLACE: i32 = 10;
-
-/// A Z needs neither constants nor soil.
-const NO_SOIL: Soil = [1_000, 0, 0];
 
 /// What the text can tell of a month, with what the library has. A percent is a part of 1.
 fn spells(month: &Added) -> [(&'static str, i32, i32); 5] {
@@ -28,7 +25,7 @@ fn spells(month: &Added) -> [(&'static str, i32, i32); 5] {
 /// Months from `first` on, after a month that left X1 so and nothing else, held to the text and to table 13.
 fn years(tables: &Tables, name: &'static str, first: When, x1: i32, z: &[i32]) -> Result<Part, Fault> {
     let (text, x) = (tables.find("text, western Kansas")?, tables.find("table 13, western Kansas")?);
-    let mut card = Card::start(&[0; CONSTANTS], NO_SOIL, first, z.len())?;
+    let mut card = Card::for_z(first, z.len())?;
     card.run.values.x1 = x1;
     let mut months = Vec::new();
     for (when, &z) in first.and_on(z.len() as u32).zip(z) {

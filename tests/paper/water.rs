@@ -98,9 +98,10 @@ const KANSAS_CAPACITY: i32 = 6_000;
 const PARTS: [(&str, &str); 4] =
     [("alpha_PE", "alpha PE"), ("beta_PR", "beta PR"), ("gamma_S", "gamma PRO"), ("delta_PL", "delta PL")];
 
-/// What one of alpha, beta, gamma and delta makes of a month: the CAFEC with that constant alone, delta's part turned.
+/// What one of alpha, beta, gamma and delta makes of a month: the CAFEC with that constant alone, delta's part turned. K,
+/// which no CAFEC is made with, stays.
 fn expected(constants: &[i32], which: usize, soil: Soil, when: When, [p, pe]: [i32; 2]) -> Result<i32, Fault> {
-    let alone: Vec<i32> = constants.iter().enumerate().map(|(n, c)| if n % 5 == which { *c } else { 0 }).collect();
+    let alone: Vec<i32> = constants.iter().enumerate().map(|(n, c)| if n % 5 == which || n % 5 == 4 { *c } else { 0 }).collect();
     let cafec = Card::start(&alone, soil, when, 1)?.add_water(when, p, pe)?.figures.water.cafec;
     Ok(if which == 3 { -cafec } else { cafec })
 }
