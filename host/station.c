@@ -14,7 +14,7 @@
  *   surface 0                            what the surface layer stores at the start: 0 to 1000, or to capacity if less
  *   underlying 1330                      what the underlying layer stores then: 0 to capacity - 1000, or 0 if less
  *   constants alpha beta gamma delta K   these words
- *   January 9466 722 23 4694 25800       twelve lines, January to December, ten-thousandths
+ *   January 9466 722 23 4694 25800       twelve lines, January to December, ten-thousandths; no K is 0
  *   months inches                        or: months millimetres
  *   1932-06 5.56 4.80                    year and month, precipitation, PE; each month follows the one before
  *   end                                  nothing after it

@@ -13,7 +13,7 @@ use Rattle.demands.specs.Demands.{Demand1, Demand2, Demand3}
 use Rattle.demands.proofs.Shown.{refused-add, refused-start, figures-are, layers-hold, water-balances, inches-balance, settled-is-hindsight, open-exactly-when, settled-stays-settled, values-never-change, open-are-last, opens-are-counted, settled-are-counted}
 use Rattle.demands.proofs.Soils.{z-given, soil-started, soil-always}
 use Rattle.demands.proofs.Honest.{never-refused-7}
-use Rattle.demands.proofs.ZeroK.{starts-exactly, zero-k, counts}
+use Rattle.demands.proofs.ZeroK.{starts-exactly, zero-k, nothing-counts, counts}
 use Rattle.demands.proofs.Singly.{series-as-singly, singly-accepted}
 
 -- a whole series answers with its number, and a refused one leaves both lists as they were
@@ -32,6 +32,7 @@ demand-1 =
       starts = refused-start;
       starts-exactly = starts-exactly;
       zero-k = zero-k;
+      nothing = nothing-counts;
       counts = counts;
       series = refused-series;
       honest = never-refused-7;

@@ -2,7 +2,7 @@
 -- a promise where it gives what the promise's definition gives, for every input. Each theorem takes a program that keeps its promise and is
 -- wrong in the way that the theorem names, and comes to a contradiction: on months that are worked out here, by computation, the definition
 -- gives something else. Below them stand the refusals of the adds and of a row, one by one in their order; those of a start and of the whole
--- series stand in runs (proofs/StartLaws.antt) and in series (proofs/SeriesLaws.antt). Assumes nothing.
+-- series stand in starts (proofs/StartLaws.antt) and in series (proofs/SeriesLaws.antt). Assumes nothing.
 use mathlib.Core.Path.{_≡_, refl, sym, ap, _∙_}
 use mathlib.Core.Bool.{true, false}
 use Prim.Native.Nat.{ℕ, _≤_, _<_}

@@ -1,15 +1,20 @@
 -- A run that holds a K of 0 is refused with 7, by every call that takes a run, and so no month that counts for nothing is ever added; a
 -- start's numbers, 21 among them, are given exactly when. Assumes nothing.
-use mathlib.Core.Path.{_≡_, refl, _∙_}
+use mathlib.Core.Path.{_≡_, refl, ap, _∙_}
 use mathlib.Core.Bool.{Bool, true, false, _&&_, cond}
 use mathlib.Core.Logic.{_↔_}
 use mathlib.Core.List.{List}
-use Prim.Native.Nat.{ℕ, zero, suc, _≤_}
+use Prim.Native.Nat.{ℕ, zero, suc, _*_, _≤_}
 use native.Mathlib.Omega.{arith}
 use lib.Dec.{eqb, ltb}
-use lib.IntN.{ℤ}
+use lib.IntN.{ℤ, pos, _-ℤ_, zero-*ℤ}
 use lib.ListN.{length}
 use Rattle.outline.specs.Refusals.{badLists, notARun, noSuchRow, orElse, unlessRefused}
+use Rattle.exact.specs.Nearest.{nearest}
+use Rattle.exact.proofs.Nearest.{near-zero}
+use Rattle.water.specs.Expected.{potentialsOf, nOf, zOf, expectedOf, monthOf}
+use Rattle.water.specs.declared.Soil.{Soil}
+use Rattle.water.specs.declared.Constants.{Constants}
 use Rattle.calendar.specs.Calendar.{constantsAt, ZeroK}
 use Rattle.calendar.proofs.CalendarLaws.{no-zero-k-exactly}
 use Rattle.ranges.proofs.RangeLaws.{is-calendar}
@@ -67,7 +72,12 @@ module _ (r : Run) (cs : Columns) (z : ZeroK (r .constants)) where
       go true false = refl
       go false t = refl
 
--- no month that counts for nothing is added
+-- a month that counts for nothing
+pub nothing-counts : (s : Soil) (p pe : ℕ) (k : Constants) → k .k ≡ 0 → monthOf s p pe k .z ≡ pos 0
+unfolding monthOf expectedOf nOf zOf nearest
+nothing-counts s p pe k e = rw (e, zero-*ℤ (pos (10000 * p) -ℤ nOf k pe (potentialsOf s pe))) (ap pos (near-zero 100000000))
+
+-- no such month is added
 pub counts : (r : Run) (a : Ask) (cs : Columns) → asked r a cs .answer .number ≡ 0 → 1 ≤ constantsAt (r .constants) (r .calendar) .k
 counts r a cs h =
     let f = run-is r cs (took r cs a h .good) in

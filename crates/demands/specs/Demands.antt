@@ -16,7 +16,9 @@ use Rattle.door.specs.Readings.{reading, month}
 use Rattle.door.specs.declared.Reading.{Reading}
 use Rattle.door.specs.declared.MonthInches.{MonthInches}
 use Rattle.water.specs.Layers.{SoilFits}
+use Rattle.water.specs.Expected.{monthOf}
 use Rattle.water.specs.declared.Soil.{Soil}
+use Rattle.water.specs.declared.Constants.{Constants}
 use Rattle.spells.specs.Spells.{stepOf}
 use Rattle.hindsight.specs.Rule.{Row, forward}
 use Rattle.hindsight_laws.specs.Counts.{NoneFrom, count}
@@ -69,7 +71,9 @@ pub record Demand1 : Type 0 where
       (r : Run) (cs : Columns) → ZeroK (r .constants)
       → let k = cond (columnsFit cs) notARun badLists in
       ((a : Ask) → asked r a cs .answer .number ≡ k) × ((i : ℕ) → rowOfRun r i cs .number ≡ k)
-  -- so no month that counts for nothing is ever added
+  -- "every March was "normal"": with a K of 0 a month's Z is 0, whatever falls
+  pub nothing : (s : Soil) (p pe : ℕ) (k : Constants) → k .k ≡ 0 → monthOf s p pe k .z ≡ pos 0
+  -- and no such month is ever added
   pub counts : (r : Run) (a : Ask) (cs : Columns) → asked r a cs .answer .number ≡ 0 → 1 ≤ constantsAt (r .constants) (r .calendar) .k
   -- every whole series
   pub series :
