@@ -226,9 +226,10 @@ typedef struct card_values {
  *
  * A card may hold a run that was started with a K of 0 before that was refused. Every call refuses it now,
  * card_row too: not even its rows are shown. Where run.constants[5 * month - 1] is 0, month 1 to 12, put the
- * station's K for that month there, and it is a run again, with its columns as they stand. What they hold is
- * not made right by that: each month of water of that name was added with a Z of 0, and settled months stay
- * as they are. To have them judged with the K, start anew and add all months again, in other columns.
+ * station's K for that month there, and it is a run again, with its columns as they stand. If only Z were
+ * added to it nothing is amiss, and any K will do. Otherwise what the columns hold is not made right by that:
+ * each month of water of that name was added with a Z of 0, and settled months stay as they are. To have them
+ * judged with the K, start anew and add all months again, in other columns.
  *
  * 7 is no checksum. A run that was damaged within these ranges is taken, and so are constants that were
  * copied in the wrong order: whoever swaps a card compares all sixty with the station's own list. */
