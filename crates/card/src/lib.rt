@@ -77,7 +77,7 @@ pub extern "C" fn card_read(g: CReading) -> CAnswer
     }
 }
 
-// Starts a run: 2 to 6.
+// Starts a run: 2, 3, 21, 4, 5, 6.
 #[no_mangle]
 pub extern "C" fn card_start(
     constants: &[i32],

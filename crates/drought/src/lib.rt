@@ -37,7 +37,7 @@ pub fn read(r: Reading) -> Answer
     door::read(r)
 }
 
-// Starts a run: 2 to 6.
+// Starts a run: 2, 3, 21, 4, 5, 6.
 pub fn start(constants: &[i32], capacity: i32, surface: i32, underlying: i32, month: i32) -> Started
     ensures { λ r. ⌜ r ≡ startOf (now (constants .entry)) capacity surface underlying month ⌝ }
 {
