@@ -1,13 +1,14 @@
 -- Document 01, "Worked months": the marked cases W1 to W4 and S1 to S6 as ONE table, with document 02's thin soils (E5) beside W1 to W4: two
--- months, and starts at the ends of the ranges; and its starts with a K of 0 (E11). The water's, the starts' and the single months' rows
--- stand with their crates; here they are joined by what S5 and S6 say of settling. That every row agrees is the one claim `worked` of
--- proofs/WorkedMonths.antt. Assumes nothing.
+-- months, and starts at the ends of the ranges; with its starts with a K of 0 (E11), and with where a month's constants stand among the
+-- sixty. The water's, the calendar's, the starts' and the single months' rows stand with their crates; here they are joined by what S5 and
+-- S6 say of settling. That every row agrees is the one claim `worked` of proofs/WorkedMonths.antt. Assumes nothing.
 use Prim.Native.Nat.{ℕ}
 use mathlib.Core.List.{List, [], _∷_, _++_}
 use lib.IntN.{ℤ, pos, negℤ}
 use lib.ListN.{getD}
 use Rattle.exact.specs.Worked.{_gives_, Row as Line}
 use Rattle.water.specs.Worked.{waterTable, thinTable}
+use Rattle.calendar.specs.Worked.{placeTable}
 use Rattle.starts.specs.Worked.{soilTable, kTable}
 use Rattle.spell_laws.specs.Worked.{spellTable}
 use Rattle.hindsight.specs.Rule.{Row, forward}
@@ -58,7 +59,8 @@ workedTable =
     waterTable
     ++ (thinTable
     ++ (soilTable
+    ++ (placeTable
     ++ (kTable
     ++ (spellTable
     ++ (settling (months (minus 1130)) (minus 2454) (minus 2688) (minus 2944) (minus 3017)
-    ++ settling (months (pos 6273)) (pos 1197) (minus 487) (minus 970) (pos 2091))))))
+    ++ settling (months (pos 6273)) (pos 1197) (minus 487) (minus 970) (pos 2091)))))))
