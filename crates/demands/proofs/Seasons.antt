@@ -1,18 +1,20 @@
 -- A season in one call leaves what its months leave that are added one by one, as specs/Seasons.antt states it. The lists are followed once
 -- (`made`); nothing of what a single add promises is proved again. Assumes nothing.
 use mathlib.Core.Path.{_≡_, refl, sym, ap, _∙_, subst}
-use mathlib.Core.Bool.{true}
+use mathlib.Core.Bool.{Bool, true, false, _&&_, cond}
 use mathlib.Core.Logic.{⊎-elim}
 use mathlib.Core.List.{List, [], _∷_, _++_}
 use Prim.Native.Nat.{ℕ, zero, suc, _+_, _-_, _≤_, _<_}
 use native.Mathlib.Omega.{arith}
 use borrow.Author.Tests.{eq-eqb}
+use lib.Dec.{eqb}
 use lib.IntN.{ℤ, pos}
 use lib.ListN.{length, getD, take, drop, length-append, length-drop}
 use lib.Seq.{getD-set-other, getD-append-add, getD-drop, length-take-le}
 use Rattle.spells.specs.Spells.{stepOf}
 use Rattle.hindsight.specs.Adding.{addMonth}
 use Rattle.hindsight.specs.Months.{rowFor}
+use Rattle.calendar.specs.Calendar.{ZeroK}
 use Rattle.starts.specs.Start.{startRefusal}
 use Rattle.runs.specs.declared.Run.{Run}
 use Rattle.starts.proofs.Theorems.{start-is-run}
@@ -23,7 +25,7 @@ use Rattle.refusals.proofs.Refused.{columns-are, good-passes}
 use Rattle.run_laws.proofs.Keeps.{wrote-index, wrote-mark}
 use Rattle.season.specs.Season.{SeasonResult, seasonResult, nothing, joined, stopped, single, addEach, seasonRefusal, addSeason}
 use Rattle.season_month.specs.Listed.{listed}
-use Rattle.outline.specs.Refusals.{unlessRefused}
+use Rattle.outline.specs.Refusals.{badLists, orElse, unlessRefused}
 use Rattle.outline.proofs.Refusals.{is-done, is-refused}
 use Rattle.demands.specs.Months.{Ask, water, asked, State, after, afterAll, Accepted, stationOf, zFor}
 use Rattle.demands.specs.Demands.{Honest, begun}
@@ -31,7 +33,7 @@ use Rattle.demands.specs.Seasons.{monthsOf, settledBy, lastOf, leftOf, S
 use Rattle.demands.proofs.Took.{Took, took, good-kept, months-next, x1-next, x2-next, x3-next}
 use Rattle.demands.proofs.Sequence.{after-append, accepted-append}
 use Rattle.demands.proofs.Honest.{zero-or, not-both, never-refused, good-always}
-use Rattle.demands.proofs.ZeroK.{zero-k-season}
+use Rattle.demands.proofs.ZeroK.{unless-lists, not-done, run-refused}
 
 -- ---- what the months of two lists make of a season so far: n of them are added
 record Made (t : SeasonResult) (months : List Ask) (u : SeasonResult) : Type 0 where
@@ -181,6 +183,19 @@ module _ (r : Run) (ps pes : List ℤ) (cs : Columns) where
       (λ h. rw (refused h) (tt, refl))
       (zero-or (seasonRefusal r ps pes cs))
 
+-- a run that holds a K of 0: 1 for the lists or the columns, and otherwise 7
+lists-first : (s t : Bool) → orElse (cond s 0 badLists) (unless-lists t) ≡ unless-lists (s && t)
+lists-first true t = refl
+lists-first false t = refl
+
+module _ (r : Run) (ps pes : List ℤ) (cs : Columns) (z : ZeroK (r .constants)) where
+  no-run : seasonRefusal r ps pes cs ≡ unless-lists (eqb (length ps) (length pes) && columnsFit cs)
+  unfolding seasonRefusal
+  no-run = rw (run-refused r cs z) (lists-first (eqb (length ps) (length pes)) (columnsFit cs))
+
+  zero-k : addSeason r ps pes cs .answer .number ≡ unless-lists (eqb (length ps) (length pes) && columnsFit cs)
+  zero-k = rw (refused r ps pes cs (λ e. not-done (eqb (length ps) (length pes) && columnsFit cs) (sym no-run ∙ e))) no-run
+
 empty : (r : Run) (cs : Columns) → addSeason r [] [] cs ≡ seasonResult (nothing (seasonRefusal r [] [] cs) r) cs
 unfolding addSeason addEach
 empty r cs = go (seasonRefusal r [] [] cs)
@@ -296,4 +311,4 @@ honest constants c ss su m cs started fit asks ps pes e =
     season-honest (afterAll s asks .run) ps pes (afterAll s asks .columns) e g
 
 pub seasons : Seasons
-seasons = record { refused = refused; zero-k = λ r ps pes cs z. zero-k-season r cs z ps pes; singly = singly; empty = empty; beyond = beyond; more = more; honest = honest }
+seasons = record { refused = refused; zero-k = zero-k; singly = singly; empty = empty; beyond = beyond; more = more; honest = honest }

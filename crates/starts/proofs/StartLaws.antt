@@ -20,7 +20,7 @@ use Rattle.ranges.specs.Ranges.{constantsFit}
 use Rattle.calendar.specs.Calendar.{someZeroK}
 use Rattle.calendar.proofs.CalendarLaws.{zero-k-exactly, no-zero-k-exactly}
 use Rattle.starts.specs.Start.{upTo, capacityFits, storagesFit, monthFits, startRefusal, zeroRun, freshRun, started, startOf}
-use Rattle.starts.specs.Given.{ConstantsTaken, StartGives, gives-2, gives-3, gives-21, gives-4, gives-5, gives-6, gives-0}
+use Rattle.starts.specs.Given.{ConstantsTaken, StartFits, StartGives, gives-2, gives-3, gives-21, gives-4, gives-5, gives-6, gives-0}
 
 -- ---- what a start is given
 -- a number from a least to a most, as orders
@@ -48,15 +48,6 @@ module _ (c ss su : ℤ) (h : storagesFit c ss su ≡ true) where
   underlying-is = between-is 0 (underlyingHolds (natAbs c)) su (second (upTo (surfaceHolds (natAbs c)) ss) (upTo (underlyingHolds (natAbs c)) su) h)
 
 -- ---- the refusals
--- a start of which nothing is out of range
-pub record StartFits (cs : List ℤ) (c ss su m : ℤ) : Type 0 where
-  pub sixty : length cs ≡ manyConstants
-  pub constants : constantsFit cs ≡ true
-  pub all-count : someZeroK cs ≡ false
-  pub capacity : capacityFits c ≡ true
-  pub storages : storagesFit c ss su ≡ true
-  pub month : monthFits m ≡ true
-
 lots : (k : ℕ) → suc k ≡ 0 → ⊥
 lots k h = omega arith
 
@@ -88,69 +79,75 @@ module _ (cs : List ℤ) (c ss su m : ℤ) where
   refused-21 l f h = rw (eq-eqb (length cs) manyConstants l, f, h)
 
   -- the tests of the constants are passed
-  module _ (l : length cs ≡ manyConstants) (f : constantsFit cs ≡ true) (z : someZeroK cs ≡ false) where
+  module _ (t : ConstantsTaken cs) where
+    none-zero : someZeroK cs ≡ false
+    none-zero = no-zero-k-exactly cs .1 (t .all-count)
+
     -- "capacity outside its range"
     pub refused-4 : capacityFits c ≡ false → startRefusal cs c ss su m ≡ 4
     unfolding startRefusal
-    refused-4 h = rw (eq-eqb (length cs) manyConstants l, f, z, h)
+    refused-4 h = rw (eq-eqb (length cs) manyConstants (t .sixty), t .fit, none-zero, h)
 
     -- "a start storage negative or above its layer"
     pub refused-5 : capacityFits c ≡ true → storagesFit c ss su ≡ false → startRefusal cs c ss su m ≡ 5
     unfolding startRefusal
-    refused-5 k h = rw (eq-eqb (length cs) manyConstants l, f, z, k, h)
+    refused-5 k h = rw (eq-eqb (length cs) manyConstants (t .sixty), t .fit, none-zero, k, h)
 
     -- "start month not 1 to 12"
     pub refused-6 : capacityFits c ≡ true → storagesFit c ss su ≡ true → monthFits m ≡ false → startRefusal cs c ss su m ≡ 6
     unfolding startRefusal
-    refused-6 k s h = rw (eq-eqb (length cs) manyConstants l, f, z, k, s, h)
+    refused-6 k s h = rw (eq-eqb (length cs) manyConstants (t .sixty), t .fit, none-zero, k, s, h)
 
   -- no other start is refused
   pub not-refused : StartFits cs c ss su m → startRefusal cs c ss su m ≡ 0
   unfolding startRefusal
-  not-refused f = rw (eq-eqb (length cs) manyConstants (f .sixty), f .constants, f .all-count, f .capacity, f .storages, f .month)
+  not-refused f =
+      let t = f .constants in
+      rw (eq-eqb (length cs) manyConstants (t .sixty), t .fit, none-zero t, f .capacity, f .storages, f .month)
+
+  pub constants-taken : length cs ≡ manyConstants → constantsFit cs ≡ true → someZeroK cs ≡ false → ConstantsTaken cs
+  constants-taken l f z = record { sixty = l; fit = f; all-count = no-zero-k-exactly cs .0 z }
 
   -- and one that is not refused has everything in range
   pub start-fits : startRefusal cs c ss su m ≡ 0 → StartFits cs c ss su m
   unfolding startRefusal
   start-fits h =
       let p = all-passed (eqb (length cs) manyConstants) (constantsFit cs) (someZeroK cs) (capacityFits c) (storagesFit c ss su) (monthFits m) h in
-      record { sixty = eqb-true (length cs) manyConstants (p .0); constants = p .1; all-count = p .2; capacity = p .3; storages = p .4; month = p .5 }
+      record { constants = constants-taken (eqb-true (length cs) manyConstants (p .0)) (p .1) (p .2); capacity = p .3; storages = p .4; month = p .5 }
 
   -- ---- each number, given exactly when
-  constants-taken : length cs ≡ manyConstants → constantsFit cs ≡ true → someZeroK cs ≡ false → ConstantsTaken cs
-  constants-taken l f z = record { sixty = l; fit = f; all-count = no-zero-k-exactly cs .0 z }
+  abbrev Given : Type 0
+  Given = StartGives cs c ss su m (startRefusal cs c ss su m)
 
-  given : StartGives cs c ss su m (startRefusal cs c ss su m)
+  soil-given : ConstantsTaken cs → capacityFits c ≡ true → Given
+  soil-given t k =
+      if-so (storagesFit c ss su)
+      (λ s. if-so (monthFits m) (λ h. let f : StartFits cs c ss su m = record { constants = t; capacity = k; storages = s; month = h } in gives-0 (not-refused f) f) (λ h. gives-6 (refused-6 t k s h) t k s h))
+      (λ s. gives-5 (refused-5 t k s) t k s)
+
+  constants-given : length cs ≡ manyConstants → constantsFit cs ≡ true → Given
+  constants-given l f =
+      if-so (someZeroK cs)
+      (λ z. gives-21 (refused-21 l f z) l f (zero-k-exactly cs .0 z))
+      (λ z. let t = constants-taken l f z in if-so (capacityFits c) (soil-given t) (λ k. gives-4 (refused-4 t k) t k))
+
+  given : Given
   given =
-      if-so (eqb (length cs) manyConstants) (λ a. sixty (eqb-true (length cs) manyConstants a)) (λ a. let n = eqb-false (length cs) manyConstants a in gives-2 (refused-2 n) n)
-    where
-      soil : length cs ≡ manyConstants → constantsFit cs ≡ true → someZeroK cs ≡ false → capacityFits c ≡ true → StartGives cs c ss su m (startRefusal cs c ss su m)
-      soil l f z k =
-          let t = constants-taken l f z in
-          if-so (storagesFit c ss su)
-          (λ s. if-so (monthFits m) (λ h. gives-0 (not-refused (record { sixty = l; constants = f; all-count = z; capacity = k; storages = s; month = h })) t k s h) (λ h. gives-6 (refused-6 l f z k s h) t k s h))
-          (λ s. gives-5 (refused-5 l f z k s) t k s)
-
-      sixty : length cs ≡ manyConstants → StartGives cs c ss su m (startRefusal cs c ss su m)
-      sixty l =
-          if-so (constantsFit cs)
-          (λ f. if-so (someZeroK cs) (λ z. gives-21 (refused-21 l f z) l f (zero-k-exactly cs .0 z)) (λ z. if-so (capacityFits c) (λ k. soil l f z k) (λ k. gives-4 (refused-4 l f z k) (constants-taken l f z) k)))
-          (λ f. gives-3 (refused-3 l f) l f)
+      if-so (eqb (length cs) manyConstants)
+      (λ a. let l = eqb-true (length cs) manyConstants a in if-so (constantsFit cs) (constants-given l) (λ f. gives-3 (refused-3 l f) l f))
+      (λ a. let n = eqb-false (length cs) manyConstants a in gives-2 (refused-2 n) n)
 
   pub given-exactly : (n : ℕ) → (startRefusal cs c ss su m ≡ n) ↔ StartGives cs c ss su m n
   given-exactly n = (λ e. subst (StartGives cs c ss su m) e given, back)
     where
-      none : ConstantsTaken cs → someZeroK cs ≡ false
-      none t = no-zero-k-exactly cs .1 (t .all-count)
-
       back : StartGives cs c ss su m n → startRefusal cs c ss su m ≡ n
       back (gives-2 e h) = refused-2 h ∙ sym e
       back (gives-3 e l h) = refused-3 l h ∙ sym e
       back (gives-21 e l f z) = refused-21 l f (zero-k-exactly cs .1 z) ∙ sym e
-      back (gives-4 e t h) = refused-4 (t .sixty) (t .fit) (none t) h ∙ sym e
-      back (gives-5 e t k h) = refused-5 (t .sixty) (t .fit) (none t) k h ∙ sym e
-      back (gives-6 e t k s h) = refused-6 (t .sixty) (t .fit) (none t) k s h ∙ sym e
-      back (gives-0 e t k s h) = not-refused (record { sixty = t .sixty; constants = t .fit; all-count = none t; capacity = k; storages = s; month = h }) ∙ sym e
+      back (gives-4 e t h) = refused-4 t h ∙ sym e
+      back (gives-5 e t k h) = refused-5 t k h ∙ sym e
+      back (gives-6 e t k s h) = refused-6 t k s h ∙ sym e
+      back (gives-0 e f) = not-refused f ∙ sym e
 
   -- a refused start answers with its number and a run of all zeros
   pub refused-start : (n : ℕ) → n ≡ startRefusal cs c ss su m → (n ≡ 0 → ⊥) → startOf cs c ss su m ≡ record { number = n; run = zeroRun }

@@ -18,7 +18,7 @@ use Rattle.water.specs.declared.Soil.{Soil}
 use Rattle.ranges.specs.Ranges.{limitOf, constantFits, constantsFitTo, constantsFit}
 use Rattle.ranges.proofs.RangeLaws.{is-calendar}
 use Rattle.calendar.specs.Calendar.{constantsAt, zeroKWithin, someZeroK}
-use Rattle.calendar.proofs.CalendarLaws.{constants-at-fit}
+use Rattle.calendar.proofs.CalendarLaws.{constants-at-fit, no-zero-k-exactly}
 use Rattle.runs.specs.Runs.{isRun}
 use Rattle.runs.specs.RunFits.{RunFits}
 use Rattle.runs.proofs.RunLaws.{fits-run}
@@ -39,9 +39,9 @@ module _ (cs : List ℤ) (c ss su m : ℤ) where
         soil = record { least = k .1; most = k .2; surface = surface-is c ss su (f .storages) .2; underlying = underlying-is c ss su (f .storages) .2 };
         first-month = n .1;
         last-month = n .2;
-        constants = f .constants;
-        all-count = f .all-count;
-        month-constants = constants-at-fit cs (natAbs m) (f .constants) (is-calendar (natAbs m) (n .1) (n .2));
+        constants = f .constants .fit;
+        all-count = no-zero-k-exactly cs .1 (f .constants .all-count);
+        month-constants = constants-at-fit cs (natAbs m) (f .constants .fit) (is-calendar (natAbs m) (n .1) (n .2));
         x1-size = omega arith;
         x2-size = omega arith;
         x3-size = omega arith;

@@ -18,6 +18,13 @@ pub record ConstantsTaken (cs : List ℤ) : Type 0 where
   pub fit : constantsFit cs ≡ true
   pub all-count : ZeroK cs → ⊥
 
+-- a start of which nothing is out of range
+pub record StartFits (cs : List ℤ) (c ss su m : ℤ) : Type 0 where
+  pub constants : ConstantsTaken cs
+  pub capacity : capacityFits c ≡ true
+  pub storages : storagesFit c ss su ≡ true
+  pub month : monthFits m ≡ true
+
 pub data StartGives (cs : List ℤ) (c ss su m : ℤ) (n : ℕ) : Type 0 where
   -- "constants not sixty numbers"
   gives-2 : n ≡ notSixty → (length cs ≡ manyConstants → ⊥) → StartGives cs c ss su m n
@@ -32,4 +39,4 @@ pub data StartGives (cs : List ℤ) (c ss su m : ℤ) (n : ℕ) : Type 0 where
   -- "start month not 1 to 12"
   gives-6 : n ≡ badMonth → ConstantsTaken cs → capacityFits c ≡ true → storagesFit c ss su ≡ true → monthFits m ≡ false → StartGives cs c ss su m n
   -- and 0 where none of these holds
-  gives-0 : n ≡ 0 → ConstantsTaken cs → capacityFits c ≡ true → storagesFit c ss su ≡ true → monthFits m ≡ true → StartGives cs c ss su m n
+  gives-0 : n ≡ 0 → StartFits cs c ss su m → StartGives cs c ss su m n

@@ -4,8 +4,9 @@ use mir.Facts.{toZ-ofZ}
 use borrow.Author.Needs.{needs}
 use denote.Ref.{now}
 use Rattle.starts.specs.Start.{startRefusal}
+use Rattle.starts.specs.Given.{StartFits}
 use Rattle.ranges.proofs.RangeLaws.{countable}
-use Rattle.starts.proofs.StartLaws.{capacity-is, surface-is, underlying-is, month-is, StartFits, start-fits, refused-start, begun}
+use Rattle.starts.proofs.StartLaws.{capacity-is, surface-is, underlying-is, month-is, start-fits, refused-start, begun}
 use Rattle.starts.proofs.start.Statement.{statement}
 use Rattle.starts.proofs.start.Tie as tie
 
@@ -40,7 +41,7 @@ returns c =
     rw (c .zero-run .ensures, refused-start (now (a .constants)) (a .capacity) (a .surface) (a .underlying) (a .month) (c .before .before .start-refusal .result) (number (c .before .before)) (c .before .if1 .taken))
 
 copied-requires : tie.Need-copied-requires
-copied-requires c κs = fits c .sixty
+copied-requires c κs = fits c .constants .sixty
 
 cast-t13 : tie.Need-cast-t13
 cast-t13 c =

@@ -1,16 +1,12 @@
 -- `starts::start_refusal` meets its contract: each way out is one refusal of StartLaws. Assumes nothing.
 use mathlib.Core.Path.{_≡_, sym, _∙_}
-use mathlib.Core.Bool.{true, false}
-use lib.ListN.{length}
 use mir.Facts.{toZ-ofZ}
 use borrow.Author.Needs.{needs}
 use denote.Ref.{now}
-use Rattle.outline.specs.Numbers.{manyConstants}
-use Rattle.ranges.specs.Ranges.{constantsFit}
-use Rattle.calendar.specs.Calendar.{someZeroK}
 use Rattle.starts.specs.Start.{capacityFits, storagesFit, monthFits}
+use Rattle.starts.specs.Given.{ConstantsTaken}
 use Rattle.outline.proofs.Tests.{fails, passes}
-use Rattle.starts.proofs.StartLaws.{refused-2, refused-3, refused-21, refused-4, refused-5, refused-6, not-refused}
+use Rattle.starts.proofs.StartLaws.{refused-2, refused-3, refused-21, refused-4, refused-5, refused-6, not-refused, constants-taken}
 use Rattle.starts.proofs.start_refusal.Statement.{statement}
 use Rattle.starts.proofs.start_refusal.Tie as tie
 
@@ -34,14 +30,14 @@ month c =
     simp toZ-ofZ at (c .month-fits .ensures)
 
 -- the tests of the constants, where they are passed
-sixty : (c : tie.Else3) → length (now (c .before .before .before .before .before .before .args .constants)) ≡ manyConstants
-sixty c = c .before .before .before .before .before .if1 .left
-
-in-range : (c : tie.Else3) → constantsFit (now (c .before .before .before .before .before .before .args .constants)) ≡ true
-in-range c = let e = c .before in passes (e .before .before .before .constants-fit .ensures) (e .if2 .left)
-
-all-count : (c : tie.Else3) → someZeroK (now (c .before .before .before .before .before .before .args .constants)) ≡ false
-all-count c = sym (c .before .before .before .some-zero-k .ensures) ∙ c .if3 .left
+taken : (c : tie.Else3) → ConstantsTaken (now (c .before .before .before .before .before .before .args .constants))
+taken c =
+    let e = c .before in
+    let z = e .before .before in
+    let k = z .before in
+    let d = k .before in
+    let a = d .before .args in
+    constants-taken (now (a .constants)) (a .c) (a .ss) (a .su) (a .m) (d .if1 .left) (passes (k .constants-fit .ensures) (e .if2 .left)) (sym (z .some-zero-k .ensures) ∙ c .if3 .left)
 
 returns : tie.Need-returns
 returns c = let a = c .before .args in sym (refused-2 (now (a .constants)) (a .c) (a .ss) (a .su) (a .m) (c .if1 .taken))
@@ -75,7 +71,7 @@ returns-4 : tie.Need-returns-4
 returns-4 c =
     let e = c .before in
     let a = e .before .before .before .before .before .before .args in
-    sym (refused-4 (now (a .constants)) (a .c) (a .ss) (a .su) (a .m) (sixty e) (in-range e) (all-count e) (fails (capacity (e .before .before)) (c .if4 .taken)))
+    sym (refused-4 (now (a .constants)) (a .c) (a .ss) (a .su) (a .m) (taken e) (fails (capacity (e .before .before)) (c .if4 .taken)))
 
 storages-fit-requires : tie.Need-storages-fit-requires
 storages-fit-requires c κs = passes (c .before .before .before .capacity-fits .ensures) (c .if4 .left)
@@ -85,7 +81,7 @@ returns-5 c =
     let f = c .before .before in
     let e = f .before in
     let a = e .before .before .before .before .before .before .args in
-    sym (refused-5 (now (a .constants)) (a .c) (a .ss) (a .su) (a .m) (sixty e) (in-range e) (all-count e) (passes (capacity (e .before .before)) (f .if4 .left)) (fails (storages (c .before)) (c .if5 .taken)))
+    sym (refused-5 (now (a .constants)) (a .c) (a .ss) (a .su) (a .m) (taken e) (passes (capacity (e .before .before)) (f .if4 .left)) (fails (storages (c .before)) (c .if5 .taken)))
 
 month-fits-requires : tie.Need-month-fits-requires
 month-fits-requires c κs = search needs
@@ -96,7 +92,7 @@ returns-6 c =
     let f = g .before .before in
     let e = f .before in
     let a = e .before .before .before .before .before .before .args in
-    sym (refused-6 (now (a .constants)) (a .c) (a .ss) (a .su) (a .m) (sixty e) (in-range e) (all-count e) (passes (capacity (e .before .before)) (f .if4 .left)) (passes (storages (g .before)) (g .if5 .left)) (fails (month (c .before)) (c .if6 .taken)))
+    sym (refused-6 (now (a .constants)) (a .c) (a .ss) (a .su) (a .m) (taken e) (passes (capacity (e .before .before)) (f .if4 .left)) (passes (storages (g .before)) (g .if5 .left)) (fails (month (c .before)) (c .if6 .taken)))
 
 returns-7 : tie.Need-returns-7
 returns-7 c =
@@ -104,7 +100,7 @@ returns-7 c =
     let f = g .before .before in
     let e = f .before in
     let a = e .before .before .before .before .before .before .args in
-    sym (not-refused (now (a .constants)) (a .c) (a .ss) (a .su) (a .m) (record { sixty = sixty e; constants = in-range e; all-count = all-count e; capacity = passes (capacity (e .before .before)) (f .if4 .left); storages = passes (storages (g .before)) (g .if5 .left); month = passes (month (c .before)) (c .if6 .left) }))
+    sym (not-refused (now (a .constants)) (a .c) (a .ss) (a .su) (a .m) (record { constants = taken e; capacity = passes (capacity (e .before .before)) (f .if4 .left); storages = passes (storages (g .before)) (g .if5 .left); month = passes (month (c .before)) (c .if6 .left) }))
 
 pub start-refusal-spec : {M : Type 1} → statement M
 start-refusal-spec =
