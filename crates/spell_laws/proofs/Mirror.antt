@@ -2,6 +2,7 @@
 -- fails, and each of them is met. A month and its mirror go through the same cases (`by-mirror`, `by-tried2`). Assumes nothing.
 use mathlib.Core.Path.{_≡_, refl, sym, ap, ap₂, _∙_, subst}
 use mathlib.Core.Bool.{Bool, true, false, cond, not}
+use mathlib.Core.Logic.{_⊎_, inl, inr}
 use Prim.Native.Nat.{ℕ, zero, suc, _≤_, _<_}
 use native.Mathlib.Nat.{le-of-lt, le-refl}
 use native.Mathlib.Omega.{arith}
@@ -23,7 +24,7 @@ use Rattle.spells.specs.Values.{FitsWithin, ValuesFit, fresh}
 use Rattle.spells.specs.Spells.{raised, lowered, largerInSize, steadyMonth, abatingValues, abatingMonth, founded, unfounded, tried, noSpell, endingMonth, stepOf}
 use Rattle.ending.specs.Ending.{Ending, steady, ended, abating, turn, vOf}
 use Rattle.spell_laws.specs.Months.{InForce, NoneInForce, endingIn, spell-is, NoSpell, none, just-ended, x1Of, x2Of}
-use Rattle.spell_laws.specs.Mirror.{mirror, mirrorDecision, mirrorMonth, BothFound, BothZero, Tied}
+use Rattle.spell_laws.specs.Mirror.{mirror, mirrorDecision, mirrorMonth, BothFound, BothZero, Tied, TiedValues}
 use Rattle.spells.proofs.Choices.{same-values, raised-fits, lowered-fits, tried-first, tried-second, tried-x1, tried-x2, tried-open, step-none, provisional-x3}
 use Rattle.spell_laws.proofs.Cases.{by-zero, by-order, by-tried, by-month, step-ending}
 use Rattle.spell_laws.proofs.Abates.{abating-some}
@@ -73,13 +74,13 @@ neg-founds-x1 x = rw (is-Z x) (simp zs (omega arith))
 neg-founds-x2 : (x : ℤ) → pos 1000 ≤ℤ x → negℤ x ≤ℤ negsuc 999
 neg-founds-x2 x = rw (is-Z x) (simp zs (omega arith))
 
-neg-size : (x : ℤ) → natAbs (negℤ x) ≡ natAbs x
+pub neg-size : (x : ℤ) → natAbs (negℤ x) ≡ natAbs x
 neg-size (pos zero) = refl
 neg-size (pos (suc n)) = refl
 neg-size (negsuc n) = refl
 
 -- the larger in size, where the sizes differ
-larger-neg : (a b : ℤ) → (natAbs a ≡ natAbs b → ⊥) → largerInSize (negℤ b) (negℤ a) ≡ negℤ (largerInSize a b)
+pub larger-neg : (a b : ℤ) → (natAbs a ≡ natAbs b → ⊥) → largerInSize (negℤ b) (negℤ a) ≡ negℤ (largerInSize a b)
 unfolding largerInSize
 larger-neg a b h = rw (neg-size a, neg-size b) (go (leb (natAbs a) (natAbs b)) refl)
   where
@@ -91,7 +92,7 @@ larger-neg a b h = rw (neg-size a, neg-size b) (go (leb (natAbs a) (natAbs b)) r
     go false e = rw (le-leb (natAbs b) (natAbs a) (le-of-lt (leb-false (natAbs a) (natAbs b) e)))
 
 -- and where they do not
-tie-second : (a b : ℤ) → natAbs a ≡ natAbs b → largerInSize a b ≡ b
+pub tie-second : (a b : ℤ) → natAbs a ≡ natAbs b → largerInSize a b ≡ b
 unfolding largerInSize
 tie-second a b e = rw (e, le-leb (natAbs b) (natAbs b) (le-refl _))
 
@@ -132,26 +133,26 @@ same-month p q r t = same p q r t
 
 -- ---- a month and its mirror
 module _ (s : Running) (z : ℤ) where
-  mirror-x1 : x1Of (mirror s) (negℤ z) ≡ negℤ (x2Of s z)
+  pub mirror-x1 : x1Of (mirror s) (negℤ z) ≡ negℤ (x2Of s z)
   mirror-x1 = ap raised (next-odd (s .x2) z) ∙ raised-neg (nextOf (s .x2) z)
 
-  mirror-x2 : x2Of (mirror s) (negℤ z) ≡ negℤ (x1Of s z)
+  pub mirror-x2 : x2Of (mirror s) (negℤ z) ≡ negℤ (x1Of s z)
   mirror-x2 = ap lowered (next-odd (s .x1) z) ∙ lowered-neg (nextOf (s .x1) z)
 
   mirror-v : (wet : Bool) → turn (not wet) (vOf (turn (not wet) (negℤ (s .v))) (turn (not wet) (negℤ z))) ≡ negℤ (turn wet (vOf (turn wet (s .v)) (turn wet z)))
   mirror-v wet =
       ap₂ (λ (v z : ℤ). turn (not wet) (vOf v z)) (turn-not wet (s .v)) (turn-not wet z) ∙ turn-flip wet (vOf (turn wet (s .v)) (turn wet z))
 
-  mirror-force : (wet : Bool) → InForce wet s → InForce (not wet) (mirror s)
+  pub mirror-force : (wet : Bool) → InForce wet s → InForce (not wet) (mirror s)
   mirror-force wet h = subst (λ (x : ℤ). x <ℤ negℤ (pos 500)) (sym (turn-not wet (s .x3))) h
 
-  mirror-none : NoneInForce s → NoneInForce (mirror s)
+  pub mirror-none : NoneInForce s → NoneInForce (mirror s)
   mirror-none h = go (s .x3) (h .0) (h .1)
     where
       go : (x : ℤ) → negℤ (pos 500) ≤ℤ x → x ≤ℤ pos 500 → (negℤ (pos 500) ≤ℤ negℤ x) × (negℤ x ≤ℤ pos 500)
       go x = rw (is-Z x) (simp zs (omega arith))
 
-  mirror-ending : (wet : Bool) → endingIn (not wet) (mirror s) (negℤ z) ≡ endingIn wet s z
+  pub mirror-ending : (wet : Bool) → endingIn (not wet) (mirror s) (negℤ z) ≡ endingIn wet s z
   mirror-ending wet = cc (turn-not wet (s .x3), turn-not wet (s .v), turn-not wet z)
 
   abbrev tries : ℕ → SpellMonth
@@ -208,6 +209,18 @@ module _ (s : Running) (z : ℤ) where
         refl
         (λ wet i. refl)
         (λ percent n. by-tried2 (x1Of s z) (x2Of s z) percent (λ m n. n .decision ≡ mirrorDecision (m .decision)) (apart n) refl refl (λ p q. absurd (not-zero (record { zero-none = n; zero-x1 = p; zero-x2 = q }))) (λ p q. refl) (λ p q. refl) (λ p q r. refl))
+
+    -- in (b) both decide with X2
+    pub mirror-decides :
+        (stepOf (mirror s) (negℤ z) .decision ≡ mirrorDecision (stepOf s z .decision))
+        ⊎ ((stepOf s z .decision ≡ Decides X2) × (stepOf (mirror s) (negℤ z) .decision ≡ Decides X2) × BothZero s z)
+    unfolding steadyMonth abatingMonth endingMonth founded unfounded
+    mirror-decides =
+        by-mirror Turns (inl refl) (λ wet i. inl refl)
+        (λ percent n. by-tried2 (x1Of s z) (x2Of s z) percent Turns (apart n) (inl refl) (inl refl) (λ p q. inr (refl, refl, record { zero-none = n; zero-x1 = p; zero-x2 = q })) (λ p q. inl refl) (λ p q. inl refl) (λ p q r. inl refl))
+      where
+        Turns : SpellMonth → SpellMonth → Type 0
+        Turns m n = (n .decision ≡ mirrorDecision (m .decision)) ⊎ ((m .decision ≡ Decides X2) × (n .decision ≡ Decides X2) × BothZero s z)
 
     -- the index mirrors, but in (a) and (c)
     pub mirror-index : (Tied s z → ⊥) → stepOf (mirror s) (negℤ z) .index ≡ negℤ (stepOf s z .index)
@@ -313,38 +326,53 @@ module _ (s : Running) (z : ℤ) where
       high : (x : ℤ) → x ≡ pos 0 → negsuc 999 <ℤ x
       high x = rw (is-Z x) (simp zs (omega arith))
 
-  -- in (c) the index does not
-  pub tied-fails : Tied s z → stepOf (mirror s) (negℤ z) .index ≡ negℤ (stepOf s z .index) → ⊥
-  unfolding unfounded
-  tied-fails h =
-      at-no-spell s z (λ m n. n .index ≡ negℤ (m .index) → ⊥) (h .tied-none) (λ percent.
-      subst (λ (m : SpellMonth). tries s z percent .index ≡ negℤ (m .index) → ⊥) (sym (tried-open a-x1 b-x2 percent (h .tied-low) b-high (h .tied-some) b-some))
-      (subst (λ (n : SpellMonth). n .index ≡ negℤ (largerInSize a-x1 b-x2) → ⊥) (sym (tried-open (negℤ b-x2) (negℤ a-x1) percent (neg-low b-x2 b-high) (neg-high a-x1 (h .tied-low)) (neg-some b-x2 b-some) (neg-some a-x1 (h .tied-some))))
-      (λ e. apart a-x1 b-x2 a-sign b-sign (h .tied-some) (sym (tie-neg a-x1 b-x2 (h .tied-size)) ∙ e ∙ ap negℤ (tie-second a-x1 b-x2 (h .tied-size))))))
+-- in (c) nothing is decided, and both show X2
+module _ (s : Running) (z : ℤ) (h : Tied s z) where
+  a-sign : pos 0 ≤ℤ a-x1 s z
+  a-sign = raised-fits (nextOf (s .x1) z) (natAbs (nextOf (s .x1) z)) (le-refl _) .1
+
+  b-sign : b-x2 s z ≤ℤ pos 0
+  b-sign = lowered-fits (nextOf (s .x2) z) (natAbs (nextOf (s .x2) z)) (le-refl _) .1
+
+  b-high : negsuc 999 <ℤ b-x2 s z
+  b-high = small (a-x1 s z) (b-x2 s z) a-sign b-sign (h .tied-low) (h .tied-size)
     where
-      a-sign : pos 0 ≤ℤ a-x1
-      a-sign = raised-fits (nextOf (s .x1) z) (natAbs (nextOf (s .x1) z)) (le-refl _) .1
-
-      b-sign : b-x2 ≤ℤ pos 0
-      b-sign = lowered-fits (nextOf (s .x2) z) (natAbs (nextOf (s .x2) z)) (le-refl _) .1
-
       small : (a b : ℤ) → pos 0 ≤ℤ a → b ≤ℤ pos 0 → a <ℤ pos 1000 → natAbs a ≡ natAbs b → negsuc 999 <ℤ b
       small a b = rw (is-Z a, is-Z b) (simp zs-abs (omega arith))
 
-      b-high : negsuc 999 <ℤ b-x2
-      b-high = small a-x1 b-x2 a-sign b-sign (h .tied-low) (h .tied-size)
-
+  b-some : b-x2 s z ≡ pos 0 → ⊥
+  b-some e = h .tied-some (zero (a-x1 s z) (b-x2 s z) (h .tied-size) e)
+    where
       zero : (a b : ℤ) → natAbs a ≡ natAbs b → b ≡ pos 0 → a ≡ pos 0
       zero a b = rw (is-Z a, is-Z b) (simp zs-abs (omega arith))
 
-      b-some : b-x2 ≡ pos 0 → ⊥
-      b-some e = h .tied-some (zero a-x1 b-x2 (h .tied-size) e)
+  at-tie :
+      (Q : SpellMonth → SpellMonth → Type 0) →
+      ((percent : ℕ) → Q (unfounded (a-x1 s z) (b-x2 s z) Nothing (largerInSize (a-x1 s z) (b-x2 s z)) percent) (unfounded (negℤ (b-x2 s z)) (negℤ (a-x1 s z)) Nothing (largerInSize (negℤ (b-x2 s z)) (negℤ (a-x1 s z))) percent)) →
+      Q (stepOf s z) (stepOf (mirror s) (negℤ z))
+  at-tie Q f =
+      at-no-spell s z Q (h .tied-none) (λ percent.
+      subst (λ (m : SpellMonth). Q m (tries s z percent)) (sym (tried-open (a-x1 s z) (b-x2 s z) percent (h .tied-low) b-high (h .tied-some) b-some))
+      (subst (Q (unfounded (a-x1 s z) (b-x2 s z) Nothing (largerInSize (a-x1 s z) (b-x2 s z)) percent)) (sym (tried-open (negℤ (b-x2 s z)) (negℤ (a-x1 s z)) percent (neg-low (b-x2 s z) b-high) (neg-high (a-x1 s z) (h .tied-low)) (neg-some (b-x2 s z) b-some) (neg-some (a-x1 s z) (h .tied-some))))
+      (f percent)))
 
+  -- so the index does not mirror
+  pub tied-fails : stepOf (mirror s) (negℤ z) .index ≡ negℤ (stepOf s z .index) → ⊥
+  unfolding unfounded
+  tied-fails =
+      at-tie (λ m n. n .index ≡ negℤ (m .index) → ⊥) (λ percent e.
+      apart (a-x1 s z) (b-x2 s z) a-sign b-sign (h .tied-some) (sym (tie-neg (a-x1 s z) (b-x2 s z) (h .tied-size)) ∙ e ∙ ap negℤ (tie-second (a-x1 s z) (b-x2 s z) (h .tied-size))))
+    where
       apart : (a b : ℤ) → pos 0 ≤ℤ a → b ≤ℤ pos 0 → (a ≡ pos 0 → ⊥) → negℤ a ≡ negℤ b → ⊥
       apart a b p q n e = n (both a b p q e)
         where
           both : (a b : ℤ) → pos 0 ≤ℤ a → b ≤ℤ pos 0 → negℤ a ≡ negℤ b → a ≡ pos 0
           both a b = rw (is-Z a, is-Z b) (simp zs (omega arith))
+
+  -- and the tie is seen in the month's own values, under no X3
+  pub tied-open : (stepOf s z .decision ≡ Nothing) × TiedValues (stepOf s z .after)
+  unfolding unfounded
+  tied-open = at-tie (λ m n. (m .decision ≡ Nothing) × TiedValues (m .after)) (λ percent. (refl, record { values-x3 = refl; values-size = h .tied-size; values-some = h .tied-some }))
 
 -- ---- and each of them is met, at a state that a run could hold
 

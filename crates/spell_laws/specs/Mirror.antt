@@ -48,3 +48,9 @@ pub record Tied (s : Running) (z : ℤ) : Type 0 where
   pub tied-some : x1Of s z ≡ pos 0 → ⊥
   pub tied-low : x1Of s z <ℤ pos foundsFrom
   pub tied-size : natAbs (x1Of s z) ≡ natAbs (x2Of s z)
+
+-- so it is seen in the month's values: with no X3, X1 and X2 are of one size, and not 0
+pub record TiedValues (s : Running) : Type 0 where
+  pub values-x3 : s .x3 ≡ pos 0
+  pub values-size : natAbs (s .x1) ≡ natAbs (s .x2)
+  pub values-some : s .x1 ≡ pos 0 → ⊥
