@@ -7,6 +7,8 @@ pub mod Honest
 pub mod ZeroK
 pub mod Soils
 pub mod Singly
+pub mod Turned
+pub mod Mirror
 pub mod Demands
 pub mod OneOutcome
 pub mod WorkedMonths

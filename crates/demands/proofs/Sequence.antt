@@ -9,7 +9,7 @@ use lib.IntN.{ℤ, pos}
 use lib.ListN.{length, getD}
 use lib.Seq.{getD-set-other}
 use Rattle.hindsight.specs.Adding.{addTo, History}
-use Rattle.hindsight.specs.Columns.{rowsOf}
+use Rattle.hindsight.specs.Columns.{rowsOf, stateOf}
 use Rattle.adding.specs.Taken.{heldBy}
 use Rattle.demands.specs.Months.{Ask, State, after, afterAll, Accepted, Station, stationOf, stationNext, stationRow, rowsOfMonths}
 use Rattle.demands.proofs.Took.{took, months-next, station-next, held-next, x1-next, x2-next, x3-next}
@@ -31,6 +31,13 @@ months-all s [] h = omega arith
 months-all s (a ∷ later) h =
     let t = took (s .run) (s .columns) a (h .0) in
     omega (arith, months-all (after s a) later (h .1), months-next (s .run) a (s .columns) t)
+
+-- the station is where its own rules bring it
+pub station-all : (s : State) (asks : List Ask) → Accepted s asks → stationOf (afterAll s asks .run) ≡ stateOf stationNext (stationOf (s .run)) asks
+station-all s [] h = refl
+station-all s (a ∷ later) h =
+    station-all (after s a) later (h .1)
+    ∙ ap (λ (d : Station). stateOf stationNext d later) (station-next (s .run) a (s .columns) (took (s .run) (s .columns) a (h .0)))
 
 -- the running values of a month before are as they were
 pub values-stay : (s : State) (asks : List Ask) → Accepted s asks → (i : ℕ) → i < s .run .months

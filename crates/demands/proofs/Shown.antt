@@ -16,11 +16,13 @@ use Rattle.door.specs.declared.MonthInches.{MonthInches}
 use Rattle.water.specs.Layers.{SoilFits}
 use Rattle.water.proofs.Theorems.{month-water-kept}
 use Rattle.spells.specs.Spells.{stepOf}
-use Rattle.hindsight.specs.Rule.{Row, forward}
+use Rattle.hindsight.specs.Rule.{X, Row, forward}
 use Rattle.hindsight_laws.specs.Counts.{NoneFrom, count}
 use Rattle.hindsight.specs.Adding.{addAll, addTo, addMonth, settledCount, History, fresh as nothing-held}
-use Rattle.hindsight.specs.Columns.{rowsOf, stateOf as stateAfter}
-use Rattle.hindsight_laws.proofs.Hindsight.{every-index, every-mark, open-exactly, settled-stays, last-are-open, opens-counts, answers-settled, add-append}
+use Rattle.hindsight.specs.Columns.{xAt, rowsOf, stateOf as stateAfter}
+use Rattle.hindsight.proofs.Forward.{getD-map}
+use Rattle.hindsight_laws.proofs.Hindsight.{xOf, every-index, every-mark, open-exactly, settled-stays, last-are-open, opens-counts, answers-settled, add-append}
+use Rattle.hindsight_laws.proofs.Adds.{past-all}
 use Rattle.calendar.specs.Calendar.{constantsAt}
 use Rattle.starts.specs.Start.{startRefusal, startOf, freshRun, zeroRun, started}
 use Rattle.runs.specs.declared.Run.{Run}
@@ -30,10 +32,10 @@ use Rattle.adding.specs.Figures.{figuresOf, waterFigures}
 use Rattle.drought.specs.Calls.{addOutcomes, addWater, addInches, addZ}
 use Rattle.adding.specs.Taken.{Result, heldBy, soilAfter, taken, takenWater, takenZ, answered}
 use Rattle.adding.proofs.Readiness.{run-is}
-use Rattle.demands.specs.Months.{Ask, water, inches, anomaly, asked, State, after, afterAll, Accepted, stationOf, watered, zFor, soilFor, waterFor, stationNext, stationRow, rowsOfMonths}
+use Rattle.demands.specs.Months.{Ask, water, inches, anomaly, asked, State, after, afterAll, Accepted, stationOf, watered, zFor, soilFor, waterFor, stationNext, stationRow, noRow, rowsOfMonths}
 use Rattle.demands.proofs.Took.{Took, took, settled-is, held-next}
 use Rattle.demands.specs.Demands.{numberOf, Answers, Balances}
-use Rattle.demands.proofs.Rows.{rows-long, rows-append}
+use Rattle.demands.proofs.Rows.{rows-long, rows-append, getD-xs}
 use Rattle.demands.proofs.Sequence.{held-all, months-all, values-stay, after-append, accepted-append}
 
 -- ---- 1. "Every reading, constant, month and list gets its answer or a numbered refusal. Nobody has to check beforehand. A refused call
@@ -121,6 +123,20 @@ module _ (constants : List ℤ) (c ss su m : ℤ) (cs : Columns) (started : star
       let n = months asks h in
       sym (getD-take (afterAll fresh asks .run .months) (afterAll fresh asks .columns .mark) i 0 (omega arith))
       ∙ ap (λ (u : History). getD (u .mark) i 0) (held asks h)
+
+  -- X1, X2 and X3 at a month's place are those that the rules give
+  pub values-at : (asks : List Ask) → Accepted fresh asks → (i : ℕ) → i < length asks → xAt (afterAll fresh asks .columns .x1) (afterAll fresh asks .columns .x2) (afterAll fresh asks .columns .x3) i ≡ getD (rows asks) i noRow .x
+  values-at asks h i l =
+      let s = afterAll fresh asks in
+      let n = months asks h in
+      ap (xAt (s .columns .x1) (s .columns .x2) (s .columns .x3)) (zero-more i)
+      ∙ sym (getD-xs (xAt (s .columns .x1) (s .columns .x2) (s .columns .x3)) 0 (s .run .months) i (noRow .x) (omega arith))
+      ∙ ap (λ (u : History). getD (u .past) i (noRow .x)) (held asks h)
+      ∙ ap (λ (u : List X). getD u i (noRow .x)) (past-all nothing-held (rows asks))
+      ∙ getD-map xOf (rows asks) i noRow
+    where
+      zero-more : (k : ℕ) → k ≡ 0 + k
+      zero-more k = omega arith
 
   -- "After each, every settled index equals the choice made knowing all months so far, by a rule that looks forward from that month."
   -- So does every mark, and every open month's index

@@ -36,15 +36,15 @@ rows-same s [] = refl
 rows-same s (z ∷ zs) = ap (λ (l : List Row). rowOfZ (s .values) z ∷ l) (rows-same (stationNext s (anomaly z)) zs)
 
 -- a Z in its range is accepted by a good run with room
-accepts-z : (r : Run) (cs : Columns) (z : ℤ) → Good r cs → r .months < long cs → zFits z ≡ true → asked r (anomaly z) cs .answer .number ≡ 0
+pub accepts-z : (r : Run) (cs : Columns) (z : ℤ) → Good r cs → r .months < long cs → zFits z ≡ true → asked r (anomaly z) cs .answer .number ≡ 0
 unfolding zRefusal runRefusal roomRefusal
 accepts-z r cs z g room f = refused-add r (anomaly z) cs .0 ∙ rw (g .fit, g .run, f, lt-ltb _ _ room)
 
-long-after : (r : Run) (cs : Columns) (a : Ask) → Took r a cs → long (asked r a cs .columns) ≡ long cs
+pub long-after : (r : Run) (cs : Columns) (a : Ask) → Took r a cs → long (asked r a cs .columns) ≡ long cs
 long-after r cs a t = ap (λ (b : Result). long (b .columns)) (t .did) ∙ long-kept r cs (t .good) (t .room) _ (t .soil) _ _ (t .z)
 
 -- so are all of a list, while there is room
-accepts-all : (s : State) (zs : List ℤ) → Good (s .run) (s .columns) → s .run .months + length zs ≤ long (s .columns) → allZFit zs ≡ true → Accepted s (map anomaly zs)
+pub accepts-all : (s : State) (zs : List ℤ) → Good (s .run) (s .columns) → s .run .months + length zs ≤ long (s .columns) → allZFit zs ≡ true → Accepted s (map anomaly zs)
 accepts-all s [] g room f = tt
 accepts-all s (z ∷ zs) g room f =
     let h = accepts-z (s .run) (s .columns) z g (omega arith) (first (zFits z) (allZFit zs) f) in

@@ -3,7 +3,7 @@
 use Prim.Native.Nat.{ℕ}
 use mathlib.Core.Path.{_≡_}
 use mathlib.Core.List.{List, [], _∷_}
-use lib.IntN.{ℤ}
+use lib.IntN.{ℤ, pos}
 use Rattle.door.specs.Readings.{reading, month}
 use Rattle.door.specs.declared.Reading.{Reading}
 use Rattle.door.specs.declared.MonthInches.{MonthInches}
@@ -12,6 +12,7 @@ use Rattle.water.specs.declared.Soil.{Soil}
 use Rattle.water.specs.declared.Month.{Month}
 use Rattle.spells.specs.Spells.{stepOf}
 use Rattle.spells.specs.declared.Running.{Running}
+use Rattle.spells.specs.declared.Decision.the-variants.{Nothing}
 use Rattle.hindsight.specs.Rule.{Row}
 use Rattle.hindsight.specs.Columns.{rowsOf}
 use Rattle.hindsight.specs.Months.{rowFor}
@@ -96,6 +97,10 @@ stationNext s a =
 
 abbrev pub stationRow : Station → Ask → Row
 stationRow s a = rowFor (stepOf (s .values) (zFor s a))
+
+-- where there is no month
+abbrev pub noRow : Row
+noRow = record { x = record { x1 = pos 0; x2 = pos 0; x3 = pos 0 }; decision = Nothing; shown = pos 0 }
 
 -- the rows of all months so far
 abbrev pub rowsOfMonths : Run → List Ask → List Row

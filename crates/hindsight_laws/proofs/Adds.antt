@@ -1,7 +1,7 @@
 -- What the columns hold after an add is `addMonth` of what they held, so that what is proved of adding rows holds of the columns; and the
 -- whole series fills what adding singly would. Assumes nothing.
 use mathlib.Core.Path.{_≡_, refl, sym, ap, _∙_}
-use mathlib.Core.List.{List, [], _∷_, _++_}
+use mathlib.Core.List.{List, [], _∷_, _++_, map, append-nil, append-assoc}
 use Prim.Native.Nat.{ℕ, zero, suc, _+_, _<_}
 use native.Mathlib.Omega.{arith}
 use lib.IntN.{ℤ, pos}
@@ -10,10 +10,10 @@ use lib.Seq.{take-at, getD-set-same}
 use Rattle.spells.specs.declared.Decision.{Decision}
 use Rattle.spells.specs.declared.Decision.the-variants.{Nothing, Decides}
 use Rattle.hindsight.specs.Rule.{X, Row, forwardIndexes, forwardMarks}
-use Rattle.hindsight.specs.Adding.{History, fresh, addAll, addAs, addMonth}
+use Rattle.hindsight.specs.Adding.{History, fresh, addAll, addAs, addMonth, addTo}
 use Rattle.hindsight.specs.Columns.{xAt, xsFrom, decisionOf, historyIn, rowOf, Adds}
 use Rattle.history.proofs.Adding.{xs-same, earlier-same}
-use Rattle.hindsight_laws.proofs.Hindsight.{inv, index-columns, mark-columns, add-append}
+use Rattle.hindsight_laws.proofs.Hindsight.{xOf, inv, index-columns, mark-columns, add-append}
 
 -- one place more
 xs-long : (x : ℕ → X) (i k : ℕ) → xsFrom x i (suc k) ≡ xsFrom x i k ++ (x (i + k) ∷ [])
@@ -30,6 +30,14 @@ xs-long x i (suc k) = rw (add i k) (ap (λ (l : List X). x i ∷ l) (xs-long x (
 past-of : (d : Decision) (run : History) (r : Row) → addAs d run r .past ≡ run .past ++ (r .x ∷ [])
 past-of Nothing run r = refl
 past-of (Decides w) run r = refl
+
+-- so after any months those held are the months added, in their order
+pub past-all : (run : History) (rows : List Row) → addTo run rows .past ≡ run .past ++ map xOf rows
+past-all run [] = sym (append-nil (run .past))
+past-all run (r ∷ rows) =
+    past-all (addMonth run r) rows
+    ∙ ap (λ (l : List X). l ++ map xOf rows) (past-of (r .decision) run r)
+    ∙ append-assoc (run .past) (r .x ∷ []) (map xOf rows)
 
 -- the front of what is left, where the rest is what was there
 front : {A : Type 0} (l l₀ p : List A) (n : ℕ) → n < length l₀ → length l ≡ length l₀ → l ≡ p ++ drop (suc n) l₀ → take (suc n) l ≡ p

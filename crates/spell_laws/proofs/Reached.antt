@@ -22,12 +22,13 @@ use Rattle.spells.specs.Values.{fresh}
 use Rattle.spells.specs.Spells.{raised, lowered, steadyMonth, abatingValues, abatingMonth, founded, unfounded, tried, noSpell, endingMonth, stepOf}
 use Rattle.spells.proofs.Choices.{same-values, raised-kept, raised-off, lowered-kept, lowered-off}
 use Rattle.ending.specs.Ending.{Ending, steady, ended, abating, turn, uOf, vOf, eOf, endingOf}
-use Rattle.spell_laws.specs.Months.{InForce, NoneInForce, endingIn, spell-is, NoSpell, none, just-ended, x1Of, x2Of}
+use Rattle.spell_laws.specs.Months.{InForce, NoneInForce, endingIn, SpellIs, spell-is, NoSpell, none, just-ended, x1Of, x2Of}
 use Rattle.spell_laws.specs.Mirror.{mirror, BothFound}
 use Rattle.spell_laws.specs.Reached.{Reached}
-use Rattle.spell_laws.proofs.Cases.{by-order, by-tried, by-month}
+use Rattle.spell_laws.proofs.Cases.{by-order, by-tried, by-month, step-ending}
 use Rattle.spell_laws.proofs.Abates.{abating-x3}
-use Rattle.spell_laws.proofs.Mirror.{mirror-x1, mirror-x2, mirror-force, mirror-ending}
+use Rattle.spell_laws.proofs.Mirror.{mirror-x1, mirror-x2, mirror-force, mirror-ending, mirror-values, mirror-percent}
+use Rattle.spell_laws.proofs.Theorems.{percent-ended}
 
 -- ---- next(x), between two halves
 abbrev sum : ℤ → ℤ → ℤ
@@ -162,6 +163,55 @@ module _ (s : Running) (z : ℤ) (k : Reached s) where
 
       clash : (x y z p q : ℤ) → pos 1 ≤ℤ x → y ≤ℤ negsuc 0 → p ≤ℤ pos 0 → pos 0 ≤ℤ q → (pos 2 *ℤ sum x z) ≤ℤ (pos 6000 *ℤ p +ℤ pos 3000) → (pos 6000 *ℤ q) ≤ℤ (pos 2 *ℤ sum y z +ℤ pos 3000) → ⊥
       clash x y z p q = rw (is-Z x, is-Z y, is-Z z, is-Z p, is-Z q) (simp zs (omega arith))
+
+-- ---- a month in which a drought ends: it leaves X2 at -550 or above, and founds no drought
+abbrev Over : ℤ → SpellMonth → Type 0
+Over x2 m = (negℤ (pos 550) ≤ℤ x2) × (negℤ (pos 550) ≤ℤ m .after .x2) × (pos 0 ≤ℤ m .after .x3)
+
+module _ (s : Running) (z : ℤ) (k : Reached s) where
+  over : InForce false s → endingIn false s z ≡ ended → Over (x2Of s z) (stepOf s z)
+  unfolding endingMonth noSpell founded unfounded
+  over h i =
+      let b = dry-ends s z k h i in
+      subst (Over (x2Of s z)) (sym (step-ending false s z ended h i))
+      (by-tried (x1Of s z) (x2Of s z) 100 (Over (x2Of s z)) (λ p. (b, record { le = tt }, up (x1Of s z) p)) (λ p q. absurd (not-far (x2Of s z) b q)) (λ p q r. (b, b, record { le = tt })) (λ p q r t. (b, b, record { le = tt })) (λ p q r t. (b, b, record { le = tt })))
+    where
+      up : (x : ℤ) → pos 1000 ≤ℤ x → pos 0 ≤ℤ x
+      up x = rw (is-Z x) (simp zs (omega arith))
+
+      not-far : (x : ℤ) → negℤ (pos 550) ≤ℤ x → x ≤ℤ negℤ (pos 1000) → ⊥
+      not-far x = rw (is-Z x) (simp zs (omega arith))
+
+  pub dry-over : s .x3 <ℤ negℤ (pos 500) → stepOf s z .percent ≡ 100 → Over (x2Of s z) (stepOf s z)
+  unfolding turn
+  dry-over h e = go (percent-ended s z .1 e)
+    where
+      not-wet : (x : ℤ) → x <ℤ negℤ (pos 500) → negℤ x <ℤ negℤ (pos 500) → ⊥
+      not-wet x = rw (is-Z x) (simp zs (omega arith))
+
+      go : SpellIs ended s z → Over (x2Of s z) (stepOf s z)
+      go (spell-is false n i) = over n i
+      go (spell-is true n i) = absurd (not-wet (s .x3) h n)
+
+-- and by the mirror a wet spell leaves X1 at 550 or below, and founds no wet spell
+pub wet-over : (s : Running) (z : ℤ) → Reached s → pos 500 <ℤ s .x3 → stepOf s z .percent ≡ 100
+    → (x1Of s z ≤ℤ pos 550) × (stepOf s z .after .x1 ≤ℤ pos 550) × (stepOf s z .after .x3 ≤ℤ pos 0)
+wet-over s z k h e =
+    let values = mirror-values s z (never-both s z k) in
+    let o = dry-over (mirror s) (negℤ z) (reached-mirror s k) (far (s .x3) h) (mirror-percent s z ∙ e) in (
+      back (x1Of s z) (subst (λ (x : ℤ). negℤ (pos 550) ≤ℤ x) (mirror-x2 s z) (o .0)),
+      back (stepOf s z .after .x1) (subst (λ (r : Running). negℤ (pos 550) ≤ℤ r .x2) values (o .1)),
+      low (stepOf s z .after .x3) (subst (λ (r : Running). pos 0 ≤ℤ r .x3) values (o .2)),
+    )
+  where
+    far : (x : ℤ) → pos 500 <ℤ x → negℤ x <ℤ negℤ (pos 500)
+    far x = rw (is-Z x) (simp zs (omega arith))
+
+    back : (x : ℤ) → negℤ (pos 550) ≤ℤ negℤ x → x ≤ℤ pos 550
+    back x = rw (is-Z x) (simp zs (omega arith))
+
+    low : (x : ℤ) → pos 0 ≤ℤ negℤ x → x ≤ℤ pos 0
+    low x = rw (is-Z x) (simp zs (omega arith))
 
 -- ---- a month keeps them so
 

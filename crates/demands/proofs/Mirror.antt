@@ -1,0 +1,364 @@
+-- Wet and dry are mirrors, as specs/Mirror.antt states it. What holds of the rows of a list of Z and of the list turned (proofs/Turned.antt) holds of
+-- the columns and of the whole series by the theorems that stand: the columns hold the rows, each at its place, and show what the forward
+-- rule says of them. Assumes nothing.
+use mathlib.Core.Path.{_≡_, refl, sym, ap, ap₂, _∙_, subst, subst₂}
+use mathlib.Core.Bool.{true}
+use mathlib.Core.Logic.{⊎-elim}
+use mathlib.Core.List.{List, [], _∷_, map}
+use Prim.Native.Nat.{ℕ, zero, suc, _+_, _≤_, _<_}
+use native.Mathlib.Omega.{arith}
+use lib.IntN.{ℤ, pos, negℤ, natAbs}
+use lib.Signed.{_<ℤ_}
+use lib.Dec.{leb}
+use borrow.Author.Tests.{le-leb}
+use lib.ListN.{length, getD, length-map}
+use Rattle.outline.specs.Numbers.{mostZ, zFits}
+use Rattle.outline.specs.Refusals.{unlessRefused}
+use Rattle.outline.proofs.Tests.{both}
+use Rattle.outline.proofs.Refusals.{is-done}
+use Rattle.exact.specs.Nearest.{nearest, nearestℕ}
+use Rattle.exact.specs.Next.{nextOf}
+use Rattle.spells.specs.Values.{fresh as fresh-values}
+use Rattle.spells.specs.Spells.{raised, lowered, largerInSize, provisional, steadyMonth, abatingValues, abatingMonth, founded, unfounded, tried, noSpell, endingMonth, inForce, stepOf}
+use Rattle.ending.specs.Ending.{turn, uOf, vOf, eOf, qOf, endingOf, percentOf}
+use Rattle.spells.specs.declared.Running.{Running}
+use Rattle.spell_laws.specs.Mirror.{mirror}
+use Rattle.spell_laws.specs.Reached.{Reached}
+use Rattle.spell_laws.proofs.Mirror.{neg-size, mirror-percent}
+use Rattle.spell_laws.proofs.Reached.{fresh-reached, step-reached, dry-over, wet-over}
+use Rattle.hindsight.specs.Rule.{X, Row, Shown, markOf, indexOf, forward, forwardAll, forwardIndexes, forwardMarks}
+use Rattle.hindsight.proofs.Forward.{getD-map, getD-forwardAll}
+use Rattle.hindsight.specs.Adding.{History, addAll, settledAs}
+use Rattle.hindsight.specs.Columns.{stateOf}
+use Rattle.hindsight.specs.Months.{nextValues, rowsOfZ}
+use Rattle.hindsight_laws.specs.Counts.{count}
+use Rattle.hindsight_laws.proofs.Hindsight.{opens-counts}
+use Rattle.hindsight_laws.proofs.Adds.{series-is-adding}
+use Rattle.calendar.specs.Calendar.{nextCalendar}
+use Rattle.starts.specs.Start.{startRefusal, freshRun}
+use Rattle.starts.proofs.Theorems.{start-is-run}
+use Rattle.runs.specs.declared.Run.{Run}
+use Rattle.series.specs.Series.{allZFit, seriesRefusal, Filled, filled, wholeSeries}
+use Rattle.series.proofs.SeriesLaws.{number-of}
+use Rattle.refusals.specs.Columns.{Columns, long, columnsFit}
+use Rattle.refusals.specs.Good.{Good}
+use Rattle.refusals.specs.Refusals.{runRefusal, roomRefusal, zRefusal}
+use Rattle.refusals.proofs.Refused.{good-passes}
+use Rattle.adding.specs.Taken.{heldBy}
+use Rattle.adding.specs.declared.Figures.{Figures}
+use Rattle.demands.specs.Months.{Ask, anomaly, asked, State, after, afterAll, Accepted, Station, stationOf, zFor, stationNext, noRow}
+use Rattle.demands.specs.Demands.{begun}
+use Rattle.demands.specs.Mirror.{turned, mirrorX, mirrorRun, TurnsAbout, given, Given, answer, valuesAt, shownAt, Mirrors, valuesOf, filledAt, SeriesMirrors, reaching, ending, Ends}
+use Rattle.demands.proofs.Took.{took, months-next, station-next, settled-is}
+use Rattle.demands.proofs.Honest.{zero-or, good-always}
+use Rattle.demands.proofs.Sequence.{held-all, months-all, station-all}
+use Rattle.demands.proofs.Shown.{refused-add, figures-are, values-at, settled-is-hindsight}
+use Rattle.demands.proofs.Singly.{rows-same, accepts-z, accepts-all, long-after, singly-accepted}
+use Rattle.demands.proofs.Turned.{step-values, step-settled, every-turns, every-x, marks-same}
+
+-- ---- a Z turned is in its range where the Z is
+z-turned : (z : ℤ) → zFits (negℤ z) ≡ zFits z
+unfolding zFits
+z-turned z = ap (λ (n : ℕ). leb n mostZ) (neg-size z)
+
+all-turned : (zs : List ℤ) → allZFit (turned zs) ≡ allZFit zs
+all-turned [] = refl
+all-turned (z ∷ zs) = rw (z-turned z, all-turned zs)
+
+-- ---- what accepted Z say of their list: every Z is in its range, and there was room
+z-fits : (z : ℤ) → natAbs z ≤ mostZ → zFits z ≡ true
+unfolding zFits
+z-fits z h = le-leb (natAbs z) mostZ h
+
+record Fit (s : State) (zs : List ℤ) : Type 0 where
+  all-fit : allZFit zs ≡ true
+  room : s .run .months + length zs ≤ long (s .columns)
+
+fits : (s : State) (zs : List ℤ) → s .run .months ≤ long (s .columns) → Accepted s (map anomaly zs) → Fit s zs
+fits s [] l h = record { all-fit = refl; room = omega arith }
+fits s (z ∷ zs) l h =
+    let t = took (s .run) (s .columns) (anomaly z) (h .0) in
+    let n = months-next (s .run) (anomaly z) (s .columns) t in
+    let k = long-after (s .run) (s .columns) (anomaly z) t in
+    let r = t .room in
+    let f = fits (after s (anomaly z)) zs (omega arith) (h .1) in
+    record { all-fit = both (z-fits z (t .z)) (f .all-fit); room = omega (arith, f .room) }
+
+-- so the list turned is accepted, too
+accepted-turned : (s : State) (zs : List ℤ) → Accepted s (map anomaly zs) → Accepted s (map anomaly (turned zs))
+accepted-turned s [] h = tt
+accepted-turned s (z ∷ zs) h =
+    let t = took (s .run) (s .columns) (anomaly z) (h .0) in
+    let r = t .room in
+    let f = fits s (z ∷ zs) (omega arith) h in
+    accepts-all s (turned (z ∷ zs)) (t .good) (omega (arith, f .room, length-map (z ∷ zs) negℤ)) (all-turned (z ∷ zs) ∙ f .all-fit)
+
+-- ---- one Z more is refused alike
+long-all : (s : State) (asks : List Ask) → Accepted s asks → long (afterAll s asks .columns) ≡ long (s .columns)
+long-all s [] h = refl
+long-all s (a ∷ later) h = long-all (after s a) later (h .1) ∙ long-after (s .run) (s .columns) a (took (s .run) (s .columns) a (h .0))
+
+refused-alike : (s t : State) (z : ℤ) → runRefusal (t .run) (t .columns) ≡ runRefusal (s .run) (s .columns) → t .run .months ≡ s .run .months → long (t .columns) ≡ long (s .columns)
+    → zRefusal (t .run) (negℤ z) (t .columns) ≡ zRefusal (s .run) z (s .columns)
+unfolding zRefusal
+refused-alike s t z p q r = rw (p, q, r, z-turned z)
+
+months-turned : (s : State) (zs : List ℤ) → Accepted s (map anomaly zs) → afterAll s (map anomaly (turned zs)) .run .months ≡ afterAll s (map anomaly zs) .run .months
+months-turned s zs h =
+    omega (
+      arith,
+      months-all s (map anomaly zs) h,
+      months-all s (map anomaly (turned zs)) (accepted-turned s zs h),
+      length-map zs anomaly,
+      length-map (turned zs) anomaly,
+      length-map zs negℤ,
+    )
+
+number-turned : (s : State) (zs : List ℤ) (z : ℤ) → Accepted s (map anomaly zs)
+    → let t = afterAll s (map anomaly zs) in let u = afterAll s (map anomaly (turned zs)) in
+    asked (u .run) (anomaly (negℤ z)) (u .columns) .answer .number ≡ asked (t .run) (anomaly z) (t .columns) .answer .number
+number-turned s zs z h =
+    let t = afterAll s (map anomaly zs) in
+    let u = afterAll s (map anomaly (turned zs)) in
+    refused-add (u .run) (anomaly (negℤ z)) (u .columns) .0
+    ∙ refused-alike t u z (go zs h) (months-turned s zs h) (long-all s (map anomaly (turned zs)) (accepted-turned s zs h) ∙ sym (long-all s (map anomaly zs) h))
+    ∙ sym (refused-add (t .run) (anomaly z) (t .columns) .0)
+  where
+    -- with no month yet they are one; after a month both are good
+    go : (zs : List ℤ) → Accepted s (map anomaly zs) → runRefusal (afterAll s (map anomaly (turned zs)) .run) (afterAll s (map anomaly (turned zs)) .columns) ≡ runRefusal (afterAll s (map anomaly zs) .run) (afterAll s (map anomaly zs) .columns)
+    go [] h = refl
+    go (z ∷ zs) h =
+        let g = took (s .run) (s .columns) (anomaly z) (h .0) .good in
+        let t = afterAll s (map anomaly (z ∷ zs)) in
+        let u = afterAll s (map anomaly (turned (z ∷ zs))) in
+        good-passes (u .run) (u .columns) (good-always s (map anomaly (turned (z ∷ zs))) g) ∙ sym (good-passes (t .run) (t .columns) (good-always s (map anomaly (z ∷ zs)) g))
+
+-- ---- the run that is handed back
+abbrev mirrorStation : Station → Station
+mirrorStation d = record { soil = d .soil; calendar = d .calendar; constants = d .constants; values = mirror (d .values) }
+
+station-turned : (d : Station) → Reached (d .values) → (zs : List ℤ) → stateOf stationNext (mirrorStation d) (map anomaly (turned zs)) ≡ mirrorStation (stateOf stationNext d (map anomaly zs))
+station-turned d k [] = refl
+station-turned d k (z ∷ zs) =
+    ap (λ (v : Running). stateOf stationNext (record { soil = d .soil; calendar = nextCalendar (d .calendar); constants = d .constants; values = v }) (map anomaly (turned zs))) (step-values (d .values) z k)
+    ∙ station-turned (stationNext d (anomaly z)) (step-reached (d .values) z k) zs
+
+-- what a fresh run comes to, by months of water or of Z
+reached-after : (s : State) (asks : List Ask) → Reached (s .run .values) → Accepted s asks → Reached (afterAll s asks .run .values)
+reached-after s [] k h = k
+reached-after s (a ∷ later) k h =
+    let n = station-next (s .run) a (s .columns) (took (s .run) (s .columns) a (h .0)) in
+    reached-after (after s a) later (subst (λ (d : Station). Reached (d .values)) (sym n) (step-reached (s .run .values) (zFor (stationOf (s .run)) a) k)) (h .1)
+
+module _ (constants : List ℤ) (c ss su m : ℤ) (cs : Columns) where
+  abbrev start : State
+  start = begun constants c ss su m cs
+
+  abbrev station : Station
+  station = stationOf (freshRun constants c ss su m)
+
+  -- the columns hold the rows of the list
+  held-z : (zs : List ℤ) → Accepted start (map anomaly zs) → heldBy (given constants c ss su m cs zs .run) (given constants c ss su m cs zs .columns) ≡ addAll (rowsOfZ zs)
+  held-z zs h = held-all start (map anomaly zs) h ∙ ap addAll (rows-same station zs)
+
+  opens-are : (zs : List ℤ) → Accepted start (map anomaly zs) → given constants c ss su m cs zs .run .opens ≡ count 1 (forwardMarks (rowsOfZ zs))
+  opens-are zs h = ap (λ (u : History). u .opens) (held-z zs h) ∙ opens-counts (rowsOfZ zs) ∙ ap (count 1) (sym (series-is-adding (rowsOfZ zs) .1))
+
+  run-turned : (zs : List ℤ) → Accepted start (map anomaly zs) → given constants c ss su m cs (turned zs) .run ≡ mirrorRun (given constants c ss su m cs zs .run)
+  run-turned zs h =
+      let k = accepted-turned start zs h in
+      ap₂ (λ (d : Station) (n : ℕ × ℕ). runWith d (n .0) (n .1))
+      (station-all start (map anomaly (turned zs)) k ∙ station-turned station fresh-reached zs ∙ ap mirrorStation (sym (station-all start (map anomaly zs) h)))
+      (ap₂ (λ (a b : ℕ). (a, b)) (months-turned start zs h) (opens-are (turned zs) k ∙ ap (count 1) (marks-same fresh-values fresh-reached zs) ∙ sym (opens-are zs h)))
+    where
+      runWith : Station → ℕ → ℕ → Run
+      runWith d n o = record { months = n; opens = o; calendar = d .calendar; soil = d .soil; values = d .values; constants = d .constants }
+
+  -- what the columns hold at a month's place is what the rules give of it
+  values-are : (zs : List ℤ) → Given constants c ss su m cs zs → (i : ℕ) → i < length zs → valuesAt constants c ss su m cs zs i ≡ valuesOf zs i
+  values-are zs h i l =
+      values-at constants c ss su m cs (h .0) (map anomaly zs) (h .1) i (omega (arith, length-map zs anomaly))
+      ∙ ap (λ (u : List Row). getD u i noRow .x) (rows-same station zs)
+
+  shown-are : (zs : List ℤ) → Given constants c ss su m cs zs → (i : ℕ) → i < length zs → shownAt constants c ss su m cs zs i ≡ forward (rowsOfZ zs) i
+  shown-are zs h i l =
+      let e = settled-is-hindsight constants c ss su m cs (h .0) (map anomaly zs) (h .1) i (omega (arith, length-map zs anomaly)) in
+      ap₂ (λ (n : ℕ) (x : ℤ). shows n x) (e .1) (e .0) ∙ ap (λ (u : List Row). forward u i) (rows-same station zs)
+    where
+      shows : ℕ → ℤ → Shown
+      shows n x = record { mark = n; index = x }
+
+  values-turned : (zs : List ℤ) → Given constants c ss su m cs zs → (i : ℕ) → i < length zs → valuesAt constants c ss su m cs (turned zs) i ≡ mirrorX (valuesAt constants c ss su m cs zs i)
+  values-turned zs h i l =
+      values-are (turned zs) (h .0, accepted-turned start zs (h .1)) i (omega (arith, length-map zs negℤ))
+      ∙ every-x fresh-values fresh-reached zs i
+      ∙ ap mirrorX (sym (values-are zs h i l))
+
+  shown-turned : (zs : List ℤ) → Given constants c ss su m cs zs → (i : ℕ) → i < length zs → TurnsAbout (valuesAt constants c ss su m cs zs i) (shownAt constants c ss su m cs zs i) (shownAt constants c ss su m cs (turned zs) i)
+  shown-turned zs h i l =
+      rw (values-are zs h i l, shown-are zs h i l, shown-are (turned zs) (h .0, accepted-turned start zs (h .1)) i (omega (arith, length-map zs negℤ)))
+      (every-turns fresh-values fresh-reached zs i)
+
+  -- an add of one Z more: what it answers by the rules, and nothing where it refuses
+  module _ (zs : List ℤ) (z : ℤ) (h : Accepted start (map anomaly zs)) where
+    abbrev state : State
+    state = given constants c ss su m cs zs
+
+    abbrev mirrored : State
+    mirrored = given constants c ss su m cs (turned zs)
+
+    abbrev same : Type 0
+    same = (answer constants c ss su m cs (turned zs) (negℤ z) .figures .percent ≡ answer constants c ss su m cs zs z .figures .percent) × (answer constants c ss su m cs (turned zs) (negℤ z) .settled ≡ answer constants c ss su m cs zs z .settled)
+
+    add-turned : same
+    add-turned = ⊎-elim taken refused (zero-or (answer constants c ss su m cs zs z .number))
+      where
+        n : answer constants c ss su m cs (turned zs) (negℤ z) .number ≡ answer constants c ss su m cs zs z .number
+        n = number-turned start zs z h
+
+        r : mirrored .run ≡ mirrorRun (state .run)
+        r = run-turned zs h
+
+        taken : answer constants c ss su m cs zs z .number ≡ 0 → same
+        taken e =
+            let t = took (state .run) (state .columns) (anomaly z) e in
+            let u = took (mirrored .run) (mirrored .columns) (anomaly (negℤ z)) (n ∙ e) in
+            let k = reached-after start (map anomaly zs) fresh-reached h in (
+              ap (λ (f : Figures). f .percent) (figures-are (mirrored .run) (anomaly (negℤ z)) (mirrored .columns) (n ∙ e))
+              ∙ ap (λ (s : Run). stepOf (s .values) (negℤ z) .percent) r
+              ∙ mirror-percent (state .run .values) z
+              ∙ sym (ap (λ (f : Figures). f .percent) (figures-are (state .run) (anomaly z) (state .columns) e)),
+              settled-is (mirrored .run) (anomaly (negℤ z)) (mirrored .columns) u
+              ∙ ap (λ (s : Run). settledAs (stepOf (s .values) (negℤ z) .decision) (s .opens)) r
+              ∙ step-settled (state .run .values) z k (state .run .opens)
+              ∙ sym (settled-is (state .run) (anomaly z) (state .columns) t),
+            )
+
+        refused : (answer constants c ss su m cs zs z .number ≡ 0 → ⊥) → same
+        refused f =
+            let a = refused-add (state .run) (anomaly z) (state .columns) in
+            let b = refused-add (mirrored .run) (anomaly (negℤ z)) (mirrored .columns) in
+            let p = a .1 (λ e. f (a .0 ∙ e)) in
+            let q = b .1 (λ e. f (sym n ∙ b .0 ∙ e)) in
+            (ap (λ (f : Figures). f .percent) (q .3 ∙ sym (p .3)), q .2 ∙ sym (p .2))
+
+  pub mirrors : Mirrors constants c ss su m cs
+  mirrors =
+      record {
+        accepted = λ zs h. (h .0, accepted-turned start zs (h .1));
+        number = λ zs z h. number-turned start zs z (h .1);
+        values = values-turned;
+        run = λ zs h. run-turned zs (h .1);
+        shown = shown-turned;
+        percent = λ zs z h. add-turned zs z (h .1) .0;
+        settled = λ zs z h. add-turned zs z (h .1) .1;
+      }
+
+-- ---- the whole series is the forward rule over the same rows
+refusal-turned : (zs : List ℤ) (a b : ℕ) → seriesRefusal (turned zs) a b ≡ seriesRefusal zs a b
+unfolding seriesRefusal
+refusal-turned zs a b = rw (length-map zs negℤ, all-turned zs)
+
+series-number : (zs index : List ℤ) (mark : List ℕ) → wholeSeries zs index mark .number ≡ seriesRefusal zs (length index) (length mark)
+series-number zs index mark = let w = wholeSeries zs index mark in number-of zs index mark (w .number) (w .index) (w .mark) refl
+
+marks-turned : (zs index : List ℤ) (mark : List ℕ) → wholeSeries (turned zs) index mark .mark ≡ wholeSeries zs index mark .mark
+unfolding wholeSeries
+marks-turned zs index mark = rw (refusal-turned zs (length index) (length mark)) (go (seriesRefusal zs (length index) (length mark)))
+  where
+    go : (k : ℕ)
+        → unlessRefused k (filled 0 (forwardIndexes (rowsOfZ (turned zs))) (forwardMarks (rowsOfZ (turned zs)))) (filled k index mark) .mark
+        ≡ unlessRefused k (filled 0 (forwardIndexes (rowsOfZ zs)) (forwardMarks (rowsOfZ zs))) (filled k index mark) .mark
+    go zero = marks-same fresh-values fresh-reached zs
+    go (suc k) = refl
+
+filled-are : (zs index : List ℤ) (mark : List ℕ) → seriesRefusal zs (length index) (length mark) ≡ 0 → (i : ℕ) → filledAt zs index mark i ≡ forward (rowsOfZ zs) i
+unfolding wholeSeries
+filled-are zs index mark e i =
+    let d = is-done (seriesRefusal zs (length index) (length mark)) (filled 0 (forwardIndexes (rowsOfZ zs)) (forwardMarks (rowsOfZ zs))) (filled (seriesRefusal zs (length index) (length mark)) index mark) e in
+    ap (λ (f : Filled). place f) d
+    ∙ ap₂ (λ (n : ℕ) (x : ℤ). shows n x) (getD-map markOf (forwardAll (rowsOfZ zs)) i none) (getD-map indexOf (forwardAll (rowsOfZ zs)) i none)
+    ∙ getD-forwardAll (rowsOfZ zs) i
+  where
+    none : Shown
+    none = record { mark = 0; index = pos 0 }
+
+    shows : ℕ → ℤ → Shown
+    shows n x = record { mark = n; index = x }
+
+    place : Filled → Shown
+    place f = shows (getD (f .mark) i 0) (getD (f .index) i (pos 0))
+
+pub series-mirrors : SeriesMirrors
+series-mirrors =
+    record {
+      number = λ zs index mark. series-number (turned zs) index mark ∙ refusal-turned zs (length index) (length mark) ∙ sym (series-number zs index mark);
+      marks = marks-turned;
+      shown = λ zs index mark e i l. go zs index mark (sym (series-number zs index mark) ∙ e) i;
+    }
+  where
+    go : (zs index : List ℤ) (mark : List ℕ) → seriesRefusal zs (length index) (length mark) ≡ 0 → (i : ℕ) → TurnsAbout (valuesOf zs i) (filledAt zs index mark i) (filledAt (turned zs) index mark i)
+    go zs index mark e i =
+        rw (filled-are zs index mark e i, filled-are (turned zs) index mark (refusal-turned zs (length index) (length mark) ∙ e) i)
+        (every-turns fresh-values fresh-reached zs i)
+
+-- ---- spells that end
+values-of : (d : Station) (zs : List ℤ) → stateOf stationNext d (map anomaly zs) .values ≡ stateOf nextValues (d .values) zs
+values-of d [] = refl
+values-of d (z ∷ zs) = values-of (stationNext d (anomaly z)) zs
+
+-- the 46 months, worked out: 45 draw X2 to X3, and the last ends the drought
+level : Running
+level = record { x1 = pos 0; x2 = negℤ (pos 578); x3 = negℤ (pos 578); v = pos 2560 }
+
+reaches : (stateOf nextValues fresh-values reaching ≡ level) × (stepOf level ending .percent ≡ 100) × (stepOf level ending .after .x2 ≡ negℤ (pos 550))
+unfolding nearest nearestℕ nextOf turn uOf vOf eOf qOf endingOf percentOf raised lowered largerInSize provisional steadyMonth abatingValues abatingMonth founded unfounded tried noSpell endingMonth inForce stepOf level
+reaches = (refl, refl, refl)
+
+module _ (constants : List ℤ) (c ss su m : ℤ) (cs : Columns) where
+  reached-at : (asks : List Ask) → Accepted (begun constants c ss su m cs) asks → Reached (afterAll (begun constants c ss su m cs) asks .run .values)
+  reached-at asks h = reached-after (begun constants c ss su m cs) asks fresh-reached h
+
+  abbrev before : List Ask → State
+  before asks = afterAll (begun constants c ss su m cs) asks
+
+  -- the series that reaches -550 is accepted wherever there is room for it
+  module _ (s : startRefusal constants c ss su m ≡ 0) (f : columnsFit cs ≡ true) (l : suc (length reaching) ≤ long cs) where
+    accepts : Accepted (begun constants c ss su m cs) (map anomaly reaching)
+    unfolding zFits
+    accepts = singly-accepted constants c ss su m cs s reaching f (omega arith) refl
+
+    last : asked (before (map anomaly reaching) .run) (anomaly ending) (before (map anomaly reaching) .columns) .answer .number ≡ 0
+    unfolding zFits
+    last =
+        accepts-z (before (map anomaly reaching) .run) (before (map anomaly reaching) .columns) ending
+        (good-always (begun constants c ss su m cs) (map anomaly reaching) (record { fit = f; run = start-is-run constants c ss su m s (long cs) }))
+        (omega (arith, months-all (begun constants c ss su m cs) (map anomaly reaching) accepts, long-all (begun constants c ss su m cs) (map anomaly reaching) accepts))
+        refl
+
+    at-578 : before (map anomaly reaching) .run .values ≡ level
+    at-578 = ap (λ (d : Station). d .values) (station-all (begun constants c ss su m cs) (map anomaly reaching) accepts) ∙ values-of (stationOf (freshRun constants c ss su m)) reaching ∙ reaches .0
+
+    reached-550 :
+        Accepted (begun constants c ss su m cs) (map anomaly reaching)
+        × (asked (before (map anomaly reaching) .run) (anomaly ending) (before (map anomaly reaching) .columns) .answer .number ≡ 0)
+        × (before (map anomaly reaching) .run .values .x3 <ℤ negℤ (pos 500))
+        × (asked (before (map anomaly reaching) .run) (anomaly ending) (before (map anomaly reaching) .columns) .answer .figures .percent ≡ 100)
+        × (asked (before (map anomaly reaching) .run) (anomaly ending) (before (map anomaly reaching) .columns) .answer .figures .x2 ≡ negℤ (pos 550))
+    unfolding level
+    reached-550 =
+        let f = figures-are (before (map anomaly reaching) .run) (anomaly ending) (before (map anomaly reaching) .columns) last in (
+          accepts,
+          last,
+          subst (λ (v : Running). v .x3 <ℤ negℤ (pos 500)) (sym at-578) (record { lt = tt }),
+          ap (λ (g : Figures). g .percent) f ∙ ap (λ (v : Running). stepOf v ending .percent) at-578 ∙ reaches .1,
+          ap (λ (g : Figures). g .x2) f ∙ ap (λ (v : Running). stepOf v ending .after .x2) at-578 ∙ reaches .2,
+        )
+
+  pub ends : Ends constants c ss su m cs
+  ends =
+      record {
+        drought = λ asks a h e n p. rw (figures-are _ a _ e) (dry-over _ _ (reached-at asks h) n (sym (ap (λ (f : Figures). f .percent) (figures-are _ a _ e)) ∙ p));
+        wet = λ asks a h e n p. rw (figures-are _ a _ e) (wet-over _ _ (reached-at asks h) n (sym (ap (λ (f : Figures). f .percent) (figures-are _ a _ e)) ∙ p));
+        reached = reached-550;
+      }
