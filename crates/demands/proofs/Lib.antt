@@ -7,6 +7,7 @@ pub mod Honest
 pub mod ZeroK
 pub mod Soils
 pub mod Singly
+pub mod Sides
 pub mod Turned
 pub mod Mirror
 pub mod Demands
@@ -15,3 +16,4 @@ pub mod WorkedMonths
 pub mod Seasons
 pub mod Rejected
 pub mod SeasonRejected
+pub mod Tempting

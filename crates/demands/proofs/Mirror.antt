@@ -1,20 +1,19 @@
 -- Wet and dry are mirrors, as specs/Mirror.antt states it. What holds of the rows of a list of Z and of the list turned (proofs/Turned.antt) holds of
 -- the columns and of the whole series by the theorems that stand: the columns hold the rows, each at its place, and show what the forward
 -- rule says of them. Assumes nothing.
-use mathlib.Core.Path.{_≡_, refl, sym, ap, ap₂, _∙_, subst, subst₂}
+use mathlib.Core.Path.{_≡_, refl, sym, ap, ap₂, _∙_, subst}
 use mathlib.Core.Bool.{true}
 use mathlib.Core.Logic.{⊎-elim}
 use mathlib.Core.List.{List, [], _∷_, map}
 use Prim.Native.Nat.{ℕ, zero, suc, _+_, _≤_, _<_}
 use native.Mathlib.Omega.{arith}
-use lib.IntN.{ℤ, pos, negℤ, natAbs}
+use lib.IntN.{ℤ, pos, negℤ}
 use lib.Signed.{_<ℤ_}
 use lib.Dec.{leb}
-use borrow.Author.Tests.{le-leb}
 use lib.ListN.{length, getD, length-map}
 use Rattle.outline.specs.Numbers.{mostZ, zFits}
 use Rattle.outline.specs.Refusals.{unlessRefused}
-use Rattle.outline.proofs.Tests.{both}
+use Rattle.outline.proofs.Tests.{both, within-z}
 use Rattle.outline.proofs.Refusals.{is-done}
 use Rattle.exact.specs.Nearest.{nearest, nearestℕ}
 use Rattle.exact.specs.Next.{nextOf}
@@ -26,7 +25,7 @@ use Rattle.spell_laws.specs.Mirror.{mirror}
 use Rattle.spell_laws.specs.Reached.{Reached}
 use Rattle.spell_laws.proofs.Mirror.{neg-size, mirror-percent}
 use Rattle.spell_laws.proofs.Reached.{fresh-reached, step-reached, dry-over, wet-over}
-use Rattle.hindsight.specs.Rule.{X, Row, Shown, markOf, indexOf, forward, forwardAll, forwardIndexes, forwardMarks}
+use Rattle.hindsight.specs.Rule.{Row, Shown, markOf, indexOf, forward, forwardAll, forwardIndexes, forwardMarks}
 use Rattle.hindsight.proofs.Forward.{getD-map, getD-forwardAll}
 use Rattle.hindsight.specs.Adding.{History, addAll, settledAs}
 use Rattle.hindsight.specs.Columns.{stateOf}
@@ -41,8 +40,7 @@ use Rattle.runs.specs.declared.Run.{Run}
 use Rattle.series.specs.Series.{allZFit, seriesRefusal, Filled, filled, wholeSeries}
 use Rattle.series.proofs.SeriesLaws.{number-of}
 use Rattle.refusals.specs.Columns.{Columns, long, columnsFit}
-use Rattle.refusals.specs.Good.{Good}
-use Rattle.refusals.specs.Refusals.{runRefusal, roomRefusal, zRefusal}
+use Rattle.refusals.specs.Refusals.{runRefusal, zRefusal}
 use Rattle.refusals.proofs.Refused.{good-passes}
 use Rattle.adding.specs.Taken.{heldBy}
 use Rattle.adding.specs.declared.Figures.{Figures}
@@ -66,10 +64,6 @@ all-turned [] = refl
 all-turned (z ∷ zs) = rw (z-turned z, all-turned zs)
 
 -- ---- what accepted Z say of their list: every Z is in its range, and there was room
-z-fits : (z : ℤ) → natAbs z ≤ mostZ → zFits z ≡ true
-unfolding zFits
-z-fits z h = le-leb (natAbs z) mostZ h
-
 record Fit (s : State) (zs : List ℤ) : Type 0 where
   all-fit : allZFit zs ≡ true
   room : s .run .months + length zs ≤ long (s .columns)
@@ -82,7 +76,7 @@ fits s (z ∷ zs) l h =
     let k = long-after (s .run) (s .columns) (anomaly z) t in
     let r = t .room in
     let f = fits (after s (anomaly z)) zs (omega arith) (h .1) in
-    record { all-fit = both (z-fits z (t .z)) (f .all-fit); room = omega (arith, f .room) }
+    record { all-fit = both (within-z z (t .z)) (f .all-fit); room = omega (arith, f .room) }
 
 -- so the list turned is accepted, too
 accepted-turned : (s : State) (zs : List ℤ) → Accepted s (map anomaly zs) → Accepted s (map anomaly (turned zs))
@@ -225,13 +219,13 @@ module _ (constants : List ℤ) (c ss su m : ℤ) (cs : Columns) where
             let u = took (mirrored .run) (mirrored .columns) (anomaly (negℤ z)) (n ∙ e) in
             let k = reached-after start (map anomaly zs) fresh-reached h in (
               ap (λ (f : Figures). f .percent) (figures-are (mirrored .run) (anomaly (negℤ z)) (mirrored .columns) (n ∙ e))
-              ∙ ap (λ (s : Run). stepOf (s .values) (negℤ z) .percent) r
-              ∙ mirror-percent (state .run .values) z
-              ∙ sym (ap (λ (f : Figures). f .percent) (figures-are (state .run) (anomaly z) (state .columns) e)),
+                  ∙ ap (λ (s : Run). stepOf (s .values) (negℤ z) .percent) r
+                  ∙ mirror-percent (state .run .values) z
+                  ∙ sym (ap (λ (f : Figures). f .percent) (figures-are (state .run) (anomaly z) (state .columns) e)),
               settled-is (mirrored .run) (anomaly (negℤ z)) (mirrored .columns) u
-              ∙ ap (λ (s : Run). settledAs (stepOf (s .values) (negℤ z) .decision) (s .opens)) r
-              ∙ step-settled (state .run .values) z k (state .run .opens)
-              ∙ sym (settled-is (state .run) (anomaly z) (state .columns) t),
+                  ∙ ap (λ (s : Run). settledAs (stepOf (s .values) (negℤ z) .decision) (s .opens)) r
+                  ∙ step-settled (state .run .values) z k (state .run .opens)
+                  ∙ sym (settled-is (state .run) (anomaly z) (state .columns) t),
             )
 
         refused : (answer constants c ss su m cs zs z .number ≡ 0 → ⊥) → same

@@ -33,7 +33,7 @@ use Rattle.drought.specs.declared.Shown.{Shown}
 use Rattle.outline.proofs.Refusals.{or-first}
 
 -- ---- the months that tell
-abbrev minus : ℕ → ℤ
+abbrev pub minus : ℕ → ℤ
 minus n = negℤ (pos n)
 
 -- a run whose months are all a Z

@@ -1,19 +1,19 @@
 -- The months of a list of Z beside those of the list turned, from any running values that a fresh run comes to and their mirror. A month's
--- own values mirror; its decision does, but where X1 and X2 are both 0, and there both lists decide with X2. That is harmless: no month
--- before it, open, takes its side from it, unless its own X1 and X2 are 0 (`Told`). Assumes nothing.
+-- own values mirror; its decision does, but where X1 and X2 are both 0, and there both lists decide with X2. That is harmless: of the open
+-- months before it none takes its side from it but where its own X1 and X2 are 0 (`Told`, proofs/Sides.antt). Assumes nothing.
 use mathlib.Core.Path.{_≡_, refl, sym, ap, ap₂, _∙_, subst, subst₂}
 use mathlib.Core.Logic.{_⊎_, inl, inr}
 use mathlib.Core.Bool.{Bool, true, false}
 use mathlib.Core.List.{List, [], _∷_, map}
 use Prim.Native.Nat.{ℕ, zero, suc}
 use native.Mathlib.Omega.{arith}
-use lib.IntN.{ℤ, pos, negsuc, negℤ, natAbs}
+use lib.IntN.{ℤ, pos, negℤ, natAbs}
 use lib.Signed.{_≤ℤ_}
 use lib.ListN.{getD}
 use Rattle.exact.proofs.Z.{zs-abs, is-Z}
 use Rattle.spells.specs.declared.Running.{Running}
 use Rattle.spells.specs.declared.With.{With}
-use Rattle.spells.specs.declared.With.the-variants.{X1, X2, X3}
+use Rattle.spells.specs.declared.With.the-variants.{X2}
 use Rattle.spells.specs.declared.Decision.{Decision}
 use Rattle.spells.specs.declared.Decision.the-variants.{Nothing, Decides}
 use Rattle.spells.specs.declared.SpellMonth.{SpellMonth}
@@ -21,84 +21,17 @@ use Rattle.spells.specs.Spells.{largerInSize, provisional, stepOf}
 use Rattle.spells.proofs.Choices.{zero-is}
 use Rattle.spell_laws.specs.Mirror.{mirror, mirrorWith, mirrorDecision, BothZero, TiedValues}
 use Rattle.spell_laws.specs.Reached.{Reached}
+use Rattle.spell_laws.proofs.Cases.{decides-some}
 use Rattle.spell_laws.proofs.Theorems.{decides-nothing}
-use Rattle.spell_laws.proofs.Mirror.{mirror-values, mirror-percent, mirror-decides, mirror-index, tie-second, neg-size, tied-open}
+use Rattle.spell_laws.proofs.Mirror.{mirror-values, mirror-decides, mirror-index, tie-second, neg-size, tied-open}
 use Rattle.spell_laws.proofs.Reached.{never-both, not-both-zero, step-reached, open-values}
-use Rattle.hindsight.specs.Rule.{X, Row, Side, first, second, nonzero, oneOf, sideFrom, valueOn, settledIndex, Deciding, nobody, after, oneEarlier, decidingFor, deciding, Shown, shownBy, markOf, indexOf, forwardOf, forward, forwardMarks}
+use Rattle.hindsight.specs.Rule.{X, Row, nonzero, Deciding, nobody, after, oneEarlier, decidingFor, deciding, Shown, shownBy, markOf, indexOf, forward, forwardMarks}
 use Rattle.hindsight.specs.Adding.{settledAs}
-use Rattle.hindsight.specs.Columns.{rowsOf, stateOf}
+use Rattle.hindsight.specs.Columns.{rowsOf}
 use Rattle.hindsight.specs.Months.{rowFor, nextValues, rowOfZ}
 use Rattle.demands.specs.Months.{noRow}
 use Rattle.demands.specs.Mirror.{turned, mirrorX, Excepted, TurnsAbout}
-
--- ---- a side and its other
-abbrev other : Side → Side
-other first = second
-other second = first
-
-nonzero-neg : (x : ℤ) → nonzero (negℤ x) ≡ nonzero x
-nonzero-neg (pos zero) = refl
-nonzero-neg (pos (suc n)) = refl
-nonzero-neg (negsuc n) = refl
-
-oneOf-other : (a b : Bool) (s : Side) → oneOf b a (other s) ≡ other (oneOf a b s)
-oneOf-other true true s = refl
-oneOf-other true false s = refl
-oneOf-other false true s = refl
-oneOf-other false false s = refl
-
-side-turned : (l : List X) (s : Side) → sideFrom (map mirrorX l) (other s) ≡ other (sideFrom l s)
-side-turned [] s = refl
-side-turned (m ∷ l) s = rw (nonzero-neg (m .x1), nonzero-neg (m .x2), side-turned l s) (oneOf-other (nonzero (m .x1)) (nonzero (m .x2)) (sideFrom l s))
-
-value-turned : (s : Side) (m : X) → valueOn (other s) (mirrorX m) ≡ negℤ (valueOn s m)
-value-turned first m = refl
-value-turned second m = refl
-
--- what a month is settled at, by a month that decides with the other
-settled-turned : (w : With) (m : X) (l : List X) → settledIndex (mirrorWith w) (mirrorX m) (map mirrorX l) ≡ negℤ (settledIndex w m l)
-settled-turned X1 m l = ap (λ (t : Side). valueOn t (mirrorX m)) (side-turned (m ∷ l) first) ∙ value-turned (sideFrom (m ∷ l) first) m
-settled-turned X2 m l = ap (λ (t : Side). valueOn t (mirrorX m)) (side-turned (m ∷ l) second) ∙ value-turned (sideFrom (m ∷ l) second) m
-settled-turned X3 m l = refl
-
--- ---- months before one that decides with X2 in both lists
-Zero : ℤ → Type 0
-Zero x = x ≡ pos 0
-
-nothing : (x : ℤ) → nonzero x ≡ false → x ≡ pos 0
-nothing (pos zero) e = refl
-nothing (pos (suc n)) e = absurd (let k : _≡_ {A = ℕ} 0 1 = cc in omega arith)
-nothing (negsuc n) e = absurd (let k : _≡_ {A = ℕ} 0 1 = cc in omega arith)
-
-some : (x : ℤ) → nonzero x ≡ true → x ≡ pos 0 → ⊥
-some x p q = let k : _≡_ {A = ℕ} 0 1 = cc (p, ap nonzero q) in omega arith
-
--- X1 and X2 of the first of these months, if there is one, are 0
-HeadZero : List X → Type 0
-HeadZero [] = Unit {0}
-HeadZero (m ∷ l) = Zero (m .x1) × Zero (m .x2)
-
-abbrev NotBoth : Running → Type 0
-NotBoth s = (s .x1 ≡ pos 0 → ⊥) → (s .x2 ≡ pos 0 → ⊥) → ⊥
-
--- the side is told among these months; or the first of them has 0 on both sides, and then the values before it were not both something
-Told : Running → List X → Type 0
-Told s l = (sideFrom l first ≡ sideFrom l second) ⊎ (HeadZero l × NotBoth s)
-
-zero-value : (t : Side) (m : X) → Zero (m .x1) → Zero (m .x2) → Zero (valueOn t m)
-unfolding Zero
-zero-value first m p q = p
-zero-value second m p q = q
-
-settled-level : (s : Running) (m : X) (l : List X) → Told s (m ∷ l) → settledIndex X2 (mirrorX m) (map mirrorX l) ≡ negℤ (settledIndex X2 m l)
-unfolding Told HeadZero Zero
-settled-level s m l (inl e) =
-    ap (λ (t : Side). valueOn t (mirrorX m)) (side-turned (m ∷ l) first)
-    ∙ value-turned (sideFrom (m ∷ l) first) m
-    ∙ ap (λ (t : Side). negℤ (valueOn t m)) e
-settled-level s m l (inr (h, f)) =
-    zero-value (sideFrom (mirrorX m ∷ map mirrorX l) second) (mirrorX m) (ap negℤ (h .1)) (ap negℤ (h .0))
-    ∙ sym (ap negℤ (zero-value (sideFrom (m ∷ l) second) m (h .0) (h .1)))
+use Rattle.demands.proofs.Sides.{nothing, some, NotBoth, Told, settled-turned, settled-level}
 
 -- ---- one month of a list, and of the list turned
 provisional-none : (r : Running) → r .x3 ≡ pos 0 → provisional r ≡ largerInSize (r .x1) (r .x2)
@@ -135,12 +68,9 @@ module _ (s : Running) (z : ℤ) (k : Reached s) where
   step-open : month .decision ≡ Nothing → mirrored .decision ≡ Nothing
   step-open e = go step-decides
     where
-      no : Decides X2 ≡ Nothing → ⊥
-      no q = let k : _≡_ {A = ℕ} 0 1 = cc in omega arith
-
       go : Decisions → mirrored .decision ≡ Nothing
       go (inl q) = q ∙ ap mirrorDecision e
-      go (inr (p, q, f)) = absurd (no (sym p ∙ e))
+      go (inr (p, q, f)) = absurd (decides-some X2 (sym p ∙ e))
 
   -- and settles as many
   pub step-settled : (n : ℕ) → settledAs (mirrored .decision) n ≡ settledAs (month .decision) n
@@ -161,9 +91,9 @@ module _ (s : Running) (z : ℤ) (k : Reached s) where
       let after-reached = step-reached s z k in (
         decides-nothing s z e .0 ∙ shows (month .after) (t .values-x3) (t .values-size),
         decides-nothing (mirror s) (negℤ z) (step-open e) .0
-        ∙ ap provisional step-values
-        ∙ shows (mirror (month .after)) (ap negℤ (t .values-x3)) (neg-size (month .after .x2) ∙ sym (t .values-size) ∙ sym (neg-size (month .after .x1)))
-        ∙ opposite (month .after .x1) (month .after .x2) (after-reached .x1-sign) (after-reached .x2-sign) (t .values-size),
+            ∙ ap provisional step-values
+            ∙ shows (mirror (month .after)) (ap negℤ (t .values-x3)) (neg-size (month .after .x2) ∙ sym (t .values-size) ∙ sym (neg-size (month .after .x1)))
+            ∙ opposite (month .after .x1) (month .after .x2) (after-reached .x1-sign) (after-reached .x2-sign) (t .values-size),
       )
     where
       shows : (r : Running) → r .x3 ≡ pos 0 → natAbs (r .x1) ≡ natAbs (r .x2) → provisional r ≡ r .x2
@@ -174,7 +104,6 @@ module _ (s : Running) (z : ℤ) (k : Reached s) where
 
   -- one open month more before the one that decides
   told-more : month .decision ≡ Nothing → (l : List X) → Told (month .after) l → Told s (rowFor month .x ∷ l)
-  unfolding Told HeadZero Zero
   told-more d l t = go (nonzero (month .after .x1)) (nonzero (month .after .x2)) refl refl t
     where
       go : (a b : Bool) → nonzero (month .after .x1) ≡ a → nonzero (month .after .x2) ≡ b → Told (month .after) l → Told s (rowFor month .x ∷ l)
@@ -189,11 +118,20 @@ module _ (s : Running) (z : ℤ) (k : Reached s) where
           inr ((x1, x2), λ f g. not-both-zero s z k f g (sym (o .0) ∙ x1) (sym (o .1) ∙ x2))
 
 -- ---- the deciding month of a list, and of the list turned
+
+-- what they decide with: the one with the other's mirror, or both with X2, and then P
+abbrev WithTurned : With → With → Type 0 → Type 0
+WithTurned w w' P = (w' ≡ mirrorWith w) ⊎ ((w ≡ X2) × (w' ≡ X2) × P)
+
+with-more : (w w' : With) (P Q : Type 0) → (P → Q) → WithTurned w w' P → WithTurned w w' Q
+with-more w w' P Q f (inl e) = inl e
+with-more w w' P Q f (inr (d, e, p)) = inr (d, e, f p)
+
 Opposite : Running → Deciding → Deciding → Type 0
 Opposite s nobody nobody = Unit {0}
 Opposite s nobody (after l w i) = ⊥
 Opposite s (after l w i) nobody = ⊥
-Opposite s (after l w i) (after l' w' i') = (l' ≡ map mirrorX l) × (i' ≡ negℤ i) × ((w' ≡ mirrorWith w) ⊎ ((w ≡ X2) × (w' ≡ X2) × Told s l))
+Opposite s (after l w i) (after l' w' i') = (l' ≡ map mirrorX l) × (i' ≡ negℤ i) × WithTurned w w' (Told s l)
 
 abbrev rows : Running → List ℤ → List Row
 rows s zs = rowsOf nextValues rowOfZ s zs
@@ -204,24 +142,16 @@ module _ (s : Running) (z : ℤ) (k : Reached s) where
   earlier d nobody nobody o = tt
   earlier d nobody (after l w i) o = absurd o
   earlier d (after l w i) nobody o = absurd o
-  earlier d (after l w i) (after l' w' i') (p, q, r) = (ap₂ (λ (m : X) (t : List X). m ∷ t) (x-turned s z k) p, q, more r)
-    where
-      more : (w' ≡ mirrorWith w) ⊎ ((w ≡ X2) × (w' ≡ X2) × Told (month s z k .after) l) → (w' ≡ mirrorWith w) ⊎ ((w ≡ X2) × (w' ≡ X2) × Told s (rowFor (month s z k) .x ∷ l))
-      more (inl e) = inl e
-      more (inr (e, f, t)) = inr (e, f, told-more s z k d l t)
+  earlier d (after l w i) (after l' w' i') (p, q, r) = (
+    ap₂ (λ (m : X) (t : List X). m ∷ t) (x-turned s z k) p,
+    q,
+    with-more w w' (Told (month s z k .after) l) (Told s (rowFor (month s z k) .x ∷ l)) (told-more s z k d l) r,
+  )
 
   -- a month that decides, by what it decides with
-  decides-now : (w : With) → month s z k .decision ≡ Decides w → (w' : With) → mirrored s z k .decision ≡ Decides w' → ((w' ≡ mirrorWith w) ⊎ ((w ≡ X2) × (w' ≡ X2) × NotBoth s))
-      → Opposite s (after [] w (month s z k .index)) (after [] w' (mirrored s z k .index))
-  unfolding Opposite Told HeadZero
-  decides-now w d w' d' o = (refl, step-index s z k (λ e t. absurd (no w (sym d ∙ e))), with-told o)
-    where
-      no : (w : With) → Decides w ≡ Nothing → ⊥
-      no w e = let k : _≡_ {A = ℕ} 0 1 = cc in omega arith
-
-      with-told : ((w' ≡ mirrorWith w) ⊎ ((w ≡ X2) × (w' ≡ X2) × NotBoth s)) → ((w' ≡ mirrorWith w) ⊎ ((w ≡ X2) × (w' ≡ X2) × Told s []))
-      with-told (inl e) = inl e
-      with-told (inr (e, f, n)) = inr (e, f, inr (tt, n))
+  decides-now : (w w' : With) → month s z k .decision ≡ Decides w → WithTurned w w' (NotBoth s) → Opposite s (after [] w (month s z k .index)) (after [] w' (mirrored s z k .index))
+  unfolding Opposite
+  decides-now w w' d o = (refl, step-index s z k (λ e t. absurd (decides-some w (sym d ∙ e))), with-more w w' (NotBoth s) (Told s []) (λ n. inr (tt, n)) o)
 
   -- a month and the months after it
   head-turned : (b b' : Deciding) → Opposite (month s z k .after) b b'
@@ -233,8 +163,8 @@ module _ (s : Running) (z : ℤ) (k : Reached s) where
 
       go : Decisions s z k → (d : Decision) → month s z k .decision ≡ d → Goal (month s z k .decision) (mirrored s z k .decision)
       go (inl e) Nothing d = subst₂ Goal (sym d) (sym (e ∙ ap mirrorDecision d)) (earlier d b b' o)
-      go (inl e) (Decides w) d = subst₂ Goal (sym d) (sym (e ∙ ap mirrorDecision d)) (decides-now w d (mirrorWith w) (e ∙ ap mirrorDecision d) (inl refl))
-      go (inr (p, q, n)) x d = subst₂ Goal (sym p) (sym q) (decides-now X2 p X2 q (inr (refl, refl, n)))
+      go (inl e) (Decides w) d = subst₂ Goal (sym d) (sym (e ∙ ap mirrorDecision d)) (decides-now w (mirrorWith w) d (inl refl))
+      go (inr (p, q, n)) x d = subst₂ Goal (sym p) (sym q) (decides-now X2 X2 p (inr (refl, refl, n)))
 
 -- the months after a month, from the values that it leaves
 next-turned : {s : Running} (P : Running → Type 0) (z : ℤ) → Reached s → P (mirror (nextValues s z)) → P (nextValues (mirror s) (negℤ z))
@@ -265,7 +195,7 @@ turns-of x a b p f g =
     own : (x y : ℤ) → natAbs x ≡ natAbs y → y ≡ negℤ y → x ≡ pos 0
     own x y = rw (is-Z x, is-Z y) (simp zs-abs (omega arith))
 
-shown-after : (s : Running) (l : List X) (w w' : With) (i i' p p' : ℤ) → i' ≡ negℤ i → ((w' ≡ mirrorWith w) ⊎ ((w ≡ X2) × (w' ≡ X2) × Told s l))
+shown-after : (s : Running) (l : List X) (w w' : With) (i i' p p' : ℤ) → i' ≡ negℤ i → WithTurned w w' (Told s l)
     → shownBy p' (after (map mirrorX l) w' i') ≡ record { mark = 2; index = negℤ (shownBy p (after l w i) .index) }
 shown-after s [] w w' i i' p p' e o = rw e
 shown-after s (m ∷ l) w w' i i' p p' e (inl f) = rw (f, settled-turned w m l)
@@ -341,13 +271,3 @@ marks-same s k [] = refl
 marks-same s k (z ∷ zs) =
     ap₂ (λ (n : ℕ) (l : List ℕ). n ∷ l) (every-turns s k (z ∷ zs) 0 .mark-kept)
     (next-turned (λ (r : Running). forwardMarks (rows r (turned zs)) ≡ forwardMarks (rows (nextValues s z) zs)) z k (marks-same (nextValues s z) (step-reached s z k) zs))
-
--- the running values after them
-pub values-turned : (s : Running) → Reached s → (zs : List ℤ) → stateOf nextValues (mirror s) (turned zs) ≡ mirror (stateOf nextValues s zs)
-values-turned s k [] = refl
-values-turned s k (z ∷ zs) =
-    next-turned (λ (r : Running). stateOf nextValues r (turned zs) ≡ mirror (stateOf nextValues (nextValues s z) zs)) z k (values-turned (nextValues s z) (step-reached s z k) zs)
-
-pub reached-all : (s : Running) → Reached s → (zs : List ℤ) → Reached (stateOf nextValues s zs)
-reached-all s k [] = k
-reached-all s k (z ∷ zs) = reached-all (nextValues s z) (step-reached s z k) zs

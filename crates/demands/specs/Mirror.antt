@@ -68,16 +68,13 @@ pub record TurnsAbout (x : X) (a b : Shown) : Type 0 where
 
 -- ---- a list of Z added one by one to a fresh run
 module _ (constants : List ℤ) (c ss su m : ℤ) (cs : Columns) where
-  abbrev fresh : State
-  fresh = begun constants c ss su m cs
-
   -- the run and the columns after them
   abbrev pub given : List ℤ → State
-  given zs = afterAll fresh (map anomaly zs)
+  given zs = afterAll (begun constants c ss su m cs) (map anomaly zs)
 
   -- "accepted Z": the start was not refused, and no Z was
   abbrev pub Given : List ℤ → Type 0
-  Given zs = (startRefusal constants c ss su m ≡ 0) × Accepted fresh (map anomaly zs)
+  Given zs = (startRefusal constants c ss su m ≡ 0) × Accepted (begun constants c ss su m cs) (map anomaly zs)
 
   -- what the add of one Z more answers
   abbrev pub answer : List ℤ → ℤ → Added

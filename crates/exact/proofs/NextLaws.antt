@@ -1,4 +1,4 @@
--- The laws of next(x): it stays within 13,000,000 in size, rises with x and with Z, and is odd.
+-- The laws of next(x): it is within a half of its fraction, stays within 13,000,000 in size, rises with x and with Z, and is odd.
 -- Each follows from the same law of `nearest` and a linear fact of 2691 x + 1000 Z. Assumes nothing.
 use mathlib.Core.Path.{_≡_, _∙_, ap}
 use Prim.Native.Nat.{_≤_, _<_, _*_, _+_}
@@ -8,12 +8,16 @@ use lib.Signed.{_≤ℤ_}
 use Rattle.exact.specs.Nearest.{nearest}
 use Rattle.exact.specs.Next.{nextOf}
 use Rattle.outline.specs.Numbers.{weight, mostX, mostZ}
-use Rattle.exact.proofs.Nearest.{nearest-within, nearest-mono, nearest-neg}
+use Rattle.exact.proofs.Nearest.{Near, nearest-near, nearest-within, nearest-mono, nearest-neg}
 use Rattle.exact.proofs.Z.{zs, zs-abs, is-Z}
 
 -- 2691 x + 1000 Z
-abbrev sum : ℤ → ℤ → ℤ
+abbrev pub sum : ℤ → ℤ → ℤ
 sum x z = pos weight *ℤ x +ℤ pos 1000 *ℤ z
+
+pub next-near : (x z : ℤ) → Near (sum x z) (nextOf x z) 3000
+unfolding nextOf
+next-near x z = nearest-near (sum x z) 3000 (omega arith)
 
 pub next-within : (x z : ℤ) → natAbs x ≤ mostX → natAbs z ≤ mostZ → natAbs (nextOf x z) ≤ mostX
 unfolding nextOf

@@ -229,9 +229,6 @@ pub every-place : (rows : List Row) → (length (addAll rows .index) ≡ length 
 every-place rows = length-columns rows (addAll rows) (inv rows)
 
 -- THEOREM 2: a month is open exactly when no month from it onward decides
-blank : Row
-blank = record { x = record { x1 = pos 0; x2 = pos 0; x3 = pos 0 }; decision = Nothing; shown = pos 0 }
-
 none-wait : (rows : List Row) → NoneFrom rows 0 → Wait rows
 none-wait [] f = tt
 none-wait (m ∷ rows) f = (f 0 m (omega arith) (omega arith), none-wait rows (λ j r h k. f (suc j) r (omega arith) (omega arith)))

@@ -6,11 +6,9 @@ use Prim.Native.Nat.{ℕ, _*_, _+_, _≤_}
 use native.Mathlib.Omega.{arith}
 use lib.IntN.{ℤ, pos, negsuc, negℤ, natAbs, _+ℤ_, _-ℤ_, _*ℤ_}
 use lib.Signed.{_≤ℤ_, _<ℤ_, leZ}
-use Rattle.exact.specs.Nearest.{nearest}
 use Rattle.exact.specs.Next.{nextOf}
 use Rattle.outline.specs.Numbers.{weight, mostZ, mostU}
-use Rattle.exact.proofs.Nearest.{nearest-near}
-use Rattle.exact.proofs.NextLaws.{next-odd}
+use Rattle.exact.proofs.NextLaws.{sum, next-near, next-odd}
 use Rattle.exact.proofs.Z.{zs, is-Z, le-no}
 use Rattle.spells.specs.declared.Running.{Running}
 use Rattle.ending.specs.Ending.{steady, ended, abating, turn, uOf, vOf, eOf, qOf, endingOf}
@@ -42,10 +40,10 @@ q-above x3 v z h = go x3 v z (abating-tests x3 v z h .1)
 
 -- next(X3) is at most -550
 next-far : (x3 z : ℤ) → (pos 1000 *ℤ uOf z) <ℤ eOf x3 → nextOf x3 z ≤ℤ negℤ (pos 550)
-unfolding uOf eOf nextOf
-next-far x3 z h = far x3 z (nearest (pos weight *ℤ x3 +ℤ pos 1000 *ℤ z) 3000) h (nearest-near (pos weight *ℤ x3 +ℤ pos 1000 *ℤ z) 3000 (omega arith) .0)
+unfolding uOf eOf
+next-far x3 z h = far x3 z (nextOf x3 z) h (next-near x3 z .0)
   where
-    far : (x z r : ℤ) → (pos 1000 *ℤ (z +ℤ pos 150)) <ℤ (negℤ (pos weight *ℤ x) -ℤ pos 1500000) → (pos 6000 *ℤ r) ≤ℤ (pos 2 *ℤ (pos weight *ℤ x +ℤ pos 1000 *ℤ z) +ℤ pos 3000) → r ≤ℤ negsuc 549
+    far : (x z r : ℤ) → (pos 1000 *ℤ (z +ℤ pos 150)) <ℤ (negℤ (pos weight *ℤ x) -ℤ pos 1500000) → (pos 6000 *ℤ r) ≤ℤ (pos 2 *ℤ sum x z +ℤ pos 3000) → r ≤ℤ negsuc 549
     far x z r = rw (is-Z x, is-Z z, is-Z r) (simp zs (omega arith))
 
 some : (wet : Bool) (x : ℤ) → turn wet x ≤ℤ negℤ (pos 550) → x ≡ pos 0 → ⊥

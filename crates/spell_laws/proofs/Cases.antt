@@ -8,6 +8,7 @@ use lib.IntN.{ℤ, pos, negsuc, negℤ}
 use lib.Signed.{_≤ℤ_, _<ℤ_, leZ}
 use Rattle.exact.proofs.Z.{zs, is-Z, le-yes, le-no}
 use Rattle.spells.specs.declared.Running.{Running}
+use Rattle.spells.specs.declared.With.{With}
 use Rattle.spells.specs.declared.With.the-variants.{X1, X2}
 use Rattle.spells.specs.declared.Decision.the-variants.{Nothing, Decides}
 use Rattle.spells.specs.declared.SpellMonth.{SpellMonth}
@@ -27,6 +28,10 @@ by-zero (negsuc n) P f g = g (λ e. no n e)
   where
     no : (n : ℕ) → negsuc n ≡ pos 0 → ⊥
     no n = simp zs (omega arith)
+
+-- a month that decides is not one that does not
+pub decides-some : (w : With) → Decides w ≡ Nothing → ⊥
+decides-some w e = let k : _≡_ {A = ℕ} 0 1 = cc in omega arith
 
 -- a number is at most another, or above it
 pub by-order : (a b : ℤ) (P : Type 0) → (a ≤ℤ b → P) → (b <ℤ a → P) → P

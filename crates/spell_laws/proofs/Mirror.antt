@@ -62,11 +62,17 @@ neg-some x h e = h (back x e)
     back : (x : ℤ) → negℤ x ≡ pos 0 → x ≡ pos 0
     back x = rw (is-Z x) (simp zs (omega arith))
 
-neg-low : (x : ℤ) → negℤ (pos 1000) <ℤ x → negℤ x <ℤ pos 1000
+pub neg-low : (x : ℤ) → negℤ (pos 1000) <ℤ x → negℤ x <ℤ pos 1000
 neg-low x = rw (is-Z x) (simp zs (omega arith))
 
-neg-high : (x : ℤ) → x <ℤ pos 1000 → negsuc 999 <ℤ negℤ x
+pub neg-high : (x : ℤ) → x <ℤ pos 1000 → negsuc 999 <ℤ negℤ x
 neg-high x = rw (is-Z x) (simp zs (omega arith))
+
+pub neg-up : (x : ℤ) → x ≤ℤ pos 0 → pos 0 ≤ℤ negℤ x
+neg-up x = rw (is-Z x) (simp zs (omega arith))
+
+pub neg-down : (x : ℤ) → pos 0 ≤ℤ x → negℤ x ≤ℤ pos 0
+neg-down x = rw (is-Z x) (simp zs (omega arith))
 
 neg-founds-x1 : (x : ℤ) → x ≤ℤ negℤ (pos 1000) → pos 1000 ≤ℤ negℤ x
 neg-founds-x1 x = rw (is-Z x) (simp zs (omega arith))
@@ -80,7 +86,7 @@ neg-size (pos (suc n)) = refl
 neg-size (negsuc n) = refl
 
 -- the larger in size, where the sizes differ
-pub larger-neg : (a b : ℤ) → (natAbs a ≡ natAbs b → ⊥) → largerInSize (negℤ b) (negℤ a) ≡ negℤ (largerInSize a b)
+larger-neg : (a b : ℤ) → (natAbs a ≡ natAbs b → ⊥) → largerInSize (negℤ b) (negℤ a) ≡ negℤ (largerInSize a b)
 unfolding largerInSize
 larger-neg a b h = rw (neg-size a, neg-size b) (go (leb (natAbs a) (natAbs b)) refl)
   where
@@ -146,7 +152,7 @@ module _ (s : Running) (z : ℤ) where
   pub mirror-force : (wet : Bool) → InForce wet s → InForce (not wet) (mirror s)
   mirror-force wet h = subst (λ (x : ℤ). x <ℤ negℤ (pos 500)) (sym (turn-not wet (s .x3))) h
 
-  pub mirror-none : NoneInForce s → NoneInForce (mirror s)
+  mirror-none : NoneInForce s → NoneInForce (mirror s)
   mirror-none h = go (s .x3) (h .0) (h .1)
     where
       go : (x : ℤ) → negℤ (pos 500) ≤ℤ x → x ≤ℤ pos 500 → (negℤ (pos 500) ≤ℤ negℤ x) × (negℤ x ≤ℤ pos 500)
@@ -247,18 +253,12 @@ mirror-fits most s f =
       x2-size = subst (λ (n : ℕ). n ≤ mostX) (sym (neg-size (s .x1))) (f .x1-size);
       x3-size = subst (λ (n : ℕ). n ≤ mostX) (sym (neg-size (s .x3))) (f .x3-size);
       v-size = subst (λ (n : ℕ). n ≤ most) (sym (neg-size (s .v))) (f .v-size);
-      x1-sign = up (s .x2) (f .x2-sign);
-      x2-sign = down (s .x1) (f .x1-sign);
+      x1-sign = neg-up (s .x2) (f .x2-sign);
+      x2-sign = neg-down (s .x1) (f .x1-sign);
       v-above = λ h. down' (s .x3) (f .v-below (back (s .v) h));
       v-below = λ h. up' (s .x3) (f .v-above (back' (s .v) h));
     }
   where
-    up : (x : ℤ) → x ≤ℤ pos 0 → pos 0 ≤ℤ negℤ x
-    up x = rw (is-Z x) (simp zs (omega arith))
-
-    down : (x : ℤ) → pos 0 ≤ℤ x → negℤ x ≤ℤ pos 0
-    down x = rw (is-Z x) (simp zs (omega arith))
-
     up' : (x : ℤ) → x <ℤ pos 0 → pos 0 <ℤ negℤ x
     up' x = rw (is-Z x) (simp zs (omega arith))
 

@@ -1,42 +1,33 @@
 -- What a fresh run comes to keeps within the bounds of specs/Reached.antt, by one step from any values that do. So never do both found a
 -- spell; a drought that ends leaves X2 at -550 or above; and where X1 and X2 were both something, they are not both 0 a month later. What
 -- is said of a drought holds of a wet spell by the mirror. Assumes nothing.
-use mathlib.Core.Path.{_≡_, refl, sym, ap, _∙_, subst}
+use mathlib.Core.Path.{_≡_, refl, sym, _∙_, subst}
 use mathlib.Core.Bool.{Bool, true, false, cond}
 use Prim.Native.Nat.{ℕ}
 use native.Mathlib.Omega.{arith}
-use lib.IntN.{ℤ, pos, negsuc, negℤ, natAbs, negℤ-negℤ, _+ℤ_, _-ℤ_, _*ℤ_}
+use lib.IntN.{ℤ, pos, negsuc, negℤ, negℤ-negℤ, _+ℤ_, _-ℤ_, _*ℤ_}
 use lib.Signed.{_≤ℤ_, _<ℤ_, leZ, ≤ℤ-refl}
-use Rattle.outline.specs.Numbers.{weight, foundsFrom}
-use Rattle.exact.specs.Nearest.{nearest}
+use Rattle.outline.specs.Numbers.{weight}
 use Rattle.exact.specs.Next.{nextOf}
-use Rattle.exact.proofs.Nearest.{nearest-near}
-use Rattle.exact.proofs.NextLaws.{next-rises, next-odd}
+use Rattle.exact.proofs.NextLaws.{sum, next-near, next-rises, next-odd}
 use Rattle.exact.proofs.Z.{zs, is-Z, le-yes, ≤ℤ-of-<}
 use Rattle.spells.specs.declared.Running.{Running}
-use Rattle.spells.specs.declared.With.{With}
 use Rattle.spells.specs.declared.With.the-variants.{X1, X2, X3}
-use Rattle.spells.specs.declared.Decision.the-variants.{Nothing, Decides}
+use Rattle.spells.specs.declared.Decision.the-variants.{Nothing}
 use Rattle.spells.specs.declared.SpellMonth.{SpellMonth}
 use Rattle.spells.specs.Values.{fresh}
 use Rattle.spells.specs.Spells.{raised, lowered, steadyMonth, abatingValues, abatingMonth, founded, unfounded, tried, noSpell, endingMonth, stepOf}
 use Rattle.spells.proofs.Choices.{same-values, raised-kept, raised-off, lowered-kept, lowered-off}
 use Rattle.ending.specs.Ending.{Ending, steady, ended, abating, turn, uOf, vOf, eOf, endingOf}
-use Rattle.spell_laws.specs.Months.{InForce, NoneInForce, endingIn, SpellIs, spell-is, NoSpell, none, just-ended, x1Of, x2Of}
+use Rattle.spell_laws.specs.Months.{InForce, endingIn, SpellIs, spell-is, NoSpell, none, just-ended, x1Of, x2Of}
 use Rattle.spell_laws.specs.Mirror.{mirror, BothFound}
 use Rattle.spell_laws.specs.Reached.{Reached}
-use Rattle.spell_laws.proofs.Cases.{by-order, by-tried, by-month, step-ending}
+use Rattle.spell_laws.proofs.Cases.{decides-some, by-order, by-tried, by-month, step-ending}
 use Rattle.spell_laws.proofs.Abates.{abating-x3}
-use Rattle.spell_laws.proofs.Mirror.{mirror-x1, mirror-x2, mirror-force, mirror-ending, mirror-values, mirror-percent}
+use Rattle.spell_laws.proofs.Mirror.{neg-low, neg-high, neg-up, neg-down, mirror-x1, mirror-x2, mirror-force, mirror-ending, mirror-values, mirror-percent}
 use Rattle.spell_laws.proofs.Theorems.{percent-ended}
 
--- ---- next(x), between two halves
-abbrev sum : ℤ → ℤ → ℤ
-sum x z = pos weight *ℤ x +ℤ pos 1000 *ℤ z
-
-next-near : (x z : ℤ) → ((pos 6000 *ℤ nextOf x z) ≤ℤ (pos 2 *ℤ sum x z +ℤ pos 3000)) × ((pos 2 *ℤ sum x z) ≤ℤ (pos 6000 *ℤ nextOf x z +ℤ pos 3000))
-unfolding nextOf
-next-near x z = nearest-near (sum x z) 3000 (omega arith)
+-- ---- X1 and X2 of a month
 
 -- "larger of 0 and next(X1)" is one or the other, and so is "smaller of 0 and next(X2)"
 raised-case : (P : ℤ → Type 0) (n : ℤ) → (pos 0 ≤ℤ n → P n) → (n <ℤ pos 0 → P (pos 0)) → P (raised n)
@@ -51,26 +42,14 @@ module _ (s : Running) (k : Reached s) where
   unfolding turn
   reached-mirror =
       record {
-        x1-sign = up (s .x2) (k .x2-sign);
-        x2-sign = down (s .x1) (k .x1-sign);
-        none-x1 = λ h. below (s .x2) (k .none-x2 (calm (s .x3) h));
-        none-x2 = λ h. above (s .x1) (k .none-x1 (calm (s .x3) h));
+        x1-sign = neg-up (s .x2) (k .x2-sign);
+        x2-sign = neg-down (s .x1) (k .x1-sign);
+        none-x1 = λ h. neg-low (s .x2) (k .none-x2 (calm (s .x3) h));
+        none-x2 = λ h. neg-high (s .x1) (k .none-x1 (calm (s .x3) h));
         dry-x2 = λ h. turned (s .x1) (s .x3) (k .wet-x1 h);
         wet-x1 = λ h. turned (s .x3) (s .x2) (k .dry-x2 (subst (λ (x : ℤ). x <ℤ negℤ (pos 500)) (negℤ-negℤ (s .x3)) h));
       }
     where
-      up : (x : ℤ) → x ≤ℤ pos 0 → pos 0 ≤ℤ negℤ x
-      up x = rw (is-Z x) (simp zs (omega arith))
-
-      down : (x : ℤ) → pos 0 ≤ℤ x → negℤ x ≤ℤ pos 0
-      down x = rw (is-Z x) (simp zs (omega arith))
-
-      below : (x : ℤ) → negℤ (pos 1000) <ℤ x → negℤ x <ℤ pos 1000
-      below x = rw (is-Z x) (simp zs (omega arith))
-
-      above : (x : ℤ) → x <ℤ pos 1000 → negℤ (pos 1000) <ℤ negℤ x
-      above x = rw (is-Z x) (simp zs (omega arith))
-
       turned : (x y : ℤ) → x ≤ℤ y → negℤ y ≤ℤ negℤ x
       turned x y = rw (is-Z x, is-Z y) (simp zs (omega arith))
 
@@ -299,13 +278,10 @@ open-values s z = by-month s z Open spell (λ h. tries 0)
     Open : SpellMonth → Type 0
     Open m = m .decision ≡ Nothing → (m .after .x1 ≡ x1Of s z) × (m .after .x2 ≡ x2Of s z)
 
-    no : (w : With) → Decides w ≡ Nothing → ⊥
-    no w e = let k : _≡_ {A = ℕ} 0 1 = cc in omega arith
-
     tries : (percent : ℕ) → Open (tried (x1Of s z) (x2Of s z) percent)
-    tries percent = by-tried (x1Of s z) (x2Of s z) percent Open (λ p e. absurd (no X1 e)) (λ p q e. absurd (no X2 e)) (λ p q r e. (refl, refl)) (λ p q r t e. (refl, refl)) (λ p q r t e. (refl, refl))
+    tries percent = by-tried (x1Of s z) (x2Of s z) percent Open (λ p e. absurd (decides-some X1 e)) (λ p q e. absurd (decides-some X2 e)) (λ p q r e. (refl, refl)) (λ p q r t e. (refl, refl)) (λ p q r t e. (refl, refl))
 
     spell : (wet : Bool) (e : Ending) → InForce wet s → endingIn wet s z ≡ e → Open (endingMonth e wet s z)
-    spell wet steady h i e = absurd (no X3 e)
+    spell wet steady h i e = absurd (decides-some X3 e)
     spell wet ended h i e = tries 100 e
     spell wet abating h i e = (refl, refl)
