@@ -1,6 +1,7 @@
 //! The comparison: what was tried, how often each answer was given, and what is printed of a difference.
 
 use crate::card::{Added, Run, Values};
+use crate::mirror::Turned;
 use crate::random::Random;
 use crate::reference::{self, Decides};
 use std::fmt::Debug;
@@ -59,6 +60,7 @@ pub struct Check {
     refused: [[u64; 22]; CALLS.len()],
     branches: Branches,
     pub seasons: Seasons,
+    pub turned: Turned,
 }
 
 impl Check {
@@ -70,6 +72,7 @@ impl Check {
             refused: [[0; 22]; CALLS.len()],
             branches: Branches::default(),
             seasons: Seasons::default(),
+            turned: Turned::default(),
         }
     }
 
@@ -131,6 +134,11 @@ impl Check {
         println!(
             "seasons added {} months, at most {}; stopped in the middle {}",
             s.months, s.most_months, s.stopped
+        );
+        let t = &self.turned;
+        println!(
+            "turned series of {} months, open and tied {}; spells ended {}, with their own side at most {} from 0",
+            t.months, t.tied, t.ended, t.furthest
         );
         println!();
         let cases: u64 = self.kinds.iter().map(|kind| kind.1).sum();

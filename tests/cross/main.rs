@@ -14,6 +14,7 @@ mod card;
 mod check;
 mod conversion;
 mod lists;
+mod mirror;
 mod random;
 mod read;
 mod reference;
@@ -59,6 +60,7 @@ fn main() {
     add_inches::edges_in_inches(&mut check);
     add_z::ties(&mut check);
     add_z::ends_for_years(&mut check);
+    mirror::turned_series(&mut check, times);
     row::rows(&mut check);
     all_calls::two_fields(&mut check);
     all_calls::lengths(&mut check);

@@ -193,7 +193,7 @@ pub struct Step {
 
 /// "next(x) = nearest to (2691 x + 1000 Z) / 3000."
 #[inline]
-fn next(x: i32, z: i32) -> i32 {
+pub fn next(x: i32, z: i32) -> i32 {
     nearest(2691 * i64::from(x) + 1000 * i64::from(z), 3000) as i32
 }
 
