@@ -1,7 +1,8 @@
 #!/usr/bin/env python3
 """Holds README.md to what it says and shows: its commands print what it shows of them, its C compiles without a warning
 and prints what it says, its way from a CSV comes to the sample's own figures, its table of refusals has the words of
-the header and of the programs. CC and RUN, from the environment, are how C is compiled and run (host/setup.sh).
+the header and of the programs. And docs/MIRROR.md: every command of it prints what stands below it. CC and RUN, from the
+environment, are how C is compiled and run (host/setup.sh).
 """
 import os
 import re
@@ -21,8 +22,13 @@ def text(*path):
         return f.read()
 
 
+def blocks_of(page):
+    """Its blocks, each with its language."""
+    return re.findall(r'```(\w*)\n(.*?)```', page, re.S)
+
+
 README = text('README.md')
-BLOCKS = re.findall(r'```(\w*)\n(.*?)```', README, re.S)
+BLOCKS = blocks_of(README)
 
 
 def printed(command, cwd=TOP, status=0):
@@ -41,14 +47,26 @@ def block(words):
 
 
 def shown(command, lines):
-    """A command's output, of which README shows lines, in their order, with two points for what is left out."""
-    out = printed(block(command))[0].split('\n')
+    """A command's output, of which a page shows lines, in their order, with two points for what is left out."""
+    out = printed(command)[0].split('\n')
     at = 0
     for line in lines:
         if line != '..':
             if line not in out[at:]:
                 sys.exit('readme: %s does not print %r, or not there' % (command, line))
             at = out.index(line, at) + 1
+
+
+def mirror():
+    """Every command of docs/MIRROR.md, and the block below it: the whole output where nothing is left out of it."""
+    page = blocks_of(text('docs', 'MIRROR.md'))
+    commands, shows = page[::2], page[1::2]
+    if [language for language, _ in page] != ['sh', ''] * len(commands):
+        sys.exit('readme: docs/MIRROR.md has a command without its output')
+    for (_, command), (_, lines) in zip(commands, shows):
+        if '..\n' not in lines and printed(command)[0] != lines:
+            sys.exit('readme: %s does not print what docs/MIRROR.md shows' % command)
+        shown(command, lines.strip().split('\n'))
 
 
 def c_program():
@@ -98,12 +116,13 @@ def refusals():
 
 def main():
     blocks = [body.strip().split('\n') for language, body in BLOCKS if language == '']
-    shown('host/palmer <samples', next(lines for lines in blocks if lines[0].startswith('1 0 0')))
-    shown('host/division 14 07', next(lines for lines in blocks if lines[0].startswith('2019')))
+    shown(block('host/palmer <samples'), next(lines for lines in blocks if lines[0].startswith('1 0 0')))
+    shown(block('host/division 14 07'), next(lines for lines in blocks if lines[0].startswith('2019')))
     c_program()
     station()
     refusals()
-    print('readme: its commands, its C, its way from a CSV and its table are as it says')
+    mirror()
+    print('readme: its commands, its C, its way from a CSV and its table are as it says, and so is docs/MIRROR.md')
 
 
 if __name__ == '__main__':

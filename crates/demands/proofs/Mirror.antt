@@ -1,7 +1,7 @@
 -- Wet and dry are mirrors, as specs/Mirror.antt states it. What holds of the rows of a list of Z and of the list turned (proofs/Turned.antt) holds of
 -- the columns and of the whole series by the theorems that stand: the columns hold the rows, each at its place, and show what the forward
 -- rule says of them. Assumes nothing.
-use mathlib.Core.Path.{_≡_, refl, sym, ap, ap₂, _∙_, subst}
+use mathlib.Core.Path.{_≡_, refl, sym, ap, ap₂, _∙_, subst, subst₂}
 use mathlib.Core.Bool.{true}
 use mathlib.Core.Logic.{⊎-elim}
 use mathlib.Core.List.{List, [], _∷_, map}
@@ -42,17 +42,20 @@ use Rattle.series.proofs.SeriesLaws.{number-of}
 use Rattle.refusals.specs.Columns.{Columns, long, columnsFit}
 use Rattle.refusals.specs.Refusals.{runRefusal, zRefusal}
 use Rattle.refusals.proofs.Refused.{good-passes}
-use Rattle.adding.specs.Taken.{heldBy}
+use Rattle.adding.specs.Figures.{noWater}
+use Rattle.adding.specs.Taken.{Result, heldBy, taken}
+use Rattle.adding.specs.declared.WaterFigures.{WaterFigures}
 use Rattle.adding.specs.declared.Figures.{Figures}
+use Rattle.adding.specs.declared.Added.{Added}
 use Rattle.demands.specs.Months.{Ask, anomaly, asked, State, after, afterAll, Accepted, Station, stationOf, zFor, stationNext, noRow}
 use Rattle.demands.specs.Demands.{begun}
-use Rattle.demands.specs.Mirror.{turned, mirrorX, mirrorRun, TurnsAbout, given, Given, answer, valuesAt, shownAt, Mirrors, valuesOf, filledAt, SeriesMirrors, reaching, ending, Ends}
-use Rattle.demands.proofs.Took.{took, months-next, station-next, settled-is}
+use Rattle.demands.specs.Mirror.{turned, mirrorX, mirrorRun, TurnsAbout, given, Given, answer, valuesAt, shownAt, AnswersTurned, Mirrors, valuesOf, filledAt, SeriesMirrors, reaching, ending, Ends}
+use Rattle.demands.proofs.Took.{took, months-next, station-next}
 use Rattle.demands.proofs.Honest.{zero-or, good-always}
 use Rattle.demands.proofs.Sequence.{held-all, months-all, station-all}
 use Rattle.demands.proofs.Shown.{refused-add, figures-are, values-at, settled-is-hindsight}
 use Rattle.demands.proofs.Singly.{rows-same, accepts-z, accepts-all, long-after, singly-accepted}
-use Rattle.demands.proofs.Turned.{step-values, step-settled, every-turns, every-x, marks-same}
+use Rattle.demands.proofs.Turned.{step-values, x-turned, step-settled, step-opens, turns-of, step-shown, every-turns, every-x, marks-same}
 
 -- ---- a Z turned is in its range where the Z is
 z-turned : (z : ℤ) → zFits (negℤ z) ≡ zFits z
@@ -193,7 +196,7 @@ module _ (constants : List ℤ) (c ss su m : ℤ) (cs : Columns) where
       rw (values-are zs h i l, shown-are zs h i l, shown-are (turned zs) (h .0, accepted-turned start zs (h .1)) i (omega (arith, length-map zs negℤ)))
       (every-turns fresh-values fresh-reached zs i)
 
-  -- an add of one Z more: what it answers by the rules, and nothing where it refuses
+  -- what the add of one Z more answers: where it is taken, what the rules give
   module _ (zs : List ℤ) (z : ℤ) (h : Accepted start (map anomaly zs)) where
     abbrev state : State
     state = given constants c ss su m cs zs
@@ -201,51 +204,70 @@ module _ (constants : List ℤ) (c ss su m : ℤ) (cs : Columns) where
     abbrev mirrored : State
     mirrored = given constants c ss su m cs (turned zs)
 
-    abbrev same : Type 0
-    same = (answer constants c ss su m cs (turned zs) (negℤ z) .figures .percent ≡ answer constants c ss su m cs zs z .figures .percent) × (answer constants c ss su m cs (turned zs) (negℤ z) .settled ≡ answer constants c ss su m cs zs z .settled)
+    abbrev plain : Added
+    plain = answer constants c ss su m cs zs z
 
-    add-turned : same
-    add-turned = ⊎-elim taken refused (zero-or (answer constants c ss su m cs zs z .number))
+    abbrev other : Added
+    other = answer constants c ss su m cs (turned zs) (negℤ z)
+
+    same-number : other .number ≡ plain .number
+    same-number = number-turned start zs z h
+
+    -- with the run given, and with its mirror
+    taken-turned : (r r' : Run) (cs cs' : Columns) (w : WaterFigures) → r' ≡ mirrorRun r → Reached (r .values) → AnswersTurned (taken r (r .soil) w z cs .answer) (taken r' (r' .soil) w (negℤ z) cs' .answer)
+    unfolding taken
+    taken-turned r r' cs cs' w e k =
+        subst (λ (q : Run). AnswersTurned (taken r (r .soil) w z cs .answer) (taken q (q .soil) w (negℤ z) cs' .answer)) (sym e)
+        (record {
+          number = refl;
+          percent = mirror-percent (r .values) z;
+          settled = step-settled (r .values) z k (r .opens);
+          z = refl;
+          water = refl;
+          values = x-turned (r .values) z k;
+          shown = step-shown (r .values) z k;
+          run = ap₂ (λ (v : Running) (o : ℕ). run-with r v o) (step-values (r .values) z k) (step-opens (r .values) z k (heldBy r cs) (heldBy (mirrorRun r) cs') refl);
+        })
       where
-        n : answer constants c ss su m cs (turned zs) (negℤ z) .number ≡ answer constants c ss su m cs zs z .number
-        n = number-turned start zs z h
+        run-with : Run → Running → ℕ → Run
+        run-with r v o = record { months = suc (r .months); opens = o; calendar = nextCalendar (r .calendar); soil = r .soil; values = v; constants = r .constants }
 
-        r : mirrored .run ≡ mirrorRun (state .run)
-        r = run-turned zs h
+    taken-both : plain .number ≡ 0 → AnswersTurned plain other
+    taken-both e =
+        subst₂ AnswersTurned
+        (sym (ap (λ (b : Result). b .answer) (took (state .run) (state .columns) (anomaly z) e .did)))
+        (sym (ap (λ (b : Result). b .answer) (took (mirrored .run) (mirrored .columns) (anomaly (negℤ z)) (same-number ∙ e) .did)))
+        (taken-turned (state .run) (mirrored .run) (state .columns) (mirrored .columns) noWater (run-turned zs h) (reached-after start (map anomaly zs) fresh-reached h))
 
-        taken : answer constants c ss su m cs zs z .number ≡ 0 → same
-        taken e =
-            let t = took (state .run) (state .columns) (anomaly z) e in
-            let u = took (mirrored .run) (mirrored .columns) (anomaly (negℤ z)) (n ∙ e) in
-            let k = reached-after start (map anomaly zs) fresh-reached h in (
-              ap (λ (f : Figures). f .percent) (figures-are (mirrored .run) (anomaly (negℤ z)) (mirrored .columns) (n ∙ e))
-                  ∙ ap (λ (s : Run). stepOf (s .values) (negℤ z) .percent) r
-                  ∙ mirror-percent (state .run .values) z
-                  ∙ sym (ap (λ (f : Figures). f .percent) (figures-are (state .run) (anomaly z) (state .columns) e)),
-              settled-is (mirrored .run) (anomaly (negℤ z)) (mirrored .columns) u
-                  ∙ ap (λ (s : Run). settledAs (stepOf (s .values) (negℤ z) .decision) (s .opens)) r
-                  ∙ step-settled (state .run .values) z k (state .run .opens)
-                  ∙ sym (settled-is (state .run) (anomaly z) (state .columns) t),
-            )
+    -- where it is refused, all figures are 0 and the run is the one given
+    refused-both : (plain .number ≡ 0 → ⊥) → AnswersTurned plain other
+    refused-both f =
+        let a = refused-add (state .run) (anomaly z) (state .columns) in
+        let b = refused-add (mirrored .run) (anomaly (negℤ z)) (mirrored .columns) in
+        let p = a .1 (λ e. f (a .0 ∙ e)) in
+        let q = b .1 (λ e. f (sym same-number ∙ b .0 ∙ e)) in
+        record {
+          number = same-number;
+          percent = rw (p .3, q .3) refl;
+          settled = q .2 ∙ sym (p .2);
+          z = rw (p .3, q .3) refl;
+          water = rw (p .3, q .3) refl;
+          values = rw (p .3, q .3) refl;
+          shown = rw (p .3, q .3) (turns-of (noRow .x) (record { mark = 0; index = pos 0 }) (record { mark = 0; index = pos 0 }) refl (λ f. refl) (λ t. (refl, refl)));
+          run = q .0 ∙ run-turned zs h ∙ sym (ap mirrorRun (p .0));
+        }
 
-        refused : (answer constants c ss su m cs zs z .number ≡ 0 → ⊥) → same
-        refused f =
-            let a = refused-add (state .run) (anomaly z) (state .columns) in
-            let b = refused-add (mirrored .run) (anomaly (negℤ z)) (mirrored .columns) in
-            let p = a .1 (λ e. f (a .0 ∙ e)) in
-            let q = b .1 (λ e. f (sym n ∙ b .0 ∙ e)) in
-            (ap (λ (f : Figures). f .percent) (q .3 ∙ sym (p .3)), q .2 ∙ sym (p .2))
+    answers-turned : AnswersTurned plain other
+    answers-turned = ⊎-elim taken-both refused-both (zero-or (plain .number))
 
   pub mirrors : Mirrors constants c ss su m cs
   mirrors =
       record {
         accepted = λ zs h. (h .0, accepted-turned start zs (h .1));
-        number = λ zs z h. number-turned start zs z (h .1);
         values = values-turned;
-        run = λ zs h. run-turned zs (h .1);
         shown = shown-turned;
-        percent = λ zs z h. add-turned zs z (h .1) .0;
-        settled = λ zs z h. add-turned zs z (h .1) .1;
+        run = λ zs h. run-turned zs (h .1);
+        answers = λ zs z h. answers-turned zs z (h .1);
       }
 
 -- ---- the whole series is the forward rule over the same rows

@@ -26,9 +26,9 @@ use Rattle.spell_laws.proofs.Theorems.{decides-nothing}
 use Rattle.spell_laws.proofs.Mirror.{mirror-values, mirror-decides, mirror-index, tie-second, neg-size, tied-open}
 use Rattle.spell_laws.proofs.Reached.{never-both, not-both-zero, step-reached, open-values}
 use Rattle.hindsight.specs.Rule.{X, Row, nonzero, Deciding, nobody, after, oneEarlier, decidingFor, deciding, Shown, shownBy, markOf, indexOf, forward, forwardMarks}
-use Rattle.hindsight.specs.Adding.{settledAs}
+use Rattle.hindsight.specs.Adding.{History, addAs, settledAs}
 use Rattle.hindsight.specs.Columns.{rowsOf}
-use Rattle.hindsight.specs.Months.{rowFor, nextValues, rowOfZ}
+use Rattle.hindsight.specs.Months.{markFor, rowFor, nextValues, rowOfZ}
 use Rattle.demands.specs.Months.{noRow}
 use Rattle.demands.specs.Mirror.{turned, mirrorX, Excepted, TurnsAbout}
 use Rattle.demands.proofs.Sides.{nothing, some, NotBoth, Told, settled-turned, settled-level}
@@ -48,7 +48,7 @@ module _ (s : Running) (z : ℤ) (k : Reached s) where
   pub step-values : mirrored .after ≡ mirror (month .after)
   step-values = mirror-values s z (never-both s z k)
 
-  x-turned : rowFor mirrored .x ≡ mirrorX (rowFor month .x)
+  pub x-turned : rowFor mirrored .x ≡ mirrorX (rowFor month .x)
   x-turned = ap (λ (r : Running). record { x1 = r .x1; x2 = r .x2; x3 = r .x3 }) step-values
 
   -- the decision mirrors, or both decide with X2, and then X1 and X2 were not both something
@@ -78,6 +78,15 @@ module _ (s : Running) (z : ℤ) (k : Reached s) where
     where
       go : Decisions → (d : Decision) → month .decision ≡ d → settledAs (mirrored .decision) n ≡ settledAs (month .decision) n
       go (inl e) Nothing d = rw (e, d)
+      go (inl e) (Decides w) d = rw (e, d)
+      go (inr (p, q, f)) d e = rw (p, q)
+
+  -- and leaves as many open
+  pub step-opens : (held held' : History) → held' .opens ≡ held .opens → addAs (mirrored .decision) held' (rowFor mirrored) .opens ≡ addAs (month .decision) held (rowFor month) .opens
+  step-opens held held' o = go step-decides (month .decision) refl
+    where
+      go : Decisions → (d : Decision) → month .decision ≡ d → addAs (mirrored .decision) held' (rowFor mirrored) .opens ≡ addAs (month .decision) held (rowFor month) .opens
+      go (inl e) Nothing d = rw (e, d) (ap suc o)
       go (inl e) (Decides w) d = rw (e, d)
       go (inr (p, q, f)) d e = rw (p, q)
 
@@ -183,7 +192,7 @@ one-not-two : (n : ℕ) → n ≡ 1 → n ≡ 2 → ⊥
 one-not-two n a b = omega arith
 
 -- all that is said of a month, from the mark, the index where it is not excepted, and both indexes where it is
-turns-of : (x : X) (a b : Shown) → b .mark ≡ a .mark → ((Excepted x a → ⊥) → b .index ≡ negℤ (a .index)) → (Excepted x a → (a .index ≡ x .x2) × (b .index ≡ x .x2)) → TurnsAbout x a b
+pub turns-of : (x : X) (a b : Shown) → b .mark ≡ a .mark → ((Excepted x a → ⊥) → b .index ≡ negℤ (a .index)) → (Excepted x a → (a .index ≡ x .x2) × (b .index ≡ x .x2)) → TurnsAbout x a b
 turns-of x a b p f g =
     record {
       mark-kept = p;
@@ -244,6 +253,15 @@ module _ (s : Running) (z : ℤ) (k : Reached s) where
       go (Decides w) d =
           subst (λ (e : Decision). Goal (from e b) (from' (mirrored s z k .decision) b')) (sym d)
           (settled-turns s (rowFor (month s z k) .x) [] w (month s z k .index) (month s z k .index) (mirrored s z k .index) (from' (mirrored s z k .decision) b') (subst (λ (e : Decision). Opposite s (from e b) (from' (mirrored s z k .decision) b')) d (head-turned s z k b b' o)))
+
+  -- the month as it is added, before any other
+  added : (d : Decision) (m : SpellMonth) → shownBy (m .index) (decidingFor d (rowFor m) nobody) ≡ record { mark = markFor d; index = m .index }
+  added Nothing m = refl
+  added (Decides w) m = refl
+
+  pub step-shown : TurnsAbout (rowFor (month s z k) .x) (record { mark = markFor (month s z k .decision); index = month s z k .index }) (record { mark = markFor (mirrored s z k .decision); index = mirrored s z k .index })
+  unfolding Opposite
+  step-shown = subst₂ (TurnsAbout (rowFor (month s z k) .x)) (added (month s z k .decision) (month s z k)) (added (mirrored s z k .decision) (mirrored s z k)) (month-turns nobody nobody tt)
 
 -- ═══ WHAT FOLLOWS, of every month of a list of Z ═══
 

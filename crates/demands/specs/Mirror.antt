@@ -21,6 +21,7 @@ use Rattle.starts.specs.Start.{startRefusal}
 use Rattle.runs.specs.declared.Run.{Run}
 use Rattle.series.specs.Series.{wholeSeries}
 use Rattle.refusals.specs.Columns.{Columns, long, columnsFit}
+use Rattle.adding.specs.declared.Figures.{Figures}
 use Rattle.adding.specs.declared.Added.{Added}
 use Rattle.demands.specs.Months.{Ask, anomaly, asked, State, afterAll, Accepted, noRow}
 use Rattle.demands.specs.Demands.{begun}
@@ -66,6 +67,26 @@ pub record TurnsAbout (x : X) (a b : Shown) : Type 0 where
   -- and where it is, the index stays, and is X2
   pub stays : Excepted x a → (a .index ≡ x .x2) × (b .index ≡ x .x2)
 
+-- what an add's figures have of its month: X1, X2 and X3; mark and index
+abbrev pub valuesIn : Figures → X
+valuesIn f = record { x1 = f .x1; x2 = f .x2; x3 = f .x3 }
+
+abbrev pub shownIn : Figures → Shown
+shownIn f = record { mark = f .mark; index = f .index }
+
+-- an add answers a, and with every sign changed it answers b: all that an answer has
+pub record AnswersTurned (a b : Added) : Type 0 where
+  -- taken or refused alike
+  pub number : b .number ≡ a .number
+  -- "keeps each percent", and each settled count; no column has them
+  pub percent : b .figures .percent ≡ a .figures .percent
+  pub settled : b .settled ≡ a .settled
+  pub z : b .figures .z ≡ negℤ (a .figures .z)
+  pub water : b .figures .water ≡ a .figures .water
+  pub values : valuesIn (b .figures) ≡ mirrorX (valuesIn (a .figures))
+  pub shown : TurnsAbout (valuesIn (a .figures)) (shownIn (a .figures)) (shownIn (b .figures))
+  pub run : b .run ≡ mirrorRun (a .run)
+
 -- ---- a list of Z added one by one to a fresh run
 module _ (constants : List ℤ) (c ss su m : ℤ) (cs : Columns) where
   -- the run and the columns after them
@@ -88,18 +109,16 @@ module _ (constants : List ℤ) (c ss su m : ℤ) (cs : Columns) where
   shownAt zs i = record { mark = getD (given zs .columns .mark) i 0; index = getD (given zs .columns .index) i (pos 0) }
 
   pub record Mirrors : Type 0 where
-    -- "for any list of accepted Z, changing every sign": no Z of the turned list is refused either, and one Z more is taken or refused alike
+    -- "for any list of accepted Z, changing every sign": no Z of the turned list is refused either
     pub accepted : (zs : List ℤ) → Given zs → Given (turned zs)
-    pub number : (zs : List ℤ) (z : ℤ) → Given zs → answer (turned zs) (negℤ z) .number ≡ answer zs z .number
-    -- "swaps X1 with X2 in size, turns X3 .. about": of every month,
+    -- "swaps X1 with X2 in size, turns X3 .. about": of every month, in the columns
     pub values : (zs : List ℤ) → Given zs → (i : ℕ) → i < length zs → valuesAt (turned zs) i ≡ mirrorX (valuesAt zs i)
-    -- and with V in the run that is handed back
-    pub run : (zs : List ℤ) → Given zs → given (turned zs) .run ≡ mirrorRun (given zs .run)
     -- "and each settled index", and provisional ones but those excepted, "and keeps each .. mark"
     pub shown : (zs : List ℤ) → Given zs → (i : ℕ) → i < length zs → TurnsAbout (valuesAt zs i) (shownAt zs i) (shownAt (turned zs) i)
-    -- "keeps each percent", and each settled count: no column has them, each add answers with its own
-    pub percent : (zs : List ℤ) (z : ℤ) → Given zs → answer (turned zs) (negℤ z) .figures .percent ≡ answer zs z .figures .percent
-    pub settled : (zs : List ℤ) (z : ℤ) → Given zs → answer (turned zs) (negℤ z) .settled ≡ answer zs z .settled
+    -- V, in the run that the last of them handed back
+    pub run : (zs : List ℤ) → Given zs → given (turned zs) .run ≡ mirrorRun (given zs .run)
+    -- "keeps each percent": and all that the add of one Z more answers, accepted or not
+    pub answers : (zs : List ℤ) (z : ℤ) → Given zs → AnswersTurned (answer zs z) (answer (turned zs) (negℤ z))
 
 -- ---- the whole series, from lists that hold anything
 
