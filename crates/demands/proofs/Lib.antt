@@ -10,6 +10,7 @@ pub mod Singly
 pub mod Sides
 pub mod Turned
 pub mod Mirror
+pub mod Ends
 pub mod Demands
 pub mod OneOutcome
 pub mod WorkedMonths

@@ -8,53 +8,46 @@ use mathlib.Core.List.{List, [], _∷_, map}
 use Prim.Native.Nat.{ℕ, zero, suc, _+_, _≤_, _<_}
 use native.Mathlib.Omega.{arith}
 use lib.IntN.{ℤ, pos, negℤ}
-use lib.Signed.{_<ℤ_}
 use lib.Dec.{leb}
 use lib.ListN.{length, getD, length-map}
 use Rattle.outline.specs.Numbers.{mostZ, zFits}
 use Rattle.outline.specs.Refusals.{unlessRefused}
 use Rattle.outline.proofs.Tests.{both, within-z}
 use Rattle.outline.proofs.Refusals.{is-done}
-use Rattle.exact.specs.Nearest.{nearest, nearestℕ}
-use Rattle.exact.specs.Next.{nextOf}
 use Rattle.spells.specs.Values.{fresh as fresh-values}
-use Rattle.spells.specs.Spells.{raised, lowered, largerInSize, provisional, steadyMonth, abatingValues, abatingMonth, founded, unfounded, tried, noSpell, endingMonth, inForce, stepOf}
-use Rattle.ending.specs.Ending.{turn, uOf, vOf, eOf, qOf, endingOf, percentOf}
 use Rattle.spells.specs.declared.Running.{Running}
 use Rattle.spell_laws.specs.Mirror.{mirror}
 use Rattle.spell_laws.specs.Reached.{Reached}
 use Rattle.spell_laws.proofs.Mirror.{neg-size, mirror-percent}
-use Rattle.spell_laws.proofs.Reached.{fresh-reached, step-reached, dry-over, wet-over}
+use Rattle.spell_laws.proofs.Reached.{fresh-reached, step-reached}
 use Rattle.hindsight.specs.Rule.{Row, Shown, markOf, indexOf, forward, forwardAll, forwardIndexes, forwardMarks}
 use Rattle.hindsight.proofs.Forward.{getD-map, getD-forwardAll}
-use Rattle.hindsight.specs.Adding.{History, addAll, settledAs}
+use Rattle.hindsight.specs.Adding.{History, addAll}
 use Rattle.hindsight.specs.Columns.{stateOf}
-use Rattle.hindsight.specs.Months.{nextValues, rowsOfZ}
+use Rattle.hindsight.specs.Months.{rowsOfZ}
 use Rattle.hindsight_laws.specs.Counts.{count}
 use Rattle.hindsight_laws.proofs.Hindsight.{opens-counts}
 use Rattle.hindsight_laws.proofs.Adds.{series-is-adding}
 use Rattle.calendar.specs.Calendar.{nextCalendar}
-use Rattle.starts.specs.Start.{startRefusal, freshRun}
-use Rattle.starts.proofs.Theorems.{start-is-run}
+use Rattle.starts.specs.Start.{freshRun}
 use Rattle.runs.specs.declared.Run.{Run}
 use Rattle.series.specs.Series.{allZFit, seriesRefusal, Filled, filled, wholeSeries}
 use Rattle.series.proofs.SeriesLaws.{number-of}
-use Rattle.refusals.specs.Columns.{Columns, long, columnsFit}
+use Rattle.refusals.specs.Columns.{Columns, long}
 use Rattle.refusals.specs.Refusals.{runRefusal, zRefusal}
 use Rattle.refusals.proofs.Refused.{good-passes}
 use Rattle.adding.specs.Figures.{noWater}
 use Rattle.adding.specs.Taken.{Result, heldBy, taken}
 use Rattle.adding.specs.declared.WaterFigures.{WaterFigures}
-use Rattle.adding.specs.declared.Figures.{Figures}
 use Rattle.adding.specs.declared.Added.{Added}
-use Rattle.demands.specs.Months.{Ask, anomaly, asked, State, after, afterAll, Accepted, Station, stationOf, zFor, stationNext, noRow}
+use Rattle.demands.specs.Months.{anomaly, asked, State, after, afterAll, Accepted, Station, stationOf, stationNext, noRow}
 use Rattle.demands.specs.Demands.{begun}
-use Rattle.demands.specs.Mirror.{turned, mirrorX, mirrorRun, TurnsAbout, given, Given, answer, valuesAt, shownAt, AnswersTurned, Mirrors, valuesOf, filledAt, SeriesMirrors, reaching, ending, Ends}
-use Rattle.demands.proofs.Took.{took, months-next, station-next}
+use Rattle.demands.specs.Mirror.{turned, mirrorX, mirrorRun, TurnsAbout, given, Given, answer, valuesAt, shownAt, AnswersTurned, Mirrors, valuesOf, filledAt, SeriesMirrors}
+use Rattle.demands.proofs.Took.{took, months-next}
 use Rattle.demands.proofs.Honest.{zero-or, good-always}
-use Rattle.demands.proofs.Sequence.{held-all, months-all, station-all}
-use Rattle.demands.proofs.Shown.{refused-add, figures-are, values-at, settled-is-hindsight}
-use Rattle.demands.proofs.Singly.{rows-same, accepts-z, accepts-all, long-after, singly-accepted}
+use Rattle.demands.proofs.Sequence.{held-all, months-all, station-all, long-all, long-after, reached-after}
+use Rattle.demands.proofs.Shown.{refused-add, values-at, settled-is-hindsight}
+use Rattle.demands.proofs.Singly.{rows-same, accepts-all}
 use Rattle.demands.proofs.Turned.{step-values, x-turned, step-settled, step-opens, turns-of, step-shown, every-turns, every-x, marks-same}
 
 -- ---- a Z turned is in its range where the Z is
@@ -91,10 +84,6 @@ accepted-turned s (z ∷ zs) h =
     accepts-all s (turned (z ∷ zs)) (t .good) (omega (arith, f .room, length-map (z ∷ zs) negℤ)) (all-turned (z ∷ zs) ∙ f .all-fit)
 
 -- ---- one Z more is refused alike
-long-all : (s : State) (asks : List Ask) → Accepted s asks → long (afterAll s asks .columns) ≡ long (s .columns)
-long-all s [] h = refl
-long-all s (a ∷ later) h = long-all (after s a) later (h .1) ∙ long-after (s .run) (s .columns) a (took (s .run) (s .columns) a (h .0))
-
 refused-alike : (s t : State) (z : ℤ) → runRefusal (t .run) (t .columns) ≡ runRefusal (s .run) (s .columns) → t .run .months ≡ s .run .months → long (t .columns) ≡ long (s .columns)
     → zRefusal (t .run) (negℤ z) (t .columns) ≡ zRefusal (s .run) z (s .columns)
 unfolding zRefusal
@@ -139,13 +128,6 @@ station-turned d k [] = refl
 station-turned d k (z ∷ zs) =
     ap (λ (v : Running). stateOf stationNext (record { soil = d .soil; calendar = nextCalendar (d .calendar); constants = d .constants; values = v }) (map anomaly (turned zs))) (step-values (d .values) z k)
     ∙ station-turned (stationNext d (anomaly z)) (step-reached (d .values) z k) zs
-
--- what a fresh run comes to, by months of water or of Z
-reached-after : (s : State) (asks : List Ask) → Reached (s .run .values) → Accepted s asks → Reached (afterAll s asks .run .values)
-reached-after s [] k h = k
-reached-after s (a ∷ later) k h =
-    let n = station-next (s .run) a (s .columns) (took (s .run) (s .columns) a (h .0)) in
-    reached-after (after s a) later (subst (λ (d : Station). Reached (d .values)) (sym n) (step-reached (s .run .values) (zFor (stationOf (s .run)) a) k)) (h .1)
 
 module _ (constants : List ℤ) (c ss su m : ℤ) (cs : Columns) where
   abbrev start : State
@@ -317,64 +299,3 @@ series-mirrors =
     go zs index mark e i =
         rw (filled-are zs index mark e i, filled-are (turned zs) index mark (refusal-turned zs (length index) (length mark) ∙ e) i)
         (every-turns fresh-values fresh-reached zs i)
-
--- ---- spells that end
-values-of : (d : Station) (zs : List ℤ) → stateOf stationNext d (map anomaly zs) .values ≡ stateOf nextValues (d .values) zs
-values-of d [] = refl
-values-of d (z ∷ zs) = values-of (stationNext d (anomaly z)) zs
-
--- the 46 months, worked out: 45 draw X2 to X3, and the last ends the drought
-level : Running
-level = record { x1 = pos 0; x2 = negℤ (pos 578); x3 = negℤ (pos 578); v = pos 2560 }
-
-reaches : (stateOf nextValues fresh-values reaching ≡ level) × (stepOf level ending .percent ≡ 100) × (stepOf level ending .after .x2 ≡ negℤ (pos 550))
-unfolding nearest nearestℕ nextOf turn uOf vOf eOf qOf endingOf percentOf raised lowered largerInSize provisional steadyMonth abatingValues abatingMonth founded unfounded tried noSpell endingMonth inForce stepOf level
-reaches = (refl, refl, refl)
-
-module _ (constants : List ℤ) (c ss su m : ℤ) (cs : Columns) where
-  reached-at : (asks : List Ask) → Accepted (begun constants c ss su m cs) asks → Reached (afterAll (begun constants c ss su m cs) asks .run .values)
-  reached-at asks h = reached-after (begun constants c ss su m cs) asks fresh-reached h
-
-  abbrev before : List Ask → State
-  before asks = afterAll (begun constants c ss su m cs) asks
-
-  -- the series that reaches -550 is accepted wherever there is room for it
-  module _ (s : startRefusal constants c ss su m ≡ 0) (f : columnsFit cs ≡ true) (l : suc (length reaching) ≤ long cs) where
-    accepts : Accepted (begun constants c ss su m cs) (map anomaly reaching)
-    unfolding zFits
-    accepts = singly-accepted constants c ss su m cs s reaching f (omega arith) refl
-
-    last : asked (before (map anomaly reaching) .run) (anomaly ending) (before (map anomaly reaching) .columns) .answer .number ≡ 0
-    unfolding zFits
-    last =
-        accepts-z (before (map anomaly reaching) .run) (before (map anomaly reaching) .columns) ending
-        (good-always (begun constants c ss su m cs) (map anomaly reaching) (record { fit = f; run = start-is-run constants c ss su m s (long cs) }))
-        (omega (arith, months-all (begun constants c ss su m cs) (map anomaly reaching) accepts, long-all (begun constants c ss su m cs) (map anomaly reaching) accepts))
-        refl
-
-    at-578 : before (map anomaly reaching) .run .values ≡ level
-    at-578 = ap (λ (d : Station). d .values) (station-all (begun constants c ss su m cs) (map anomaly reaching) accepts) ∙ values-of (stationOf (freshRun constants c ss su m)) reaching ∙ reaches .0
-
-    reached-550 :
-        Accepted (begun constants c ss su m cs) (map anomaly reaching)
-        × (asked (before (map anomaly reaching) .run) (anomaly ending) (before (map anomaly reaching) .columns) .answer .number ≡ 0)
-        × (before (map anomaly reaching) .run .values .x3 <ℤ negℤ (pos 500))
-        × (asked (before (map anomaly reaching) .run) (anomaly ending) (before (map anomaly reaching) .columns) .answer .figures .percent ≡ 100)
-        × (asked (before (map anomaly reaching) .run) (anomaly ending) (before (map anomaly reaching) .columns) .answer .figures .x2 ≡ negℤ (pos 550))
-    unfolding level
-    reached-550 =
-        let f = figures-are (before (map anomaly reaching) .run) (anomaly ending) (before (map anomaly reaching) .columns) last in (
-          accepts,
-          last,
-          subst (λ (v : Running). v .x3 <ℤ negℤ (pos 500)) (sym at-578) (record { lt = tt }),
-          ap (λ (g : Figures). g .percent) f ∙ ap (λ (v : Running). stepOf v ending .percent) at-578 ∙ reaches .1,
-          ap (λ (g : Figures). g .x2) f ∙ ap (λ (v : Running). stepOf v ending .after .x2) at-578 ∙ reaches .2,
-        )
-
-  pub ends : Ends constants c ss su m cs
-  ends =
-      record {
-        drought = λ asks a h e n p. rw (figures-are _ a _ e) (dry-over _ _ (reached-at asks h) n (sym (ap (λ (f : Figures). f .percent) (figures-are _ a _ e)) ∙ p));
-        wet = λ asks a h e n p. rw (figures-are _ a _ e) (wet-over _ _ (reached-at asks h) n (sym (ap (λ (f : Figures). f .percent) (figures-are _ a _ e)) ∙ p));
-        reached = reached-550;
-      }

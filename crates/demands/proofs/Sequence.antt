@@ -1,7 +1,7 @@
 -- Months added one by one. After any accepted months the columns hold the rows of all months so far (`held-all`), whatever they held at
 -- first; the run and the columns stay good, so no call is refused 1 or 7; the running values of an earlier month are never written again.
 -- Assumes nothing.
-use mathlib.Core.Path.{_≡_, refl, ap, _∙_}
+use mathlib.Core.Path.{_≡_, refl, sym, ap, _∙_, subst}
 use mathlib.Core.List.{List, [], _∷_, _++_}
 use Prim.Native.Nat.{ℕ, _+_, _<_}
 use native.Mathlib.Omega.{arith}
@@ -10,9 +10,14 @@ use lib.ListN.{length, getD}
 use lib.Seq.{getD-set-other}
 use Rattle.hindsight.specs.Adding.{addTo, History}
 use Rattle.hindsight.specs.Columns.{rowsOf, stateOf}
-use Rattle.adding.specs.Taken.{heldBy}
-use Rattle.demands.specs.Months.{Ask, State, after, afterAll, Accepted, Station, stationOf, stationNext, stationRow, rowsOfMonths}
-use Rattle.demands.proofs.Took.{took, months-next, station-next, held-next, x1-next, x2-next, x3-next}
+use Rattle.spell_laws.specs.Reached.{Reached}
+use Rattle.spell_laws.proofs.Reached.{step-reached}
+use Rattle.runs.specs.declared.Run.{Run}
+use Rattle.refusals.specs.Columns.{Columns, long}
+use Rattle.adding.specs.Taken.{Result, heldBy}
+use Rattle.run_laws.proofs.Keeps.{long-kept}
+use Rattle.demands.specs.Months.{Ask, asked, State, after, afterAll, Accepted, Station, stationOf, zFor, stationNext, stationRow, rowsOfMonths}
+use Rattle.demands.proofs.Took.{Took, took, months-next, station-next, held-next, x1-next, x2-next, x3-next}
 
 abbrev heldIn : State → History
 heldIn s = heldBy (s .run) (s .columns)
@@ -38,6 +43,21 @@ station-all s [] h = refl
 station-all s (a ∷ later) h =
     station-all (after s a) later (h .1)
     ∙ ap (λ (d : Station). stateOf stationNext d later) (station-next (s .run) a (s .columns) (took (s .run) (s .columns) a (h .0)))
+
+-- the columns stay as long
+pub long-after : (r : Run) (cs : Columns) (a : Ask) → Took r a cs → long (asked r a cs .columns) ≡ long cs
+long-after r cs a t = ap (λ (b : Result). long (b .columns)) (t .did) ∙ long-kept r cs (t .good) (t .room) _ (t .soil) _ _ (t .z)
+
+pub long-all : (s : State) (asks : List Ask) → Accepted s asks → long (afterAll s asks .columns) ≡ long (s .columns)
+long-all s [] h = refl
+long-all s (a ∷ later) h = long-all (after s a) later (h .1) ∙ long-after (s .run) (s .columns) a (took (s .run) (s .columns) a (h .0))
+
+-- what a fresh run comes to, by months of water or of Z
+pub reached-after : (s : State) (asks : List Ask) → Reached (s .run .values) → Accepted s asks → Reached (afterAll s asks .run .values)
+reached-after s [] k h = k
+reached-after s (a ∷ later) k h =
+    let n = station-next (s .run) a (s .columns) (took (s .run) (s .columns) a (h .0)) in
+    reached-after (after s a) later (subst (λ (d : Station). Reached (d .values)) (sym n) (step-reached (s .run .values) (zFor (stationOf (s .run)) a) k)) (h .1)
 
 -- the running values of a month before are as they were
 pub values-stay : (s : State) (asks : List Ask) → Accepted s asks → (i : ℕ) → i < s .run .months

@@ -23,11 +23,10 @@ use Rattle.series.specs.Series.{allZFit, seriesRefusal, filled, wholeSeries}
 use Rattle.refusals.specs.Columns.{Columns, long, columnsFit}
 use Rattle.refusals.specs.Good.{Good}
 use Rattle.refusals.specs.Refusals.{runRefusal, roomRefusal, zRefusal}
-use Rattle.adding.specs.Taken.{Result, heldBy}
-use Rattle.demands.specs.Months.{Ask, anomaly, asked, State, after, afterAll, Accepted, Station, stationOf, stationNext, stationRow}
-use Rattle.run_laws.proofs.Keeps.{long-kept}
-use Rattle.demands.proofs.Took.{Took, took, good-kept, months-next}
-use Rattle.demands.proofs.Sequence.{held-all, months-all}
+use Rattle.adding.specs.Taken.{heldBy}
+use Rattle.demands.specs.Months.{anomaly, asked, State, after, afterAll, Accepted, Station, stationOf, stationNext, stationRow}
+use Rattle.demands.proofs.Took.{took, good-kept, months-next}
+use Rattle.demands.proofs.Sequence.{held-all, months-all, long-after}
 use Rattle.demands.proofs.Shown.{refused-add}
 
 -- the rows of added Z are those of the whole series
@@ -39,9 +38,6 @@ rows-same s (z ∷ zs) = ap (λ (l : List Row). rowOfZ (s .values) z ∷ l) (row
 pub accepts-z : (r : Run) (cs : Columns) (z : ℤ) → Good r cs → r .months < long cs → zFits z ≡ true → asked r (anomaly z) cs .answer .number ≡ 0
 unfolding zRefusal runRefusal roomRefusal
 accepts-z r cs z g room f = refused-add r (anomaly z) cs .0 ∙ rw (g .fit, g .run, f, lt-ltb _ _ room)
-
-pub long-after : (r : Run) (cs : Columns) (a : Ask) → Took r a cs → long (asked r a cs .columns) ≡ long cs
-long-after r cs a t = ap (λ (b : Result). long (b .columns)) (t .did) ∙ long-kept r cs (t .good) (t .room) _ (t .soil) _ _ (t .z)
 
 -- so are all of a list, while there is room
 pub accepts-all : (s : State) (zs : List ℤ) → Good (s .run) (s .columns) → s .run .months + length zs ≤ long (s .columns) → allZFit zs ≡ true → Accepted s (map anomaly zs)

@@ -1,8 +1,9 @@
 -- WET AND DRY ARE MIRRORS (document 02, E13): "Show that for any list of accepted Z, changing every sign swaps X1 with X2 in size, turns X3 and
 -- each settled index about, and keeps each percent and mark. Along the way show that, from a fresh run, a drought that ends never leaves X2 at
 -- or below -1,000. Provisional indexes are excepted when X1 and X2 tie in size." Said of adds one by one (`Mirrors`), of the whole series
--- (`SeriesMirrors`) and of spells that end (`Ends`). `mirrors`, `series-mirrors` and `ends` of proofs/Mirror.antt prove them; the laws that
--- tempt and do not hold are refuted in proofs/Tempting.antt. The words `asked`, `afterAll` and `Accepted` are in Months.antt beside this file. Assumes nothing.
+-- (`SeriesMirrors`) and of spells that end (`Ends`); `mirrors` and `series-mirrors` of proofs/Mirror.antt and `ends` of proofs/Ends.antt prove
+-- them. Laws that tempt and do not hold are refuted in proofs/Tempting.antt. The words `asked`, `afterAll` and `Accepted` are in Months.antt
+-- beside this file. Assumes nothing.
 use mathlib.Core.Path.{_≡_}
 use mathlib.Core.Bool.{true}
 use mathlib.Core.Logic.{_↔_}

@@ -1,0 +1,93 @@
+-- Spells that end, as `Ends` of specs/Mirror.antt states it: what a fresh run comes to is never beyond what `dry-over` and `wet-over` ask of it, and
+-- -550 is reached by 46 months that are worked out. Assumes nothing.
+use mathlib.Core.Path.{_≡_, refl, sym, ap, _∙_, subst}
+use mathlib.Core.Bool.{true}
+use mathlib.Core.List.{List, [], _∷_, map}
+use Prim.Native.Nat.{suc, _≤_, _<_}
+use native.Mathlib.Omega.{arith}
+use lib.IntN.{ℤ, pos, negℤ}
+use lib.Signed.{_<ℤ_}
+use lib.ListN.{length}
+use Rattle.outline.specs.Numbers.{zFits}
+use Rattle.exact.specs.Nearest.{nearest, nearestℕ}
+use Rattle.exact.specs.Next.{nextOf}
+use Rattle.spells.specs.Values.{fresh as fresh-values}
+use Rattle.spells.specs.Spells.{raised, lowered, largerInSize, provisional, steadyMonth, abatingValues, abatingMonth, founded, unfounded, tried, noSpell, endingMonth, inForce, stepOf}
+use Rattle.ending.specs.Ending.{turn, uOf, vOf, eOf, qOf, endingOf, percentOf}
+use Rattle.spells.specs.declared.Running.{Running}
+use Rattle.spell_laws.specs.Reached.{Reached}
+use Rattle.spell_laws.proofs.Reached.{fresh-reached, dry-over, wet-over}
+use Rattle.hindsight.specs.Columns.{stateOf}
+use Rattle.hindsight.specs.Months.{nextValues}
+use Rattle.starts.specs.Start.{startRefusal, freshRun}
+use Rattle.starts.proofs.Theorems.{start-is-run}
+use Rattle.refusals.specs.Columns.{Columns, long, columnsFit}
+use Rattle.adding.specs.declared.Figures.{Figures}
+use Rattle.demands.specs.Months.{Ask, anomaly, asked, State, afterAll, Accepted, Station, stationOf, stationNext}
+use Rattle.demands.specs.Demands.{begun}
+use Rattle.demands.specs.Mirror.{reaching, ending, Ends}
+use Rattle.demands.proofs.Honest.{good-always}
+use Rattle.demands.proofs.Sequence.{months-all, station-all, long-all, reached-after}
+use Rattle.demands.proofs.Shown.{figures-are}
+use Rattle.demands.proofs.Singly.{accepts-z, singly-accepted}
+
+-- after months that are all a Z, a station's running values are those of the list
+values-of : (d : Station) (zs : List ℤ) → stateOf stationNext d (map anomaly zs) .values ≡ stateOf nextValues (d .values) zs
+values-of d [] = refl
+values-of d (z ∷ zs) = values-of (stationNext d (anomaly z)) zs
+
+-- the 46 months, worked out: 45 draw X2 to X3, and the last ends the drought
+level : Running
+level = record { x1 = pos 0; x2 = negℤ (pos 578); x3 = negℤ (pos 578); v = pos 2560 }
+
+reaches : (stateOf nextValues fresh-values reaching ≡ level) × (stepOf level ending .percent ≡ 100) × (stepOf level ending .after .x2 ≡ negℤ (pos 550))
+unfolding nearest nearestℕ nextOf turn uOf vOf eOf qOf endingOf percentOf raised lowered largerInSize provisional steadyMonth abatingValues abatingMonth founded unfounded tried noSpell endingMonth inForce stepOf level
+reaches = (refl, refl, refl)
+
+module _ (constants : List ℤ) (c ss su m : ℤ) (cs : Columns) where
+  reached-at : (asks : List Ask) → Accepted (begun constants c ss su m cs) asks → Reached (afterAll (begun constants c ss su m cs) asks .run .values)
+  reached-at asks h = reached-after (begun constants c ss su m cs) asks fresh-reached h
+
+  abbrev before : List Ask → State
+  before asks = afterAll (begun constants c ss su m cs) asks
+
+  -- the series that reaches -550 is accepted wherever there is room for it
+  module _ (s : startRefusal constants c ss su m ≡ 0) (f : columnsFit cs ≡ true) (l : suc (length reaching) ≤ long cs) where
+    accepts : Accepted (begun constants c ss su m cs) (map anomaly reaching)
+    unfolding zFits
+    accepts = singly-accepted constants c ss su m cs s reaching f (omega arith) refl
+
+    last : asked (before (map anomaly reaching) .run) (anomaly ending) (before (map anomaly reaching) .columns) .answer .number ≡ 0
+    unfolding zFits
+    last =
+        accepts-z (before (map anomaly reaching) .run) (before (map anomaly reaching) .columns) ending
+        (good-always (begun constants c ss su m cs) (map anomaly reaching) (record { fit = f; run = start-is-run constants c ss su m s (long cs) }))
+        (omega (arith, months-all (begun constants c ss su m cs) (map anomaly reaching) accepts, long-all (begun constants c ss su m cs) (map anomaly reaching) accepts))
+        refl
+
+    at-578 : before (map anomaly reaching) .run .values ≡ level
+    at-578 = ap (λ (d : Station). d .values) (station-all (begun constants c ss su m cs) (map anomaly reaching) accepts) ∙ values-of (stationOf (freshRun constants c ss su m)) reaching ∙ reaches .0
+
+    reached-550 :
+        Accepted (begun constants c ss su m cs) (map anomaly reaching)
+        × (asked (before (map anomaly reaching) .run) (anomaly ending) (before (map anomaly reaching) .columns) .answer .number ≡ 0)
+        × (before (map anomaly reaching) .run .values .x3 <ℤ negℤ (pos 500))
+        × (asked (before (map anomaly reaching) .run) (anomaly ending) (before (map anomaly reaching) .columns) .answer .figures .percent ≡ 100)
+        × (asked (before (map anomaly reaching) .run) (anomaly ending) (before (map anomaly reaching) .columns) .answer .figures .x2 ≡ negℤ (pos 550))
+    unfolding level
+    reached-550 =
+        let f = figures-are (before (map anomaly reaching) .run) (anomaly ending) (before (map anomaly reaching) .columns) last in (
+          accepts,
+          last,
+          subst (λ (v : Running). v .x3 <ℤ negℤ (pos 500)) (sym at-578) (record { lt = tt }),
+          ap (λ (g : Figures). g .percent) f ∙ ap (λ (v : Running). stepOf v ending .percent) at-578 ∙ reaches .1,
+          ap (λ (g : Figures). g .x2) f ∙ ap (λ (v : Running). stepOf v ending .after .x2) at-578 ∙ reaches .2,
+        )
+
+  pub ends : Ends constants c ss su m cs
+  ends =
+      record {
+        drought = λ asks a h e n p. rw (figures-are _ a _ e) (dry-over _ _ (reached-at asks h) n (sym (ap (λ (f : Figures). f .percent) (figures-are _ a _ e)) ∙ p));
+        wet = λ asks a h e n p. rw (figures-are _ a _ e) (wet-over _ _ (reached-at asks h) n (sym (ap (λ (f : Figures). f .percent) (figures-are _ a _ e)) ∙ p));
+        reached = reached-550;
+      }
