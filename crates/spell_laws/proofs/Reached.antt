@@ -83,22 +83,23 @@ module _ (s : Running) (z : ℤ) (k : Reached s) where
       far : (x y z r : ℤ) → (negℤ (pos weight *ℤ x) -ℤ pos 1500000) ≤ℤ (pos 1000 *ℤ (z +ℤ pos 150)) → x ≤ℤ y → (pos 2 *ℤ sum y z) ≤ℤ (pos 6000 *ℤ r +ℤ pos 3000) → negℤ (pos 550) ≤ℤ r
       far x y z r = rw (is-Z x, is-Z y, is-Z z, is-Z r) (simp zs (omega arith))
 
+-- X2 of -550 or above founds no drought
+not-far : (x : ℤ) → negℤ (pos 550) ≤ℤ x → x ≤ℤ negℤ (pos 1000) → ⊥
+not-far x = rw (is-Z x) (simp zs (omega arith))
+
+back : (x : ℤ) → negℤ (pos 550) ≤ℤ negℤ x → x ≤ℤ pos 550
+back x = rw (is-Z x) (simp zs (omega arith))
+
 -- the mirror of it: a wet spell that ends
 module _ (s : Running) (z : ℤ) (k : Reached s) where
   pub wet-ends : InForce true s → endingIn true s z ≡ ended → x1Of s z ≤ℤ pos 550
   wet-ends h e =
-      turned (x1Of s z) (subst (λ (x : ℤ). negℤ (pos 550) ≤ℤ x) (mirror-x2 s z) (dry-ends (mirror s) (negℤ z) (reached-mirror s k) (mirror-force s z true h) (mirror-ending s z true ∙ e)))
-    where
-      turned : (x : ℤ) → negℤ (pos 550) ≤ℤ negℤ x → x ≤ℤ pos 550
-      turned x = rw (is-Z x) (simp zs (omega arith))
+      back (x1Of s z) (subst (λ (x : ℤ). negℤ (pos 550) ≤ℤ x) (mirror-x2 s z) (dry-ends (mirror s) (negℤ z) (reached-mirror s k) (mirror-force s z true h) (mirror-ending s z true ∙ e)))
 
   -- so X1 and X2 never both found a spell
   pub never-both : BothFound s z → ⊥
   never-both b = go (b .found-none)
     where
-      far-x2 : (x : ℤ) → negℤ (pos 550) ≤ℤ x → x ≤ℤ negℤ (pos 1000) → ⊥
-      far-x2 x = rw (is-Z x) (simp zs (omega arith))
-
       far-x1 : (x : ℤ) → x ≤ℤ pos 550 → pos 1000 ≤ℤ x → ⊥
       far-x1 x = rw (is-Z x) (simp zs (omega arith))
 
@@ -114,7 +115,7 @@ module _ (s : Running) (z : ℤ) (k : Reached s) where
 
       go : NoSpell s z → ⊥
       go (none h) = clash (s .x1) (s .x2) z (nextOf (s .x1) z) (nextOf (s .x2) z) (k .none-x1 h) (k .none-x2 h) up down (next-near (s .x1) z .0) (next-near (s .x2) z .1)
-      go (just-ended (spell-is false h i)) = far-x2 (x2Of s z) (dry-ends s z k h i) (b .found-x2)
+      go (just-ended (spell-is false h i)) = not-far (x2Of s z) (dry-ends s z k h i) (b .found-x2)
       go (just-ended (spell-is true h i)) = far-x1 (x1Of s z) (wet-ends h i) (b .found-x1)
 
   -- X1 and X2 that were both something are not both 0 a month later
@@ -158,9 +159,6 @@ module _ (s : Running) (z : ℤ) (k : Reached s) where
       up : (x : ℤ) → pos 1000 ≤ℤ x → pos 0 ≤ℤ x
       up x = rw (is-Z x) (simp zs (omega arith))
 
-      not-far : (x : ℤ) → negℤ (pos 550) ≤ℤ x → x ≤ℤ negℤ (pos 1000) → ⊥
-      not-far x = rw (is-Z x) (simp zs (omega arith))
-
   pub dry-over : s .x3 <ℤ negℤ (pos 500) → stepOf s z .percent ≡ 100 → Over (x2Of s z) (stepOf s z)
   unfolding turn
   dry-over h e = go (percent-ended s z .1 e)
@@ -185,9 +183,6 @@ wet-over s z k h e =
   where
     far : (x : ℤ) → pos 500 <ℤ x → negℤ x <ℤ negℤ (pos 500)
     far x = rw (is-Z x) (simp zs (omega arith))
-
-    back : (x : ℤ) → negℤ (pos 550) ≤ℤ negℤ x → x ≤ℤ pos 550
-    back x = rw (is-Z x) (simp zs (omega arith))
 
     low : (x : ℤ) → pos 0 ≤ℤ negℤ x → x ≤ℤ pos 0
     low x = rw (is-Z x) (simp zs (omega arith))
