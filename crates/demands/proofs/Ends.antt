@@ -2,7 +2,7 @@
 -- -550 is reached by 46 months that are worked out. Assumes nothing.
 use mathlib.Core.Path.{_≡_, refl, sym, ap, _∙_, subst}
 use mathlib.Core.Bool.{true}
-use mathlib.Core.List.{List, [], _∷_, map}
+use mathlib.Core.List.{List, map}
 use Prim.Native.Nat.{suc, _≤_, _<_}
 use native.Mathlib.Omega.{arith}
 use lib.IntN.{ℤ, pos, negℤ}
@@ -19,22 +19,18 @@ use Rattle.spell_laws.specs.Reached.{Reached}
 use Rattle.spell_laws.proofs.Reached.{fresh-reached, dry-over, wet-over}
 use Rattle.hindsight.specs.Columns.{stateOf}
 use Rattle.hindsight.specs.Months.{nextValues}
-use Rattle.starts.specs.Start.{startRefusal, freshRun}
+use Rattle.starts.specs.Start.{startRefusal}
 use Rattle.starts.proofs.Theorems.{start-is-run}
 use Rattle.refusals.specs.Columns.{Columns, long, columnsFit}
 use Rattle.adding.specs.declared.Figures.{Figures}
-use Rattle.demands.specs.Months.{Ask, anomaly, asked, State, afterAll, Accepted, Station, stationOf, stationNext}
+use Rattle.demands.specs.Months.{Ask, anomaly, asked, State, afterAll, Accepted}
 use Rattle.demands.specs.Demands.{begun}
 use Rattle.demands.specs.Mirror.{reaching, ending, Ends}
 use Rattle.demands.proofs.Honest.{good-always}
-use Rattle.demands.proofs.Sequence.{months-all, station-all, long-all, reached-after}
+use Rattle.demands.proofs.Sequence.{months-all, long-all, reached-after}
 use Rattle.demands.proofs.Shown.{figures-are}
 use Rattle.demands.proofs.Singly.{accepts-z, singly-accepted}
-
--- after months that are all a Z, a station's running values are those of the list
-values-of : (d : Station) (zs : List ℤ) → stateOf stationNext d (map anomaly zs) .values ≡ stateOf nextValues (d .values) zs
-values-of d [] = refl
-values-of d (z ∷ zs) = values-of (stationNext d (anomaly z)) zs
+use Rattle.demands.proofs.Mirror.{run-values}
 
 -- the 46 months, worked out: 45 draw X2 to X3, and the last ends the drought
 level : Running
@@ -66,7 +62,7 @@ module _ (constants : List ℤ) (c ss su m : ℤ) (cs : Columns) where
         refl
 
     at-578 : before (map anomaly reaching) .run .values ≡ level
-    at-578 = ap (λ (d : Station). d .values) (station-all (begun constants c ss su m cs) (map anomaly reaching) accepts) ∙ values-of (stationOf (freshRun constants c ss su m)) reaching ∙ reaches .0
+    at-578 = run-values constants c ss su m cs reaching accepts ∙ reaches .0
 
     reached-550 :
         Accepted (begun constants c ss su m cs) (map anomaly reaching)

@@ -24,7 +24,7 @@ use Rattle.hindsight.specs.Rule.{Row, Shown, markOf, indexOf, forward, forwardA
 use Rattle.hindsight.proofs.Forward.{getD-map, getD-forwardAll}
 use Rattle.hindsight.specs.Adding.{History, addAll}
 use Rattle.hindsight.specs.Columns.{stateOf}
-use Rattle.hindsight.specs.Months.{rowsOfZ}
+use Rattle.hindsight.specs.Months.{nextValues, rowsOfZ}
 use Rattle.hindsight_laws.specs.Counts.{count}
 use Rattle.hindsight_laws.proofs.Hindsight.{opens-counts}
 use Rattle.hindsight_laws.proofs.Adds.{series-is-adding}
@@ -32,7 +32,6 @@ use Rattle.calendar.specs.Calendar.{nextCalendar}
 use Rattle.starts.specs.Start.{freshRun}
 use Rattle.runs.specs.declared.Run.{Run}
 use Rattle.series.specs.Series.{allZFit, seriesRefusal, Filled, filled, wholeSeries}
-use Rattle.series.proofs.SeriesLaws.{number-of}
 use Rattle.refusals.specs.Columns.{Columns, long}
 use Rattle.refusals.specs.Refusals.{runRefusal, zRefusal}
 use Rattle.refusals.proofs.Refused.{good-passes}
@@ -42,12 +41,13 @@ use Rattle.adding.specs.declared.WaterFigures.{WaterFigures}
 use Rattle.adding.specs.declared.Added.{Added}
 use Rattle.demands.specs.Months.{anomaly, asked, State, after, afterAll, Accepted, Station, stationOf, stationNext, noRow}
 use Rattle.demands.specs.Demands.{begun}
-use Rattle.demands.specs.Mirror.{turned, mirrorX, mirrorRun, TurnsAbout, given, Given, answer, valuesAt, shownAt, AnswersTurned, Mirrors, valuesOf, filledAt, SeriesMirrors}
+use Rattle.demands.specs.Mirror.{turned, mirrorX, mirrorRun, TurnsAbout, given, Given, answer, valuesAt, shownAt, AnswersTurned, Mirrors, Anywhere, valuesOf, filledAt, SeriesMirrors}
 use Rattle.demands.proofs.Took.{took, months-next}
 use Rattle.demands.proofs.Honest.{zero-or, good-always}
 use Rattle.demands.proofs.Sequence.{held-all, months-all, station-all, long-all, long-after, reached-after}
 use Rattle.demands.proofs.Shown.{refused-add, values-at, settled-is-hindsight}
 use Rattle.demands.proofs.Singly.{rows-same, accepts-all}
+use Rattle.demands.proofs.Demands.{demand-1}
 use Rattle.demands.proofs.Turned.{step-values, x-turned, step-settled, step-opens, turns-of, step-shown, every-turns, every-x, marks-same}
 
 -- ---- a Z turned is in its range where the Z is
@@ -119,7 +119,16 @@ number-turned s zs z h =
         let u = afterAll s (map anomaly (turned (z ∷ zs))) in
         good-passes (u .run) (u .columns) (good-always s (map anomaly (turned (z ∷ zs))) g) ∙ sym (good-passes (t .run) (t .columns) (good-always s (map anomaly (z ∷ zs)) g))
 
+abbrev shows : ℕ → ℤ → Shown
+shows n x = record { mark = n; index = x }
+
 -- ---- the run that is handed back
+
+-- after months that are all a Z, a station's running values are those of the list
+values-of : (d : Station) (zs : List ℤ) → stateOf stationNext d (map anomaly zs) .values ≡ stateOf nextValues (d .values) zs
+values-of d [] = refl
+values-of d (z ∷ zs) = values-of (stationNext d (anomaly z)) zs
+
 abbrev mirrorStation : Station → Station
 mirrorStation d = record { soil = d .soil; calendar = d .calendar; constants = d .constants; values = mirror (d .values) }
 
@@ -153,6 +162,10 @@ module _ (constants : List ℤ) (c ss su m : ℤ) (cs : Columns) where
       runWith : Station → ℕ → ℕ → Run
       runWith d n o = record { months = n; opens = o; calendar = d .calendar; soil = d .soil; values = d .values; constants = d .constants }
 
+  -- its running values are those of the list, by the rules of spells alone
+  pub run-values : (zs : List ℤ) → Accepted start (map anomaly zs) → given constants c ss su m cs zs .run .values ≡ stateOf nextValues fresh-values zs
+  run-values zs h = ap (λ (d : Station). d .values) (station-all start (map anomaly zs) h) ∙ values-of station zs
+
   -- what the columns hold at a month's place is what the rules give of it
   values-are : (zs : List ℤ) → Given constants c ss su m cs zs → (i : ℕ) → i < length zs → valuesAt constants c ss su m cs zs i ≡ valuesOf zs i
   values-are zs h i l =
@@ -163,9 +176,6 @@ module _ (constants : List ℤ) (c ss su m : ℤ) (cs : Columns) where
   shown-are zs h i l =
       let e = settled-is-hindsight constants c ss su m cs (h .0) (map anomaly zs) (h .1) i (omega (arith, length-map zs anomaly)) in
       ap₂ (λ (n : ℕ) (x : ℤ). shows n x) (e .1) (e .0) ∙ ap (λ (u : List Row). forward u i) (rows-same station zs)
-    where
-      shows : ℕ → ℤ → Shown
-      shows n x = record { mark = n; index = x }
 
   values-turned : (zs : List ℤ) → Given constants c ss su m cs zs → (i : ℕ) → i < length zs → valuesAt constants c ss su m cs (turned zs) i ≡ mirrorX (valuesAt constants c ss su m cs zs i)
   values-turned zs h i l =
@@ -252,13 +262,23 @@ module _ (constants : List ℤ) (c ss su m : ℤ) (cs : Columns) where
         answers = λ zs z h. answers-turned zs z (h .1);
       }
 
+pub anywhere : Anywhere
+anywhere =
+    record {
+      months = λ k c ss su m cs k' c' ss' su' m' cs' zs h h' i l. (
+        values-are k' c' ss' su' m' cs' zs h' i l ∙ sym (values-are k c ss su m cs zs h i l),
+        shown-are k' c' ss' su' m' cs' zs h' i l ∙ sym (shown-are k c ss su m cs zs h i l),
+      );
+      values = λ k c ss su m cs k' c' ss' su' m' cs' zs h h'. run-values k' c' ss' su' m' cs' zs (h' .1) ∙ sym (run-values k c ss su m cs zs (h .1));
+    }
+
 -- ---- the whole series is the forward rule over the same rows
 refusal-turned : (zs : List ℤ) (a b : ℕ) → seriesRefusal (turned zs) a b ≡ seriesRefusal zs a b
 unfolding seriesRefusal
 refusal-turned zs a b = rw (length-map zs negℤ, all-turned zs)
 
 series-number : (zs index : List ℤ) (mark : List ℕ) → wholeSeries zs index mark .number ≡ seriesRefusal zs (length index) (length mark)
-series-number zs index mark = let w = wholeSeries zs index mark in number-of zs index mark (w .number) (w .index) (w .mark) refl
+series-number zs index mark = demand-1 .series zs index mark .0
 
 marks-turned : (zs index : List ℤ) (mark : List ℕ) → wholeSeries (turned zs) index mark .mark ≡ wholeSeries zs index mark .mark
 unfolding wholeSeries
@@ -280,9 +300,6 @@ filled-are zs index mark e i =
   where
     none : Shown
     none = record { mark = 0; index = pos 0 }
-
-    shows : ℕ → ℤ → Shown
-    shows n x = record { mark = n; index = x }
 
     place : Filled → Shown
     place f = shows (getD (f .mark) i 0) (getD (f .index) i (pos 0))

@@ -19,6 +19,7 @@ use Rattle.spells.specs.Values.{fresh}
 use Rattle.spells.specs.Spells.{raised, lowered, largerInSize, provisional, steadyMonth, abatingValues, abatingMonth, founded, unfounded, tried, noSpell, endingMonth, inForce, stepOf}
 use Rattle.ending.specs.Ending.{turn, uOf, vOf, eOf, qOf, endingOf, percentOf}
 use Rattle.spell_laws.specs.Months.{NoneInForce, NoSpell, none, x2Of}
+use Rattle.hindsight.specs.Rule.{Shown}
 use Rattle.hindsight.specs.Columns.{stateOf}
 use Rattle.hindsight.specs.Months.{nextValues}
 use Rattle.ranges.specs.Ranges.{limitOf, constantFits, constantsFitTo, calendarFits}
@@ -59,18 +60,36 @@ both = holding (record { x1 = pos 5000; x2 = minus 5000; x3 = pos 0; v = pos 0 }
 abbrev under : Run
 under = holding (record { x1 = pos 0; x2 = minus 5000; x3 = minus 1000; v = pos 0 })
 
+-- Z 1,500, -673 on a station for Z: X1 224 and X2 -224, and the month is open
+abbrev tie : List ℤ
+tie = pos 1500 ∷ minus 673 ∷ []
+
+abbrev GivenHere : List ℤ → Type 0
+GivenHere zs = Given ones (pos leastCapacity) (pos 0) (pos 0) (pos 1) (blank 2) zs
+
+abbrev second : List ℤ → Shown
+second zs = shownAt ones (pos leastCapacity) (pos 0) (pos 0) (pos 1) (blank 2) zs 1
+
+-- Z -3,000 founds a drought, and 33 times -150 lets X3 creep to -499: no month ended it, and it is in force no more. Z -3,001 founds the next
+abbrev lapsing : List ℤ
+lapsing = minus 3000 ∷ replicate 33 (minus 150)
+
+abbrev lapsed : Running
+lapsed = record { x1 = pos 0; x2 = pos 0; x3 = minus 499; v = pos 0 }
+
 record Worked : Type 0 where
   both-taken : addZ both (pos 0) (blank 1) .answer .number ≡ 0
   both-x3 : addZ both (pos 0) (blank 1) .answer .run .values .x3 ≡ pos 4485
   under-taken : addZ under (pos 1041) (blank 1) .answer .number ≡ 0
   under-percent : addZ under (pos 1041) (blank 1) .answer .figures .percent ≡ 100
   under-x2 : x2Of (under .values) (pos 1041) ≡ minus 4138
-  tied-given : Given ones (pos leastCapacity) (pos 0) (pos 0) (pos 1) (blank 2) (pos 1500 ∷ minus 673 ∷ [])
-  tied-index : shownAt ones (pos leastCapacity) (pos 0) (pos 0) (pos 1) (blank 2) (pos 1500 ∷ minus 673 ∷ []) 1 .index ≡ minus 224
-  tied-turned : shownAt ones (pos leastCapacity) (pos 0) (pos 0) (pos 1) (blank 2) (minus 1500 ∷ pos 673 ∷ []) 1 .index ≡ minus 224
+  tied-given : GivenHere tie
+  tied-mark : second tie .mark ≡ 1
+  tied-index : second tie .index ≡ minus 224
+  tied-turned : second (turned tie) .index ≡ minus 224
   level-decides : stepOf fresh (pos 0) .decision ≡ Decides X2
-  lapsed-values : valuesAfter (minus 3000 ∷ replicate 33 (minus 150)) ≡ record { x1 = pos 0; x2 = pos 0; x3 = minus 499; v = pos 0 }
-  lapsed-x2 : x2Of (record { x1 = pos 0; x2 = pos 0; x3 = minus 499; v = pos 0 }) (minus 3001) ≡ minus 1000
+  lapsed-values : valuesAfter lapsing ≡ lapsed
+  lapsed-x2 : x2Of lapsed (minus 3001) ≡ minus 1000
 
 worked : Worked
 unfolding nearest nearestℕ nextOf turn uOf vOf eOf qOf endingOf percentOf raised lowered largerInSize provisional steadyMonth abatingValues abatingMonth founded unfounded tried noSpell endingMonth inForce stepOf surfaceHolds underlyingHolds limitOf constantFits constantsFitTo constantsAt zeroKWithin calendarFits nextCalendar lengthFits zFits capacityFits storagesFit monthFits startRefusal soilFits sizesFit signsFit vFits isRun lengthsFit runRefusal roomRefusal zRefusal taken addZ
@@ -82,6 +101,7 @@ worked =
       under-percent = refl;
       under-x2 = refl;
       tied-given = (refl, (refl, (refl, tt)));
+      tied-mark = refl;
       tied-index = refl;
       tied-turned = refl;
       level-decides = refl;
@@ -125,11 +145,12 @@ any-run-ends-fails law =
 abbrev pub EveryProvisional : Type 0
 EveryProvisional =
     (constants : List ℤ) (c ss su m : ℤ) (cs : Columns) (zs : List ℤ) → Given constants c ss su m cs zs → (i : ℕ) → i < length zs
+    → shownAt constants c ss su m cs zs i .mark ≡ 1
     → shownAt constants c ss su m cs (turned zs) i .index ≡ negℤ (shownAt constants c ss su m cs zs i .index)
 
 pub every-provisional-fails : EveryProvisional → ⊥
 every-provisional-fails law =
-    let e = law ones (pos leastCapacity) (pos 0) (pos 0) (pos 1) (blank 2) (pos 1500 ∷ minus 673 ∷ []) (worked .tied-given) 1 (omega arith) in
+    let e = law ones (pos leastCapacity) (pos 0) (pos 0) (pos 1) (blank 2) tie (worked .tied-given) 1 (omega arith) (worked .tied-mark) in
     not-own (sym (worked .tied-turned) ∙ e ∙ ap negℤ (worked .tied-index))
   where
     not-own : minus 224 ≡ negℤ (minus 224) → ⊥
@@ -148,10 +169,6 @@ decides-alike-fails law = apart (sym (worked .level-decides) ∙ law [] (pos 0) 
 -- ---- a drought that is over, however it went, leaves X2 above -1,000: X3 was below 0, and there is no spell, or one just ended
 abbrev pub Lapses : Type 0
 Lapses = (zs : List ℤ) (z : ℤ) → valuesAfter zs .x3 <ℤ pos 0 → NoSpell (valuesAfter zs) z → negℤ (pos foundsFrom) <ℤ x2Of (valuesAfter zs) z
-
--- Z -3,000 founds a drought, and 33 times -150 lets X3 creep to -499: no month ended it, and it is in force no more. Z -3,001 founds the next
-abbrev lapsing : List ℤ
-lapsing = minus 3000 ∷ replicate 33 (minus 150)
 
 pub lapses-fails : Lapses → ⊥
 lapses-fails law =

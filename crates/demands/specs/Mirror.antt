@@ -1,8 +1,7 @@
 -- WET AND DRY ARE MIRRORS (document 02, E13): "Show that for any list of accepted Z, changing every sign swaps X1 with X2 in size, turns X3 and
 -- each settled index about, and keeps each percent and mark. Along the way show that, from a fresh run, a drought that ends never leaves X2 at
--- or below -1,000. Provisional indexes are excepted when X1 and X2 tie in size." Said of adds one by one (`Mirrors`), of the whole series
--- (`SeriesMirrors`) and of spells that end (`Ends`); `mirrors` and `series-mirrors` of proofs/Mirror.antt and `ends` of proofs/Ends.antt prove
--- them. Laws that tempt and do not hold are refuted in proofs/Tempting.antt. The words `asked`, `afterAll` and `Accepted` are in Months.antt
+-- or below -1,000. Provisional indexes are excepted when X1 and X2 tie in size." Said of adds one by one (`Mirrors`, `Anywhere`), of the
+-- whole series (`SeriesMirrors`) and of spells that end (`Ends`); proofs/Mirror.antt and, of the last, proofs/Ends.antt prove them. Laws that tempt and do not hold are refuted in proofs/Tempting.antt. The words `asked`, `afterAll` and `Accepted` are in Months.antt
 -- beside this file. Assumes nothing.
 use mathlib.Core.Path.{_≡_}
 use mathlib.Core.Bool.{true}
@@ -120,6 +119,19 @@ module _ (constants : List ℤ) (c ss su m : ℤ) (cs : Columns) where
     pub run : (zs : List ℤ) → Given zs → given (turned zs) .run ≡ mirrorRun (given zs .run)
     -- "keeps each percent": and all that the add of one Z more answers, accepted or not
     pub answers : (zs : List ℤ) (z : ℤ) → Given zs → AnswersTurned (answer zs z) (answer (turned zs) (negℤ z))
+
+-- the two lists need not be given to one station: on any two fresh runs, whatever the constants, the soil, the month and the columns, a list of Z
+-- leaves the same months and the same running values
+pub record Anywhere : Type 0 where
+  pub months :
+      (constants : List ℤ) (c ss su m : ℤ) (cs : Columns) (constants' : List ℤ) (c' ss' su' m' : ℤ) (cs' : Columns) (zs : List ℤ)
+      → Given constants c ss su m cs zs → Given constants' c' ss' su' m' cs' zs → (i : ℕ) → i < length zs
+      → (valuesAt constants' c' ss' su' m' cs' zs i ≡ valuesAt constants c ss su m cs zs i)
+      × (shownAt constants' c' ss' su' m' cs' zs i ≡ shownAt constants c ss su m cs zs i)
+  pub values :
+      (constants : List ℤ) (c ss su m : ℤ) (cs : Columns) (constants' : List ℤ) (c' ss' su' m' : ℤ) (cs' : Columns) (zs : List ℤ)
+      → Given constants c ss su m cs zs → Given constants' c' ss' su' m' cs' zs
+      → given constants' c' ss' su' m' cs' zs .run .values ≡ given constants c ss su m cs zs .run .values
 
 -- ---- the whole series, from lists that hold anything
 
