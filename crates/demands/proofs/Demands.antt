@@ -4,16 +4,18 @@ use mathlib.Core.List.{List}
 use Prim.Native.Nat.{ℕ}
 use lib.IntN.{ℤ}
 use lib.ListN.{length}
-use Rattle.starts.specs.Start.{startRefusal}
 use Rattle.starts.proofs.Theorems.{soil-starts}
 use Rattle.series.specs.Series.{seriesRefusal, wholeSeries}
 use Rattle.series.proofs.SeriesLaws.{number-of, refused-writes-nothing}
-use Rattle.refusals.specs.Columns.{Columns}
 use Rattle.demands.specs.Demands.{Demand1, Demand2, Demand3}
-use Rattle.demands.proofs.Shown.{refused-add, refused-start, figures-are, layers-hold, water-balances, inches-balance, settled-is-hindsight, open-exactly-when, settled-stays-settled, values-never-change, open-are-last, opens-are-counted, settled-are-counted}
-use Rattle.demands.proofs.Soils.{z-given, soil-started, soil-always}
-use Rattle.demands.proofs.Honest.{never-refused-7}
+use Rattle.demands.proofs.Shown.{refused-add, refused-start, figures-are, layers-hold, water-balances, inches-balance, values-at, settled-is-hindsight, open-exactly-when, settled-stays-settled, values-never-change, open-are-last, opens-are-counted, settled-are-counted}
+use Rattle.demands.proofs.Given.{no-water, readings-exactly, adds-exactly, row-refused, rows-exactly, series-exactly}
+use Rattle.demands.proofs.Chain.{chain, kept, calendar, writes}
+use Rattle.demands.proofs.Soils.{z-given, soil-started, soil-always, layers-exist}
+use Rattle.demands.proofs.Honest.{never-refused-7, rows-honest}
 use Rattle.demands.proofs.ZeroK.{starts-exactly, zero-k, nothing-counts, counts}
+use Rattle.demands.proofs.Seasons.{here-more}
+use Rattle.demands.proofs.SeasonGiven.{seasons-exactly, seasons-refused, honest-seasons}
 use Rattle.demands.proofs.Singly.{series-as-singly, singly-accepted}
 
 -- a whole series answers with its number, and a refused one leaves both lists as they were
@@ -28,39 +30,56 @@ refused-series z index mark =
 pub demand-1 : Demand1
 demand-1 =
     record {
-      adds = refused-add;
+      readings = no-water;
+      readings-exactly = readings-exactly;
       starts = refused-start;
       starts-exactly = starts-exactly;
+      adds = refused-add;
+      adds-exactly = adds-exactly;
+      seasons = here-more;
+      seasons-refused = seasons-refused;
+      seasons-exactly = seasons-exactly;
+      rows = row-refused;
+      rows-exactly = rows-exactly;
+      series = refused-series;
+      series-exactly = series-exactly;
+      honest = never-refused-7;
+      honest-rows = rows-honest;
+      honest-seasons = honest-seasons;
       zero-k = zero-k;
       nothing = nothing-counts;
       counts = counts;
-      series = refused-series;
-      honest = never-refused-7;
     }
 
 pub demand-2 : Demand2
 demand-2 =
     record {
       figures = figures-are;
+      chain = chain;
+      columns = values-at;
+      kept = kept;
+      calendar = calendar;
       balances = water-balances;
       balances-inches = inches-balance;
       anomalies = z-given;
+      exists = layers-exist;
       layers = layers-hold;
       started = soil-started;
       always = soil-always;
       soils = soil-starts;
     }
 
-pub demand-3 : (constants : List ℤ) (c ss su m : ℤ) (cs : Columns) → startRefusal constants c ss su m ≡ 0 → Demand3 constants c ss su m cs
-demand-3 constants c ss su m cs started =
+pub demand-3 : Demand3
+demand-3 =
     record {
-      hindsight = settled-is-hindsight constants c ss su m cs started;
-      opens = open-exactly-when constants c ss su m cs started;
-      stays = settled-stays-settled constants c ss su m cs started;
-      values = values-never-change constants c ss su m cs started;
-      settled = settled-are-counted constants c ss su m cs started;
-      counted = opens-are-counted constants c ss su m cs started;
-      last = open-are-last constants c ss su m cs started;
-      singly = series-as-singly constants c ss su m cs started;
-      accepted = singly-accepted constants c ss su m cs started;
+      hindsight = settled-is-hindsight;
+      opens = open-exactly-when;
+      stays = settled-stays-settled;
+      values = values-never-change;
+      writes = writes;
+      settled = settled-are-counted;
+      counted = opens-are-counted;
+      last = open-are-last;
+      singly = series-as-singly;
+      accepted = singly-accepted;
     }

@@ -19,14 +19,12 @@ use Rattle.spell_laws.specs.Reached.{Reached}
 use Rattle.spell_laws.proofs.Reached.{fresh-reached, dry-over, wet-over}
 use Rattle.hindsight.specs.Columns.{stateOf}
 use Rattle.hindsight.specs.Months.{nextValues}
-use Rattle.starts.specs.Start.{startRefusal}
-use Rattle.starts.proofs.Theorems.{start-is-run}
-use Rattle.refusals.specs.Columns.{Columns, long, columnsFit}
+use Rattle.refusals.specs.Columns.{long, columnsFit}
 use Rattle.adding.specs.declared.Figures.{Figures}
-use Rattle.demands.specs.Months.{Ask, anomaly, asked, State, afterAll, Accepted}
-use Rattle.demands.specs.Demands.{begun}
+use Rattle.demands.specs.Months.{Ask, anomaly, asked, State, Accepted}
+use Rattle.demands.specs.Demands.{Fresh, first, now}
 use Rattle.demands.specs.Mirror.{reaching, ending, Ends}
-use Rattle.demands.proofs.Honest.{good-always}
+use Rattle.demands.proofs.Honest.{good-now}
 use Rattle.demands.proofs.Sequence.{months-all, long-all, reached-after}
 use Rattle.demands.proofs.Shown.{figures-are}
 use Rattle.demands.proofs.Singly.{accepts-z, singly-accepted}
@@ -40,47 +38,47 @@ reaches : (stateOf nextValues fresh-values reaching ≡ level) × (stepOf level 
 unfolding nearest nearestℕ nextOf turn uOf vOf eOf qOf endingOf percentOf raised lowered largerInSize provisional steadyMonth abatingValues abatingMonth founded unfounded tried noSpell endingMonth inForce stepOf level
 reaches = (refl, refl, refl)
 
-module _ (constants : List ℤ) (c ss su m : ℤ) (cs : Columns) where
-  reached-at : (asks : List Ask) → Accepted (begun constants c ss su m cs) asks → Reached (afterAll (begun constants c ss su m cs) asks .run .values)
-  reached-at asks h = reached-after (begun constants c ss su m cs) asks fresh-reached h
+module _ (f : Fresh) where
+  reached-at : (asks : List Ask) → Accepted (first f) asks → Reached (now f asks .run .values)
+  reached-at asks h = reached-after (first f) asks fresh-reached h
 
   abbrev before : List Ask → State
-  before asks = afterAll (begun constants c ss su m cs) asks
+  before asks = now f asks
 
   -- the series that reaches -550 is accepted wherever there is room for it
-  module _ (s : startRefusal constants c ss su m ≡ 0) (f : columnsFit cs ≡ true) (l : suc (length reaching) ≤ long cs) where
-    accepts : Accepted (begun constants c ss su m cs) (map anomaly reaching)
+  module _ (fit : columnsFit (f .columns) ≡ true) (l : suc (length reaching) ≤ long (f .columns)) where
+    accepts : Accepted (first f) (map anomaly reaching)
     unfolding zFits
-    accepts = singly-accepted constants c ss su m cs s reaching f (omega arith) refl
+    accepts = singly-accepted f reaching fit (omega arith) refl
 
     last : asked (before (map anomaly reaching) .run) (anomaly ending) (before (map anomaly reaching) .columns) .answer .number ≡ 0
     unfolding zFits
     last =
         accepts-z (before (map anomaly reaching) .run) (before (map anomaly reaching) .columns) ending
-        (good-always (begun constants c ss su m cs) (map anomaly reaching) (record { fit = f; run = start-is-run constants c ss su m s (long cs) }))
-        (omega (arith, months-all (begun constants c ss su m cs) (map anomaly reaching) accepts, long-all (begun constants c ss su m cs) (map anomaly reaching) accepts))
+        (good-now f fit (map anomaly reaching))
+        (omega (arith, months-all (first f) (map anomaly reaching) accepts, long-all (first f) (map anomaly reaching) accepts))
         refl
 
     at-578 : before (map anomaly reaching) .run .values ≡ level
-    at-578 = run-values constants c ss su m cs reaching accepts ∙ reaches .0
+    at-578 = run-values f reaching accepts ∙ reaches .0
 
     reached-550 :
-        Accepted (begun constants c ss su m cs) (map anomaly reaching)
+        Accepted (first f) (map anomaly reaching)
         × (asked (before (map anomaly reaching) .run) (anomaly ending) (before (map anomaly reaching) .columns) .answer .number ≡ 0)
         × (before (map anomaly reaching) .run .values .x3 <ℤ negℤ (pos 500))
         × (asked (before (map anomaly reaching) .run) (anomaly ending) (before (map anomaly reaching) .columns) .answer .figures .percent ≡ 100)
         × (asked (before (map anomaly reaching) .run) (anomaly ending) (before (map anomaly reaching) .columns) .answer .figures .x2 ≡ negℤ (pos 550))
     unfolding level
     reached-550 =
-        let f = figures-are (before (map anomaly reaching) .run) (anomaly ending) (before (map anomaly reaching) .columns) last in (
+        let e = figures-are (before (map anomaly reaching) .run) (anomaly ending) (before (map anomaly reaching) .columns) last in (
           accepts,
           last,
           subst (λ (v : Running). v .x3 <ℤ negℤ (pos 500)) (sym at-578) (record { lt = tt }),
-          ap (λ (g : Figures). g .percent) f ∙ ap (λ (v : Running). stepOf v ending .percent) at-578 ∙ reaches .1,
-          ap (λ (g : Figures). g .x2) f ∙ ap (λ (v : Running). stepOf v ending .after .x2) at-578 ∙ reaches .2,
+          ap (λ (g : Figures). g .percent) e ∙ ap (λ (v : Running). stepOf v ending .percent) at-578 ∙ reaches .1,
+          ap (λ (g : Figures). g .x2) e ∙ ap (λ (v : Running). stepOf v ending .after .x2) at-578 ∙ reaches .2,
         )
 
-  pub ends : Ends constants c ss su m cs
+  pub ends : Ends f
   ends =
       record {
         drought = λ asks a h e n p. rw (figures-are _ a _ e) (dry-over _ _ (reached-at asks h) n (sym (ap (λ (f : Figures). f .percent) (figures-are _ a _ e)) ∙ p));

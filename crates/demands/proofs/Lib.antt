@@ -3,6 +3,8 @@ pub mod Took
 pub mod Sequence
 pub mod Rows
 pub mod Shown
+pub mod Given
+pub mod Chain
 pub mod Honest
 pub mod ZeroK
 pub mod Soils
@@ -15,6 +17,7 @@ pub mod Demands
 pub mod OneOutcome
 pub mod WorkedMonths
 pub mod Seasons
+pub mod SeasonGiven
 pub mod Rejected
 pub mod SeasonRejected
 pub mod Tempting

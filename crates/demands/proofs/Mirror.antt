@@ -40,10 +40,11 @@ use Rattle.adding.specs.Taken.{Result, heldBy, taken}
 use Rattle.adding.specs.declared.WaterFigures.{WaterFigures}
 use Rattle.adding.specs.declared.Added.{Added}
 use Rattle.demands.specs.Months.{anomaly, asked, State, after, afterAll, Accepted, Station, stationOf, stationNext, noRow}
-use Rattle.demands.specs.Demands.{begun}
+use Rattle.demands.specs.Demands.{Fresh, first}
 use Rattle.demands.specs.Mirror.{turned, mirrorX, mirrorRun, TurnsAbout, given, Given, answer, valuesAt, shownAt, AnswersTurned, Mirrors, Anywhere, valuesOf, filledAt, SeriesMirrors}
 use Rattle.demands.proofs.Took.{took, months-next}
-use Rattle.demands.proofs.Honest.{zero-or, good-always}
+use Rattle.demands.proofs.Given.{zero-or}
+use Rattle.demands.proofs.Honest.{good-always}
 use Rattle.demands.proofs.Sequence.{held-all, months-all, station-all, long-all, long-after, reached-after}
 use Rattle.demands.proofs.Shown.{refused-add, values-at, settled-is-hindsight}
 use Rattle.demands.proofs.Singly.{rows-same, accepts-all}
@@ -138,21 +139,21 @@ station-turned d k (z ∷ zs) =
     ap (λ (v : Running). stateOf stationNext (record { soil = d .soil; calendar = nextCalendar (d .calendar); constants = d .constants; values = v }) (map anomaly (turned zs))) (step-values (d .values) z k)
     ∙ station-turned (stationNext d (anomaly z)) (step-reached (d .values) z k) zs
 
-module _ (constants : List ℤ) (c ss su m : ℤ) (cs : Columns) where
+module _ (f : Fresh) where
   abbrev start : State
-  start = begun constants c ss su m cs
+  start = first f
 
   abbrev station : Station
-  station = stationOf (freshRun constants c ss su m)
+  station = stationOf (first f .run)
 
   -- the columns hold the rows of the list
-  held-z : (zs : List ℤ) → Accepted start (map anomaly zs) → heldBy (given constants c ss su m cs zs .run) (given constants c ss su m cs zs .columns) ≡ addAll (rowsOfZ zs)
+  held-z : (zs : List ℤ) → Accepted start (map anomaly zs) → heldBy (given f zs .run) (given f zs .columns) ≡ addAll (rowsOfZ zs)
   held-z zs h = held-all start (map anomaly zs) h ∙ ap addAll (rows-same station zs)
 
-  opens-are : (zs : List ℤ) → Accepted start (map anomaly zs) → given constants c ss su m cs zs .run .opens ≡ count 1 (forwardMarks (rowsOfZ zs))
+  opens-are : (zs : List ℤ) → Accepted start (map anomaly zs) → given f zs .run .opens ≡ count 1 (forwardMarks (rowsOfZ zs))
   opens-are zs h = ap (λ (u : History). u .opens) (held-z zs h) ∙ opens-counts (rowsOfZ zs) ∙ ap (count 1) (sym (series-is-adding (rowsOfZ zs) .1))
 
-  run-turned : (zs : List ℤ) → Accepted start (map anomaly zs) → given constants c ss su m cs (turned zs) .run ≡ mirrorRun (given constants c ss su m cs zs .run)
+  run-turned : (zs : List ℤ) → Accepted start (map anomaly zs) → given f (turned zs) .run ≡ mirrorRun (given f zs .run)
   run-turned zs h =
       let k = accepted-turned start zs h in
       ap₂ (λ (d : Station) (n : ℕ × ℕ). runWith d (n .0) (n .1))
@@ -163,44 +164,44 @@ module _ (constants : List ℤ) (c ss su m : ℤ) (cs : Columns) where
       runWith d n o = record { months = n; opens = o; calendar = d .calendar; soil = d .soil; values = d .values; constants = d .constants }
 
   -- its running values are those of the list, by the rules of spells alone
-  pub run-values : (zs : List ℤ) → Accepted start (map anomaly zs) → given constants c ss su m cs zs .run .values ≡ stateOf nextValues fresh-values zs
+  pub run-values : (zs : List ℤ) → Accepted start (map anomaly zs) → given f zs .run .values ≡ stateOf nextValues fresh-values zs
   run-values zs h = ap (λ (d : Station). d .values) (station-all start (map anomaly zs) h) ∙ values-of station zs
 
   -- what the columns hold at a month's place is what the rules give of it
-  values-are : (zs : List ℤ) → Given constants c ss su m cs zs → (i : ℕ) → i < length zs → valuesAt constants c ss su m cs zs i ≡ valuesOf zs i
+  values-are : (zs : List ℤ) → Given f zs → (i : ℕ) → i < length zs → valuesAt f zs i ≡ valuesOf zs i
   values-are zs h i l =
-      values-at constants c ss su m cs (h .0) (map anomaly zs) (h .1) i (omega (arith, length-map zs anomaly))
+      values-at f (map anomaly zs) h i (omega (arith, length-map zs anomaly))
       ∙ ap (λ (u : List Row). getD u i noRow .x) (rows-same station zs)
 
-  shown-are : (zs : List ℤ) → Given constants c ss su m cs zs → (i : ℕ) → i < length zs → shownAt constants c ss su m cs zs i ≡ forward (rowsOfZ zs) i
+  shown-are : (zs : List ℤ) → Given f zs → (i : ℕ) → i < length zs → shownAt f zs i ≡ forward (rowsOfZ zs) i
   shown-are zs h i l =
-      let e = settled-is-hindsight constants c ss su m cs (h .0) (map anomaly zs) (h .1) i (omega (arith, length-map zs anomaly)) in
+      let e = settled-is-hindsight f (map anomaly zs) h i (omega (arith, length-map zs anomaly)) in
       ap₂ (λ (n : ℕ) (x : ℤ). shows n x) (e .1) (e .0) ∙ ap (λ (u : List Row). forward u i) (rows-same station zs)
 
-  values-turned : (zs : List ℤ) → Given constants c ss su m cs zs → (i : ℕ) → i < length zs → valuesAt constants c ss su m cs (turned zs) i ≡ mirrorX (valuesAt constants c ss su m cs zs i)
+  values-turned : (zs : List ℤ) → Given f zs → (i : ℕ) → i < length zs → valuesAt f (turned zs) i ≡ mirrorX (valuesAt f zs i)
   values-turned zs h i l =
-      values-are (turned zs) (h .0, accepted-turned start zs (h .1)) i (omega (arith, length-map zs negℤ))
+      values-are (turned zs) (accepted-turned start zs h) i (omega (arith, length-map zs negℤ))
       ∙ every-x fresh-values fresh-reached zs i
       ∙ ap mirrorX (sym (values-are zs h i l))
 
-  shown-turned : (zs : List ℤ) → Given constants c ss su m cs zs → (i : ℕ) → i < length zs → TurnsAbout (valuesAt constants c ss su m cs zs i) (shownAt constants c ss su m cs zs i) (shownAt constants c ss su m cs (turned zs) i)
+  shown-turned : (zs : List ℤ) → Given f zs → (i : ℕ) → i < length zs → TurnsAbout (valuesAt f zs i) (shownAt f zs i) (shownAt f (turned zs) i)
   shown-turned zs h i l =
-      rw (values-are zs h i l, shown-are zs h i l, shown-are (turned zs) (h .0, accepted-turned start zs (h .1)) i (omega (arith, length-map zs negℤ)))
+      rw (values-are zs h i l, shown-are zs h i l, shown-are (turned zs) (accepted-turned start zs h) i (omega (arith, length-map zs negℤ)))
       (every-turns fresh-values fresh-reached zs i)
 
   -- what the add of one Z more answers: where it is taken, what the rules give
   module _ (zs : List ℤ) (z : ℤ) (h : Accepted start (map anomaly zs)) where
     abbrev state : State
-    state = given constants c ss su m cs zs
+    state = given f zs
 
     abbrev mirrored : State
-    mirrored = given constants c ss su m cs (turned zs)
+    mirrored = given f (turned zs)
 
     abbrev plain : Added
-    plain = answer constants c ss su m cs zs z
+    plain = answer f zs z
 
     abbrev other : Added
-    other = answer constants c ss su m cs (turned zs) (negℤ z)
+    other = answer f (turned zs) (negℤ z)
 
     same-number : other .number ≡ plain .number
     same-number = number-turned start zs z h
@@ -233,11 +234,11 @@ module _ (constants : List ℤ) (c ss su m : ℤ) (cs : Columns) where
 
     -- where it is refused, all figures are 0 and the run is the one given
     refused-both : (plain .number ≡ 0 → ⊥) → AnswersTurned plain other
-    refused-both f =
+    refused-both n =
         let a = refused-add (state .run) (anomaly z) (state .columns) in
         let b = refused-add (mirrored .run) (anomaly (negℤ z)) (mirrored .columns) in
-        let p = a .1 (λ e. f (a .0 ∙ e)) in
-        let q = b .1 (λ e. f (sym same-number ∙ b .0 ∙ e)) in
+        let p = a .1 (λ e. n (a .0 ∙ e)) in
+        let q = b .1 (λ e. n (sym same-number ∙ b .0 ∙ e)) in
         record {
           number = same-number;
           percent = rw (p .3, q .3) refl;
@@ -252,24 +253,21 @@ module _ (constants : List ℤ) (c ss su m : ℤ) (cs : Columns) where
     answers-turned : AnswersTurned plain other
     answers-turned = ⊎-elim taken-both refused-both (zero-or (plain .number))
 
-  pub mirrors : Mirrors constants c ss su m cs
+  pub mirrors : Mirrors f
   mirrors =
       record {
-        accepted = λ zs h. (h .0, accepted-turned start zs (h .1));
+        accepted = accepted-turned start;
         values = values-turned;
         shown = shown-turned;
-        run = λ zs h. run-turned zs (h .1);
-        answers = λ zs z h. answers-turned zs z (h .1);
+        run = run-turned;
+        answers = answers-turned;
       }
 
 pub anywhere : Anywhere
 anywhere =
     record {
-      months = λ k c ss su m cs k' c' ss' su' m' cs' zs h h' i l. (
-        values-are k' c' ss' su' m' cs' zs h' i l ∙ sym (values-are k c ss su m cs zs h i l),
-        shown-are k' c' ss' su' m' cs' zs h' i l ∙ sym (shown-are k c ss su m cs zs h i l),
-      );
-      values = λ k c ss su m cs k' c' ss' su' m' cs' zs h h'. run-values k' c' ss' su' m' cs' zs (h' .1) ∙ sym (run-values k c ss su m cs zs (h .1));
+      months = λ f g zs h k i l. (values-are g zs k i l ∙ sym (values-are f zs h i l), shown-are g zs k i l ∙ sym (shown-are f zs h i l));
+      values = λ f g zs h k. run-values g zs k ∙ sym (run-values f zs h);
     }
 
 -- ---- the whole series is the forward rule over the same rows

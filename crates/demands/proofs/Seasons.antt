@@ -6,7 +6,6 @@ use mathlib.Core.Logic.{⊎-elim}
 use mathlib.Core.List.{List, [], _∷_, _++_}
 use Prim.Native.Nat.{ℕ, zero, suc, _+_, _-_, _≤_, _<_}
 use native.Mathlib.Omega.{arith}
-use borrow.Author.Tests.{eq-eqb}
 use lib.Dec.{eqb}
 use lib.IntN.{ℤ, pos}
 use lib.ListN.{length, getD, take, drop, length-append, length-drop}
@@ -15,24 +14,20 @@ use Rattle.spells.specs.Spells.{stepOf}
 use Rattle.hindsight.specs.Adding.{addMonth}
 use Rattle.hindsight.specs.Months.{rowFor}
 use Rattle.calendar.specs.Calendar.{ZeroK}
-use Rattle.starts.specs.Start.{startRefusal}
 use Rattle.runs.specs.declared.Run.{Run}
-use Rattle.starts.proofs.Theorems.{start-is-run}
-use Rattle.refusals.specs.Columns.{Columns, long, columnsFit}
-use Rattle.refusals.specs.Good.{Good}
+use Rattle.refusals.specs.Columns.{Columns, columnsFit}
 use Rattle.adding.specs.Taken.{Result, heldBy, taken}
-use Rattle.refusals.proofs.Refused.{columns-are, good-passes}
+use Rattle.refusals.proofs.Refused.{columns-are}
 use Rattle.run_laws.proofs.Keeps.{wrote-index, wrote-mark}
 use Rattle.season.specs.Season.{SeasonResult, seasonResult, nothing, joined, stopped, single, addEach, seasonRefusal, addSeason}
 use Rattle.season_month.specs.Listed.{listed}
 use Rattle.outline.specs.Refusals.{badLists, orElse, unlessRefused}
 use Rattle.outline.proofs.Refusals.{is-done, is-refused}
-use Rattle.demands.specs.Months.{Ask, water, asked, State, after, afterAll, Accepted, stationOf, zFor}
-use Rattle.demands.specs.Demands.{Honest, begun}
-use Rattle.demands.specs.Seasons.{monthsOf, settledBy, lastOf, leftOf, Singly, SameFrom, Seasons}
-use Rattle.demands.proofs.Took.{Took, took, good-kept, months-next, x1-next, x2-next, x3-next}
+use Rattle.demands.specs.Months.{Ask, water, asked, State, after, afterAll, Accepted, monthsOf, leftOf, stationOf, zFor}
+use Rattle.demands.specs.Seasons.{settledBy, lastOf, Singly, SameFrom, Seasons}
+use Rattle.demands.proofs.Took.{Took, took, months-next, x1-next, x2-next, x3-next}
 use Rattle.demands.proofs.Sequence.{after-append, accepted-append}
-use Rattle.demands.proofs.Honest.{zero-or, not-both, never-refused, good-always}
+use Rattle.demands.proofs.Given.{zero-or}
 use Rattle.demands.proofs.ZeroK.{unless-lists, not-done, run-refused}
 
 -- ---- what the months of two lists make of a season so far: n of them are added
@@ -146,11 +141,11 @@ module _ (r : Run) (ps pes : List ℤ) (cs : Columns) where
   abbrev first : SeasonResult
   first = seasonResult (nothing 0 r) cs
 
-  refused : (seasonRefusal r ps pes cs ≡ 0 → ⊥) → addSeason r ps pes cs ≡ seasonResult (nothing (seasonRefusal r ps pes cs) r) cs
+  pub refused : (seasonRefusal r ps pes cs ≡ 0 → ⊥) → addSeason r ps pes cs ≡ seasonResult (nothing (seasonRefusal r ps pes cs) r) cs
   unfolding addSeason
   refused h = is-refused (seasonRefusal r ps pes cs) (addEach first ps pes) _ h
 
-  begins : seasonRefusal r ps pes cs ≡ 0 → addSeason r ps pes cs ≡ addEach first ps pes
+  pub begins : seasonRefusal r ps pes cs ≡ 0 → addSeason r ps pes cs ≡ addEach first ps pes
   unfolding addSeason
   begins z = is-done (seasonRefusal r ps pes cs) (addEach first ps pes) _ z
 
@@ -176,7 +171,7 @@ module _ (r : Run) (ps pes : List ℤ) (cs : Columns) where
           }
 
   -- empty lists, and others: what stands when the call returns is what accepted months leave
-  here-more : Accepted here (take (addSeason r ps pes cs .answer .added) (monthsOf ps pes)) × (leftOf (addSeason r ps pes cs) ≡ afterAll here (take (addSeason r ps pes cs .answer .added) (monthsOf ps pes)))
+  pub here-more : Accepted here (take (addSeason r ps pes cs .answer .added) (monthsOf ps pes)) × (leftOf (addSeason r ps pes cs) ≡ afterAll here (take (addSeason r ps pes cs .answer .added) (monthsOf ps pes)))
   here-more =
       ⊎-elim
       (λ z. let g = singly z in (g .accepted, g .state))
@@ -281,34 +276,5 @@ more s asks ps pes h =
     let g = here-more (afterAll s asks .run) ps pes (afterAll s asks .columns) in
     (accepted-append s asks months h (g .0), g .1 ∙ sym (after-append s asks months))
 
--- ---- neither 1 nor 7
-addEach-honest : (ps pes : List ℤ) (t : SeasonResult) → t .answer .number ≡ 0 → Good (t .answer .run) (t .columns) → Honest (addEach t ps pes .answer .number)
-unfolding addEach
-addEach-honest [] pes t z g = not-both _ z
-addEach-honest (p ∷ ps) [] t z g = not-both _ z
-addEach-honest (p ∷ ps) (pe ∷ pes) t z g =
-    let months = monthsOf ps pes in
-    let u = addEach (next t p pe months) ps pes in
-    let k = alone t p pe months .answer .number in
-    let a = ask t p pe months in
-    ⊎-elim
-    (λ e. subst (λ (w : SeasonResult). Honest (w .answer .number)) (sym (is-done k u (stop t p pe months) e)) (addEach-honest ps pes (next t p pe months) refl (good-kept (t .answer .run) a (t .columns) (took (t .answer .run) (t .columns) a e))))
-    (λ h. subst (λ (w : SeasonResult). Honest (w .answer .number)) (sym (is-refused k u (stop t p pe months) h)) (never-refused (t .answer .run) a (t .columns) g))
-    (zero-or k)
-
-season-honest : (r : Run) (ps pes : List ℤ) (cs : Columns) → length ps ≡ length pes → Good r cs → Honest (addSeason r ps pes cs .answer .number)
-unfolding seasonRefusal
-season-honest r ps pes cs e g =
-    let z : seasonRefusal r ps pes cs ≡ 0 = rw (eq-eqb (length ps) (length pes) e) (good-passes r cs g) in
-    rw (begins r ps pes cs z) (addEach-honest ps pes (first r ps pes cs) refl g)
-
-honest : (constants : List ℤ) (c ss su m : ℤ) (cs : Columns) → startRefusal constants c ss su m ≡ 0 → columnsFit cs ≡ true → (asks : List Ask) (ps pes : List ℤ)
-    → length ps ≡ length pes
-    → Honest (addSeason (afterAll (begun constants c ss su m cs) asks .run) ps pes (afterAll (begun constants c ss su m cs) asks .columns) .answer .number)
-honest constants c ss su m cs started fit asks ps pes e =
-    let s = begun constants c ss su m cs in
-    let g = good-always s asks (record { fit = fit; run = start-is-run constants c ss su m started (long cs) }) in
-    season-honest (afterAll s asks .run) ps pes (afterAll s asks .columns) e g
-
 pub seasons : Seasons
-seasons = record { refused = refused; zero-k = zero-k; singly = singly; empty = empty; beyond = beyond; more = more; honest = honest }
+seasons = record { refused = refused; zero-k = zero-k; singly = singly; empty = empty; beyond = beyond; more = more }

@@ -32,9 +32,9 @@ use Rattle.adding.specs.Figures.{figuresOf, waterFigures}
 use Rattle.drought.specs.Calls.{addOutcomes, addWater, addInches, addZ}
 use Rattle.adding.specs.Taken.{Result, heldBy, soilAfter, taken, takenWater, takenZ, answered}
 use Rattle.adding.proofs.Readiness.{run-is}
-use Rattle.demands.specs.Months.{Ask, water, inches, anomaly, asked, State, after, afterAll, Accepted, stationOf, watered, zFor, soilFor, waterFor, stationNext, stationRow, noRow, rowsOfMonths}
+use Rattle.demands.specs.Months.{Ask, water, inches, anomaly, asked, State, after, afterAll, Accepted, stationOf, watered, zFor, soilFor, waterFor, stationNext, stationRow, noRow}
 use Rattle.demands.proofs.Took.{Took, took, settled-is, held-next}
-use Rattle.demands.specs.Demands.{numberOf, Answers, Balances}
+use Rattle.demands.specs.Demands.{Fresh, first, numberOf, Answers, valuesAt, Balances, rowsSoFar}
 use Rattle.demands.proofs.Rows.{rows-long, rows-append, getD-xs}
 use Rattle.demands.proofs.Sequence.{held-all, months-all, values-stay, after-append, accepted-append}
 
@@ -53,16 +53,19 @@ refused-add r (inches q) cs = unless-answers (waterRefusal r (month q .p .number
 refused-add r (anomaly z) cs = unless-answers (zRefusal r z cs) r cs (takenZ r z cs) refl
 
 -- a start answers with its number, and a refused one with a run of all zeros
-pub refused-start : (cs : List ℤ) (c ss su m : ℤ) → (startOf cs c ss su m .number ≡ startRefusal cs c ss su m) × ((startRefusal cs c ss su m ≡ 0 → ⊥) → startOf cs c ss su m .run ≡ zeroRun)
+pub refused-start : (cs : List ℤ) (c ss su m : ℤ)
+    → (startOf cs c ss su m .number ≡ startRefusal cs c ss su m)
+    × ((startRefusal cs c ss su m ≡ 0 → ⊥) → startOf cs c ss su m .run ≡ zeroRun)
+    × (startRefusal cs c ss su m ≡ 0 → startOf cs c ss su m .run ≡ freshRun cs c ss su m)
 unfolding startOf
 refused-start cs c ss su m = go (startRefusal cs c ss su m)
   where
     begun : ℕ → Started
     begun k = unlessRefused k (started 0 (freshRun cs c ss su m)) (started k zeroRun)
 
-    go : (k : ℕ) → (begun k .number ≡ k) × ((k ≡ 0 → ⊥) → begun k .run ≡ zeroRun)
-    go zero = (refl, λ f. absurd (f refl))
-    go (suc k) = (refl, λ f. refl)
+    go : (k : ℕ) → (begun k .number ≡ k) × ((k ≡ 0 → ⊥) → begun k .run ≡ zeroRun) × (k ≡ 0 → begun k .run ≡ freshRun cs c ss su m)
+    go zero = (refl, λ f. absurd (f refl), λ e. refl)
+    go (suc k) = (refl, λ f. refl, λ e. absurd (omega arith))
 
 -- ---- 2. "Water balance, expected precipitation, anomaly Z, the three running indexes and the chance of an ending equal Palmer's 1965 rules
 -- as our outline states and rounds them. In each month of water precipitation equals evapotranspiration plus runoff plus the gain in soil
@@ -94,12 +97,12 @@ pub inches-balance : (r : Run) (q : MonthInches) (cs : Columns) → asked r (inc
 inches-balance r q cs h = balanced r (inches q) cs (month q .p .water) (month q .pe .water) (took r cs (inches q) h) refl refl
 
 -- ---- 3. "Take any accepted months added one by one to a fresh run whose columns nobody else writes."
-module _ (constants : List ℤ) (c ss su m : ℤ) (cs : Columns) (started : startRefusal constants c ss su m ≡ 0) where
+module _ (f : Fresh) where
   abbrev fresh : State
-  fresh = record { run = freshRun constants c ss su m; columns = cs }
+  fresh = first f
 
   abbrev rows : List Ask → List Row
-  rows asks = rowsOfMonths (freshRun constants c ss su m) asks
+  rows asks = rowsSoFar f asks
 
   -- after the months the columns hold their rows, added one by one
   held : (asks : List Ask) → Accepted fresh asks → heldBy (afterAll fresh asks .run) (afterAll fresh asks .columns) ≡ addAll (rows asks)
@@ -125,7 +128,7 @@ module _ (constants : List ℤ) (c ss su m : ℤ) (cs : Columns) (started : star
       ∙ ap (λ (u : History). getD (u .mark) i 0) (held asks h)
 
   -- X1, X2 and X3 at a month's place are those that the rules give
-  pub values-at : (asks : List Ask) → Accepted fresh asks → (i : ℕ) → i < length asks → xAt (afterAll fresh asks .columns .x1) (afterAll fresh asks .columns .x2) (afterAll fresh asks .columns .x3) i ≡ getD (rows asks) i noRow .x
+  pub values-at : (asks : List Ask) → Accepted fresh asks → (i : ℕ) → i < length asks → valuesAt (afterAll fresh asks) i ≡ getD (rows asks) i noRow .x
   values-at asks h i l =
       let s = afterAll fresh asks in
       let n = months asks h in
@@ -149,7 +152,7 @@ module _ (constants : List ℤ) (c ss su m : ℤ) (cs : Columns) (started : star
   pub open-exactly-when : (asks : List Ask) → Accepted fresh asks → (i : ℕ) → i < length asks
       → (getD (afterAll fresh asks .columns .mark) i 0 ≡ 1) ↔ NoneFrom (rows asks) i
   open-exactly-when asks h i l =
-      let e = open-exactly (rows asks) i (omega (arith, rows-long stationNext stationRow (stationOf (freshRun constants c ss su m)) asks)) in
+      let e = open-exactly (rows asks) i (omega (arith, rows-long stationNext stationRow (stationOf (fresh .run)) asks)) in
       let k = mark-at asks h i l in
       ((λ p. e .0 (sym k ∙ p)), (λ f. k ∙ e .1 f))
 
@@ -161,9 +164,9 @@ module _ (constants : List ℤ) (c ss su m : ℤ) (cs : Columns) (started : star
   settled-stays-settled asks more h k i l e =
       let j : i < length (asks ++ more) = simp length-append (omega arith) in
       let all = accepted-append fresh asks more h k in
-      let f = settled-stays (rows asks) (rowsOf stationNext stationRow (stateAfter stationNext (stationOf (freshRun constants c ss su m)) asks) more) i (sym (mark-at asks h i l) ∙ e) in
-      let r = rows-append stationNext stationRow (stationOf (freshRun constants c ss su m)) asks more in
-      let a : addAll (rows (asks ++ more)) ≡ addTo (addAll (rows asks)) (rowsOf stationNext stationRow (stateAfter stationNext (stationOf (freshRun constants c ss su m)) asks) more) = rw r (add-append nothing-held (rows asks) _) in
+      let f = settled-stays (rows asks) (rowsOf stationNext stationRow (stateAfter stationNext (stationOf (fresh .run)) asks) more) i (sym (mark-at asks h i l) ∙ e) in
+      let r = rows-append stationNext stationRow (stationOf (fresh .run)) asks more in
+      let a : addAll (rows (asks ++ more)) ≡ addTo (addAll (rows asks)) (rowsOf stationNext stationRow (stateAfter stationNext (stationOf (fresh .run)) asks) more) = rw r (add-append nothing-held (rows asks) _) in
       rw (← after-append fresh asks more) (
         mark-at (asks ++ more) all i j ∙ ap (λ (u : History). getD (u .mark) i 0) a ∙ f .0,
         index-at (asks ++ more) all i j ∙ ap (λ (u : History). getD (u .index) i (pos 0)) a ∙ f .1 ∙ sym (index-at asks h i l),
@@ -171,10 +174,8 @@ module _ (constants : List ℤ) (c ss su m : ℤ) (cs : Columns) (started : star
 
   -- nor X1, X2, X3 of any earlier month, settled or open
   pub values-never-change : (asks more : List Ask) → Accepted fresh asks → Accepted (afterAll fresh asks) more → (i : ℕ) → i < length asks
-      → (getD (afterAll (afterAll fresh asks) more .columns .x1) i (pos 0) ≡ getD (afterAll fresh asks .columns .x1) i (pos 0))
-      × (getD (afterAll (afterAll fresh asks) more .columns .x2) i (pos 0) ≡ getD (afterAll fresh asks .columns .x2) i (pos 0))
-      × (getD (afterAll (afterAll fresh asks) more .columns .x3) i (pos 0) ≡ getD (afterAll fresh asks .columns .x3) i (pos 0))
-  values-never-change asks more h k i l = let n = months asks h in values-stay (afterAll fresh asks) more k i (omega arith)
+      → valuesAt (afterAll (afterAll fresh asks) more) i ≡ valuesAt (afterAll fresh asks) i
+  values-never-change asks more h k i l = let n = months asks h in let v = values-stay (afterAll fresh asks) more k i (omega arith) in rw (v .0, v .1, v .2)
 
   -- the run's open months are the last ones, and as many as are marked open
   pub open-are-last : (asks : List Ask) → Accepted fresh asks
@@ -185,7 +186,7 @@ module _ (constants : List ℤ) (c ss su m : ℤ) (cs : Columns) (started : star
       let o : afterAll fresh asks .run .opens ≡ addAll (rows asks) .opens = ap (λ (v : History). v .opens) u in
       ap (λ (k : ℕ). take k (afterAll fresh asks .columns .mark)) (sym n)
       ∙ ap (λ (v : History). v .mark) u
-      ∙ rw (o, ← rows-long stationNext stationRow (stationOf (freshRun constants c ss su m)) asks) (last-are-open (rows asks))
+      ∙ rw (o, ← rows-long stationNext stationRow (stationOf (fresh .run)) asks) (last-are-open (rows asks))
 
   pub opens-are-counted : (asks : List Ask) → Accepted fresh asks → afterAll fresh asks .run .opens ≡ count 1 (take (length asks) (afterAll fresh asks .columns .mark))
   opens-are-counted asks h =

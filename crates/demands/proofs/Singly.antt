@@ -15,19 +15,19 @@ use Rattle.hindsight.specs.Columns.{rowsOf}
 use Rattle.hindsight.specs.Months.{nextValues, rowOfZ, rowsOfZ}
 use Rattle.hindsight_laws.proofs.Adds.{series-is-adding}
 use Rattle.outline.specs.Numbers.{zFits}
-use Rattle.starts.specs.Start.{startRefusal, freshRun}
 use Rattle.runs.specs.declared.Run.{Run}
 use Rattle.outline.proofs.Tests.{first, second}
-use Rattle.starts.proofs.Theorems.{start-is-run}
 use Rattle.series.specs.Series.{allZFit, seriesRefusal, filled, wholeSeries}
 use Rattle.refusals.specs.Columns.{Columns, long, columnsFit}
 use Rattle.refusals.specs.Good.{Good}
 use Rattle.refusals.specs.Refusals.{runRefusal, roomRefusal, zRefusal}
 use Rattle.adding.specs.Taken.{heldBy}
 use Rattle.demands.specs.Months.{anomaly, asked, State, after, afterAll, Accepted, Station, stationOf, stationNext, stationRow}
+use Rattle.demands.specs.Demands.{Fresh, first as state-of}
 use Rattle.demands.proofs.Took.{took, good-kept, months-next}
 use Rattle.demands.proofs.Sequence.{held-all, months-all, long-after}
 use Rattle.demands.proofs.Shown.{refused-add}
+use Rattle.demands.proofs.Honest.{good-now}
 
 -- the rows of added Z are those of the whole series
 pub rows-same : (s : Station) (zs : List ℤ) → rowsOf stationNext stationRow s (map anomaly zs) ≡ rowsOf nextValues rowOfZ (s .values) zs
@@ -49,13 +49,13 @@ accepts-all s (z ∷ zs) g room f =
     let l = long-after (s .run) (s .columns) (anomaly z) t in
     (h, accepts-all (after s (anomaly z)) zs (good-kept (s .run) (anomaly z) (s .columns) t) (omega arith) (second (zFits z) (allZFit zs) f))
 
-module _ (constants : List ℤ) (c ss su m : ℤ) (cs : Columns) (started : startRefusal constants c ss su m ≡ 0) (zs : List ℤ) where
+module _ (f : Fresh) (zs : List ℤ) where
   abbrev begun : State
-  begun = record { run = freshRun constants c ss su m; columns = cs }
+  begun = state-of f
 
   -- where every Z is in its range and the columns have room, no single add refuses
-  pub singly-accepted : columnsFit cs ≡ true → length zs ≤ long cs → allZFit zs ≡ true → Accepted begun (map anomaly zs)
-  singly-accepted fit room f = accepts-all begun zs (record { fit = fit; run = start-is-run constants c ss su m started (long cs) }) (omega arith) f
+  pub singly-accepted : columnsFit (f .columns) ≡ true → length zs ≤ long (f .columns) → allZFit zs ≡ true → Accepted begun (map anomaly zs)
+  singly-accepted fit room h = accepts-all begun zs (good-now f fit []) (omega arith) h
 
   -- the whole-series call gives exactly what adding singly gives
   pub series-as-singly : (index : List ℤ) (mark : List ℕ) → Accepted begun (map anomaly zs) → seriesRefusal zs (length index) (length mark) ≡ 0
@@ -64,7 +64,7 @@ module _ (constants : List ℤ) (c ss su m : ℤ) (cs : Columns) (started : star
   series-as-singly index mark h none =
       let s = afterAll begun (map anomaly zs) in
       let n : s .run .months ≡ length zs = months-all begun (map anomaly zs) h ∙ zero-more (length (map anomaly zs)) ∙ length-map zs anomaly in
-      let u : heldBy (s .run) (s .columns) ≡ addAll (rowsOfZ zs) = held-all begun (map anomaly zs) h ∙ ap addAll (rows-same (stationOf (freshRun constants c ss su m)) zs) in
+      let u : heldBy (s .run) (s .columns) ≡ addAll (rowsOfZ zs) = held-all begun (map anomaly zs) h ∙ ap addAll (rows-same (stationOf (begun .run)) zs) in
       let a = series-is-adding (rowsOfZ zs) in
       ap (λ (k : ℕ). unlessRefused k (filled 0 (forwardIndexes (rowsOfZ zs)) (forwardMarks (rowsOfZ zs))) (filled k index mark)) none
       ∙ ap₂ (λ (i : List ℤ) (k : List ℕ). filled 0 i k) (a .0 ∙ sym (ap (λ (v : History). v .index) u)) (a .1 ∙ sym (ap (λ (v : History). v .mark) u))

@@ -25,6 +25,8 @@ use Rattle.hindsight.specs.Months.{nextValues}
 use Rattle.ranges.specs.Ranges.{limitOf, constantFits, constantsFitTo, calendarFits}
 use Rattle.calendar.specs.Calendar.{constantsAt, zeroKWithin, nextCalendar}
 use Rattle.starts.specs.Start.{ones, capacityFits, storagesFit, monthFits, startRefusal, runForZ}
+use Rattle.starts.proofs.Theorems.{for-z}
+use Rattle.starts.specs.declared.Started.{Started}
 use Rattle.runs.specs.Runs.{soilFits, sizesFit, signsFit, vFits, isRun}
 use Rattle.runs.specs.declared.Run.{Run}
 use Rattle.refusals.specs.Columns.{Columns, lengthsFit}
@@ -32,6 +34,8 @@ use Rattle.refusals.specs.Refusals.{runRefusal, roomRefusal, zRefusal}
 use Rattle.adding.specs.Taken.{taken}
 use Rattle.drought.specs.Calls.{addZ}
 use Rattle.demands.specs.Mirror.{turned, mirrorRun, Given, shownAt}
+use Rattle.demands.specs.Demands.{Fresh}
+use Rattle.demands.proofs.Shown.{refused-start}
 use Rattle.demands.proofs.Rejected.{minus, blank}
 
 -- the running values after a list of Z from a fresh run
@@ -64,11 +68,14 @@ under = holding (record { x1 = pos 0; x2 = minus 5000; x3 = minus 1000; v = pos 
 abbrev tie : List ℤ
 tie = pos 1500 ∷ minus 673 ∷ []
 
-abbrev GivenHere : List ℤ → Type 0
-GivenHere zs = Given ones (pos leastCapacity) (pos 0) (pos 0) (pos 1) (blank 2) zs
+z-started : startRefusal ones (pos leastCapacity) (pos 0) (pos 0) (pos 1) ≡ 0
+z-started = sym (refused-start ones (pos leastCapacity) (pos 0) (pos 0) (pos 1) .0) ∙ ap (λ (s : Started). s .number) for-z
+
+abbrev forZ : Fresh
+forZ = record { constants = ones; capacity = pos leastCapacity; surface = pos 0; underlying = pos 0; month = pos 1; columns = blank 2; started = z-started }
 
 abbrev second : List ℤ → Shown
-second zs = shownAt ones (pos leastCapacity) (pos 0) (pos 0) (pos 1) (blank 2) zs 1
+second zs = shownAt forZ zs 1
 
 -- Z -3,000 founds a drought, and 33 times -150 lets X3 creep to -499: no month ended it, and it is in force no more. Z -3,001 founds the next
 abbrev lapsing : List ℤ
@@ -83,7 +90,7 @@ record Worked : Type 0 where
   under-taken : addZ under (pos 1041) (blank 1) .answer .number ≡ 0
   under-percent : addZ under (pos 1041) (blank 1) .answer .figures .percent ≡ 100
   under-x2 : x2Of (under .values) (pos 1041) ≡ minus 4138
-  tied-given : GivenHere tie
+  tied-given : Given forZ tie
   tied-mark : second tie .mark ≡ 1
   tied-index : second tie .index ≡ minus 224
   tied-turned : second (turned tie) .index ≡ minus 224
@@ -100,7 +107,7 @@ worked =
       under-taken = refl;
       under-percent = refl;
       under-x2 = refl;
-      tied-given = (refl, (refl, (refl, tt)));
+      tied-given = (refl, (refl, tt));
       tied-mark = refl;
       tied-index = refl;
       tied-turned = refl;
@@ -144,13 +151,12 @@ any-run-ends-fails law =
 -- ---- "every provisional index": an open month's index turns about, whatever X1 and X2 are
 abbrev pub EveryProvisional : Type 0
 EveryProvisional =
-    (constants : List ℤ) (c ss su m : ℤ) (cs : Columns) (zs : List ℤ) → Given constants c ss su m cs zs → (i : ℕ) → i < length zs
-    → shownAt constants c ss su m cs zs i .mark ≡ 1
-    → shownAt constants c ss su m cs (turned zs) i .index ≡ negℤ (shownAt constants c ss su m cs zs i .index)
+    (f : Fresh) (zs : List ℤ) → Given f zs → (i : ℕ) → i < length zs → shownAt f zs i .mark ≡ 1
+    → shownAt f (turned zs) i .index ≡ negℤ (shownAt f zs i .index)
 
 pub every-provisional-fails : EveryProvisional → ⊥
 every-provisional-fails law =
-    let e = law ones (pos leastCapacity) (pos 0) (pos 0) (pos 1) (blank 2) tie (worked .tied-given) 1 (omega arith) (worked .tied-mark) in
+    let e = law forZ tie (worked .tied-given) 1 (omega arith) (worked .tied-mark) in
     not-own (sym (worked .tied-turned) ∙ e ∙ ap negℤ (worked .tied-index))
   where
     not-own : minus 224 ≡ negℤ (minus 224) → ⊥

@@ -1,5 +1,7 @@
--- The words in which the demands are said, the demands, the requests said in the same words (Seasons, Mirror), and the worked months.
+-- What must be believed: the words in which the demands are said (Months), which number each call gives and exactly when (Given), the demands,
+-- the requests said in the same words (Seasons, Mirror), and the worked months.
 pub mod Months
+pub mod Given
 pub mod Demands
 pub mod Seasons
 pub mod Mirror

@@ -17,14 +17,13 @@ use Rattle.spell_laws.specs.Mirror.{mirror}
 use Rattle.hindsight.specs.Rule.{X, Shown}
 use Rattle.hindsight.specs.Columns.{xAt}
 use Rattle.hindsight.specs.Months.{rowsOfZ}
-use Rattle.starts.specs.Start.{startRefusal}
 use Rattle.runs.specs.declared.Run.{Run}
 use Rattle.series.specs.Series.{wholeSeries}
 use Rattle.refusals.specs.Columns.{Columns, long, columnsFit}
 use Rattle.adding.specs.declared.Figures.{Figures}
 use Rattle.adding.specs.declared.Added.{Added}
 use Rattle.demands.specs.Months.{Ask, anomaly, asked, State, afterAll, Accepted, noRow}
-use Rattle.demands.specs.Demands.{begun}
+use Rattle.demands.specs.Demands.{Fresh, first, now}
 
 -- ---- the words
 
@@ -88,14 +87,14 @@ pub record AnswersTurned (a b : Added) : Type 0 where
   pub run : b .run ≡ mirrorRun (a .run)
 
 -- ---- a list of Z added one by one to a fresh run
-module _ (constants : List ℤ) (c ss su m : ℤ) (cs : Columns) where
+module _ (f : Fresh) where
   -- the run and the columns after them
   abbrev pub given : List ℤ → State
-  given zs = afterAll (begun constants c ss su m cs) (map anomaly zs)
+  given zs = now f (map anomaly zs)
 
-  -- "accepted Z": the start was not refused, and no Z was
+  -- "accepted Z"
   abbrev pub Given : List ℤ → Type 0
-  Given zs = (startRefusal constants c ss su m ≡ 0) × Accepted (begun constants c ss su m cs) (map anomaly zs)
+  Given zs = Accepted (first f) (map anomaly zs)
 
   -- what the add of one Z more answers
   abbrev pub answer : List ℤ → ℤ → Added
@@ -124,14 +123,14 @@ module _ (constants : List ℤ) (c ss su m : ℤ) (cs : Columns) where
 -- leaves the same months and the same running values
 pub record Anywhere : Type 0 where
   pub months :
-      (constants : List ℤ) (c ss su m : ℤ) (cs : Columns) (constants' : List ℤ) (c' ss' su' m' : ℤ) (cs' : Columns) (zs : List ℤ)
-      → Given constants c ss su m cs zs → Given constants' c' ss' su' m' cs' zs → (i : ℕ) → i < length zs
-      → (valuesAt constants' c' ss' su' m' cs' zs i ≡ valuesAt constants c ss su m cs zs i)
-      × (shownAt constants' c' ss' su' m' cs' zs i ≡ shownAt constants c ss su m cs zs i)
+      (f g : Fresh) (zs : List ℤ)
+      → Given f zs → Given g zs → (i : ℕ) → i < length zs
+      → (valuesAt g zs i ≡ valuesAt f zs i)
+      × (shownAt g zs i ≡ shownAt f zs i)
   pub values :
-      (constants : List ℤ) (c ss su m : ℤ) (cs : Columns) (constants' : List ℤ) (c' ss' su' m' : ℤ) (cs' : Columns) (zs : List ℤ)
-      → Given constants c ss su m cs zs → Given constants' c' ss' su' m' cs' zs
-      → given constants' c' ss' su' m' cs' zs .run .values ≡ given constants c ss su m cs zs .run .values
+      (f g : Fresh) (zs : List ℤ)
+      → Given f zs → Given g zs
+      → given g zs .run .values ≡ given f zs .run .values
 
 -- ---- the whole series, from lists that hold anything
 
@@ -160,36 +159,36 @@ reaching = negℤ (pos 6000) ∷ pos 3700 ∷ replicate 43 (negℤ (pos 180))
 abbrev pub ending : ℤ
 ending = negℤ (pos 94)
 
-module _ (constants : List ℤ) (c ss su m : ℤ) (cs : Columns) where
+module _ (f : Fresh) where
   -- the run after months of water or of Z, and what the add of one more answers
   abbrev before : List Ask → Run
-  before asks = afterAll (begun constants c ss su m cs) asks .run
+  before asks = now f asks .run
 
   abbrev next : List Ask → Ask → Added
-  next asks a = asked (before asks) a (afterAll (begun constants c ss su m cs) asks .columns) .answer
+  next asks a = asked (before asks) a (now f asks .columns) .answer
 
   pub record Ends : Type 0 where
     -- a drought was in force and the percent is 100: X2 of the month, before it may found a spell, is -550 or above. So it founds none, and
     -- neither X2 nor X3 that the month leaves is further down
     pub drought :
-        (asks : List Ask) (a : Ask) → Accepted (begun constants c ss su m cs) asks → next asks a .number ≡ 0
+        (asks : List Ask) (a : Ask) → Accepted (first f) asks → next asks a .number ≡ 0
         → before asks .values .x3 <ℤ negℤ (pos inForceBeyond) → next asks a .figures .percent ≡ 100
         → (negℤ (pos 550) ≤ℤ x2Of (before asks .values) (next asks a .figures .z))
         × (negℤ (pos 550) ≤ℤ next asks a .figures .x2)
         × (pos 0 ≤ℤ next asks a .figures .x3)
     -- "Wet spell: the mirror"
     pub wet :
-        (asks : List Ask) (a : Ask) → Accepted (begun constants c ss su m cs) asks → next asks a .number ≡ 0
+        (asks : List Ask) (a : Ask) → Accepted (first f) asks → next asks a .number ≡ 0
         → pos inForceBeyond <ℤ before asks .values .x3 → next asks a .figures .percent ≡ 100
         → (x1Of (before asks .values) (next asks a .figures .z) ≤ℤ pos 550)
         × (next asks a .figures .x1 ≤ℤ pos 550)
         × (next asks a .figures .x3 ≤ℤ pos 0)
     -- -550 is reached, on any columns that have the room
     pub reached :
-        startRefusal constants c ss su m ≡ 0 → columnsFit cs ≡ true → suc (length reaching) ≤ long cs
-        → let r = before (map anomaly reaching) in let f = next (map anomaly reaching) (anomaly ending) in
-        Accepted (begun constants c ss su m cs) (map anomaly reaching)
-        × (f .number ≡ 0)
+        columnsFit (f .columns) ≡ true → suc (length reaching) ≤ long (f .columns)
+        → let r = before (map anomaly reaching) in let n = next (map anomaly reaching) (anomaly ending) in
+        Accepted (first f) (map anomaly reaching)
+        × (n .number ≡ 0)
         × (r .values .x3 <ℤ negℤ (pos inForceBeyond))
-        × (f .figures .percent ≡ 100)
-        × (f .figures .x2 ≡ negℤ (pos 550))
+        × (n .figures .percent ≡ 100)
+        × (n .figures .x2 ≡ negℤ (pos 550))

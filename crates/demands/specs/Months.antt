@@ -1,5 +1,5 @@
--- Months added one by one: what may be added, the state that the calls carry from one to the next, and the rows that the rules of a month
--- give, which know nothing of columns. The theorems of demand 3 speak in these words. Assumes nothing.
+-- Months added one by one: what may be added, the state that the calls carry from one to the next, and the figures and rows that the rules of
+-- a month give, which know nothing of runs or columns. The statements of this crate speak in these words. Assumes nothing.
 use Prim.Native.Nat.{ℕ}
 use mathlib.Core.Path.{_≡_}
 use mathlib.Core.List.{List, [], _∷_}
@@ -14,15 +14,18 @@ use Rattle.spells.specs.Spells.{stepOf}
 use Rattle.spells.specs.declared.Running.{Running}
 use Rattle.spells.specs.declared.Decision.the-variants.{Nothing}
 use Rattle.hindsight.specs.Rule.{Row}
-use Rattle.hindsight.specs.Columns.{rowsOf}
+use Rattle.hindsight.specs.Columns.{rowsOf, stateOf as stateAfter}
 use Rattle.hindsight.specs.Months.{rowFor}
 use Rattle.calendar.specs.Calendar.{constantsAt, nextCalendar}
 use Rattle.runs.specs.declared.Run.{Run}
 use Rattle.refusals.specs.Columns.{Columns}
-use Rattle.adding.specs.Figures.{waterFigures, noWater}
+use Rattle.adding.specs.Figures.{waterFigures, noWater, figuresOf}
 use Rattle.drought.specs.Calls.{addWater, addInches, addZ}
 use Rattle.adding.specs.Taken.{Result, soilAfter}
+use Rattle.adding.specs.declared.Figures.{Figures}
 use Rattle.adding.specs.declared.WaterFigures.{WaterFigures}
+use Rattle.season.specs.Season.{SeasonResult}
+use Rattle.season_month.specs.Listed.{listed}
 
 -- a month that is added: water by two readings, water by two binary32 inches, or a Z
 pub data Ask : Type 0 where
@@ -57,7 +60,22 @@ abbrev pub Accepted : State → List Ask → Type 0
 Accepted s [] = Unit {0}
 Accepted s (a ∷ later) = (asked (s .run) a (s .columns) .answer .number ≡ 0) × Accepted (after s a) later
 
--- ---- the rows of months, by the rules of water and of spells alone
+-- what the adds answer, month after month
+abbrev pub figuresAnswered : State → List Ask → List Figures
+figuresAnswered s [] = []
+figuresAnswered s (a ∷ later) = asked (s .run) a (s .columns) .answer .figures ∷ figuresAnswered (after s a) later
+
+-- the months of a season's two lists
+abbrev pub monthsOf : List ℤ → List ℤ → List Ask
+monthsOf [] pes = []
+monthsOf (p ∷ ps) [] = []
+monthsOf (p ∷ ps) (pe ∷ pes) = water (listed p) (listed pe) ∷ monthsOf ps pes
+
+-- where a season stands when its call returns
+abbrev pub leftOf : SeasonResult → State
+leftOf t = record { run = t .answer .run; columns = t .columns }
+
+-- ---- the figures and the rows of months, by the rules of water and of spells alone
 pub record Station : Type 0 where
   pub soil : Soil
   pub calendar : ℕ
@@ -95,6 +113,20 @@ stationNext s a =
       values = stepOf (s .values) (zFor s a) .after;
     }
 
+-- the station after months
+abbrev pub stationAfter : Station → List Ask → Station
+stationAfter s asks = stateAfter stationNext s asks
+
+-- the month's figures
+abbrev pub figuresFor : Station → Ask → Figures
+figuresFor s a = figuresOf (waterFor s a) (zFor s a) (stepOf (s .values) (zFor s a))
+
+-- those of months, one after another
+abbrev pub figuresOfMonths : Station → List Ask → List Figures
+figuresOfMonths s [] = []
+figuresOfMonths s (a ∷ later) = figuresFor s a ∷ figuresOfMonths (stationNext s a) later
+
+-- the month's row
 abbrev pub stationRow : Station → Ask → Row
 stationRow s a = rowFor (stepOf (s .values) (zFor s a))
 

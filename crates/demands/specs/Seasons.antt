@@ -1,6 +1,6 @@
 -- A SEASON IN ONE CALL (document 02, E2), in the words of the demands: what it leaves is what the same months leave that are added one by one,
--- up to the first that a single add refuses. So each theorem of the three demands holds of its months as it stands. `seasons` of
--- proofs/Seasons.antt proves it. Assumes nothing.
+-- up to the first that a single add refuses. So each theorem of the three demands holds of its months as it stands. Which numbers it gives,
+-- and exactly when, is in `Demand1`. `seasons` of proofs/Seasons.antt proves it. Assumes nothing.
 use mathlib.Core.Path.{_≡_}
 use mathlib.Core.Bool.{true, _&&_, cond}
 use mathlib.Core.List.{List, [], _∷_, _++_}
@@ -10,21 +10,12 @@ use lib.IntN.{ℤ, pos}
 use lib.ListN.{length, getD, take}
 use Rattle.outline.specs.Refusals.{badLists, notARun}
 use Rattle.calendar.specs.Calendar.{ZeroK}
-use Rattle.starts.specs.Start.{startRefusal}
 use Rattle.runs.specs.declared.Run.{Run}
 use Rattle.refusals.specs.Columns.{Columns, columnsFit}
 use Rattle.adding.specs.Figures.{noFigures}
 use Rattle.adding.specs.declared.Figures.{Figures}
 use Rattle.season.specs.Season.{SeasonResult, seasonResult, nothing, seasonRefusal, addSeason}
-use Rattle.season_month.specs.Listed.{listed}
-use Rattle.demands.specs.Months.{Ask, water, asked, State, after, afterAll, Accepted}
-use Rattle.demands.specs.Demands.{Honest, begun}
-
--- the months of two lists
-abbrev pub monthsOf : List ℤ → List ℤ → List Ask
-monthsOf [] pes = []
-monthsOf (p ∷ ps) [] = []
-monthsOf (p ∷ ps) (pe ∷ pes) = water (listed p) (listed pe) ∷ monthsOf ps pes
+use Rattle.demands.specs.Months.{Ask, asked, State, after, afterAll, Accepted, monthsOf, leftOf}
 
 -- what months added one by one settle, all together
 abbrev pub settledBy : State → List Ask → ℕ
@@ -35,10 +26,6 @@ settledBy s (a ∷ later) = asked (s .run) a (s .columns) .answer .settled + set
 abbrev pub lastOf : Figures → State → List Ask → Figures
 lastOf f s [] = f
 lastOf f s (a ∷ later) = lastOf (asked (s .run) a (s .columns) .answer .figures) (after s a) later
-
--- where a season stands when its call returns
-abbrev pub leftOf : SeasonResult → State
-leftOf t = record { run = t .answer .run; columns = t .columns }
 
 -- what the months before the refused one leave, added one by one
 pub record Singly (s : State) (months : List Ask) (t : SeasonResult) : Type 0 where
@@ -82,8 +69,3 @@ pub record Seasons : Type 0 where
       (s : State) (asks : List Ask) (ps pes : List ℤ) → Accepted s asks
       → let t = addSeason (afterAll s asks .run) ps pes (afterAll s asks .columns) in
       Accepted s (asks ++ take (t .answer .added) (monthsOf ps pes)) × (leftOf t ≡ afterAll s (asks ++ take (t .answer .added) (monthsOf ps pes)))
-  -- on columns that nobody else writes no season of two lists of one length is refused 1 or 7
-  pub honest :
-      (constants : List ℤ) (c ss su m : ℤ) (cs : Columns) → startRefusal constants c ss su m ≡ 0 → columnsFit cs ≡ true → (asks : List Ask) (ps pes : List ℤ)
-      → length ps ≡ length pes
-      → Honest (addSeason (afterAll (begun constants c ss su m cs) asks .run) ps pes (afterAll (begun constants c ss su m cs) asks .columns) .answer .number)
