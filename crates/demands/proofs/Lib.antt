@@ -19,5 +19,6 @@ pub mod WorkedMonths
 pub mod Seasons
 pub mod SeasonGiven
 pub mod Rejected
+pub mod Refused
 pub mod SeasonRejected
 pub mod Tempting

@@ -1,13 +1,11 @@
 -- WRONG PROGRAMS, and that none keeps the promise of its call. A program is any function from what is handed in to what it leaves, and it keeps
 -- a promise where it gives what the promise's definition gives, for every input. Each theorem takes a program that keeps its promise and is
 -- wrong in the way that the theorem names, and comes to a contradiction: on months that are worked out here, by computation, the definition
--- gives something else. Below them stand the refusals of the adds and of a row, one by one in their order; those of a start and of the whole
--- series stand in starts (proofs/StartLaws.antt) and in series (proofs/SeriesLaws.antt). Assumes nothing.
+-- gives something else. Refusals one by one stand in Refused.antt. Assumes nothing.
 use mathlib.Core.Path.{_≡_, refl, sym, ap, _∙_}
-use mathlib.Core.Bool.{true, false}
-use Prim.Native.Nat.{ℕ, _≤_, _<_}
+use mathlib.Core.Bool.{true}
+use Prim.Native.Nat.{ℕ, _≤_}
 use native.Mathlib.Omega.{arith}
-use borrow.Author.Tests.{lt-ltb, le-ltb}
 use lib.IntN.{ℤ, pos, negℤ, natAbs}
 use lib.ListN.{getD, replicate}
 use Rattle.exact.specs.Nearest.{nearest, nearestℕ}
@@ -30,7 +28,6 @@ use Rattle.drought.specs.Calls.{addOutcomes, addWater, addZ, rowOfRun}
 use Rattle.adding.specs.Taken.{Result, taken}
 use Rattle.adding.specs.declared.Figures.{Figures}
 use Rattle.drought.specs.declared.Shown.{Shown}
-use Rattle.outline.proofs.Refusals.{or-first}
 
 -- ---- the months that tell
 abbrev pub minus : ℕ → ℤ
@@ -229,71 +226,3 @@ module _ (f : Run → ℕ → Columns → Shown) (keeps : (r : Run) (i : ℕ) (c
       let a = rw (keeps weightless 0 (blank 1)) at (h weightless 0 (blank 1)) in
       let n = sym (worked .no-run) ∙ a (worked .one-fits) (omega arith) in
       omega arith
-
--- ---- EACH REFUSAL, given exactly when: the tests before it passed, and its own did not. Where the columns do not fit it is 1
-module _ (r : Run) (cs : Columns) where
-  -- at an add of Z: 1, 7, 12, 10
-  module _ (z : ℤ) where
-    pub z-refused-1 : columnsFit cs ≡ false → zRefusal r z cs ≡ 1
-    unfolding zRefusal runRefusal
-    z-refused-1 f = rw f
-
-    pub z-refused-7 : columnsFit cs ≡ true → isRun (long cs) r ≡ false → zRefusal r z cs ≡ 7
-    unfolding zRefusal runRefusal
-    z-refused-7 f h = rw (f, h)
-
-    pub z-refused-12 : columnsFit cs ≡ true → isRun (long cs) r ≡ true → zFits z ≡ false → zRefusal r z cs ≡ 12
-    unfolding zRefusal runRefusal
-    z-refused-12 f h k = rw (f, h, k)
-
-    pub z-refused-10 : columnsFit cs ≡ true → isRun (long cs) r ≡ true → zFits z ≡ true → r .months ≡ long cs → zRefusal r z cs ≡ 10
-    unfolding zRefusal runRefusal roomRefusal
-    z-refused-10 f h k e = rw (f, h, k, le-ltb (r .months) (long cs) (omega arith))
-
-    pub z-not-refused : columnsFit cs ≡ true → isRun (long cs) r ≡ true → zFits z ≡ true → r .months < long cs → zRefusal r z cs ≡ 0
-    unfolding zRefusal runRefusal roomRefusal
-    z-not-refused f h k l = rw (f, h, k, lt-ltb (r .months) (long cs) l)
-
-  -- at an add of water: 1, 7, precipitation's, PE's, 10, where p and pe are what the two readings answer
-  module _ (p pe : ℕ) where
-    pub water-refused-1 : columnsFit cs ≡ false → waterRefusal r p pe cs ≡ 1
-    unfolding waterRefusal runRefusal
-    water-refused-1 f = rw f
-
-    pub water-refused-7 : columnsFit cs ≡ true → isRun (long cs) r ≡ false → waterRefusal r p pe cs ≡ 7
-    unfolding waterRefusal runRefusal
-    water-refused-7 f h = rw (f, h)
-
-    pub water-refused-p : columnsFit cs ≡ true → isRun (long cs) r ≡ true → (p ≡ 0 → ⊥) → waterRefusal r p pe cs ≡ p
-    unfolding waterRefusal runRefusal
-    water-refused-p f h k = rw (f, h) (or-first p _ k)
-
-    pub water-refused-pe : columnsFit cs ≡ true → isRun (long cs) r ≡ true → p ≡ 0 → (pe ≡ 0 → ⊥) → waterRefusal r p pe cs ≡ pe
-    unfolding waterRefusal runRefusal
-    water-refused-pe f h e k = rw (f, h, e) (or-first pe _ k)
-
-    pub water-refused-10 : columnsFit cs ≡ true → isRun (long cs) r ≡ true → p ≡ 0 → pe ≡ 0 → r .months ≡ long cs → waterRefusal r p pe cs ≡ 10
-    unfolding waterRefusal runRefusal roomRefusal
-    water-refused-10 f h a b e = rw (f, h, a, b, le-ltb (r .months) (long cs) (omega arith))
-
-    pub water-not-refused : columnsFit cs ≡ true → isRun (long cs) r ≡ true → p ≡ 0 → pe ≡ 0 → r .months < long cs → waterRefusal r p pe cs ≡ 0
-    unfolding waterRefusal runRefusal roomRefusal
-    water-not-refused f h a b l = rw (f, h, a, b, lt-ltb (r .months) (long cs) l)
-
-  -- at a row: 1, 7, 11
-  module _ (i : ℕ) where
-    pub row-refused-1 : columnsFit cs ≡ false → rowRefusal r i cs ≡ 1
-    unfolding rowRefusal runRefusal
-    row-refused-1 f = rw f
-
-    pub row-refused-7 : columnsFit cs ≡ true → isRun (long cs) r ≡ false → rowRefusal r i cs ≡ 7
-    unfolding rowRefusal runRefusal
-    row-refused-7 f h = rw (f, h)
-
-    pub row-refused-11 : columnsFit cs ≡ true → isRun (long cs) r ≡ true → r .months ≤ i → rowRefusal r i cs ≡ 11
-    unfolding rowRefusal runRefusal
-    row-refused-11 f h l = rw (f, h, le-ltb i (r .months) l)
-
-    pub row-not-refused : columnsFit cs ≡ true → isRun (long cs) r ≡ true → i < r .months → rowRefusal r i cs ≡ 0
-    unfolding rowRefusal runRefusal
-    row-not-refused f h l = rw (f, h, lt-ltb i (r .months) l)
