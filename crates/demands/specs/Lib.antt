@@ -1,8 +1,9 @@
 -- What must be believed: the words in which the demands are said (Months), which number each call gives and exactly when (Given), the demands,
--- the requests said in the same words (Seasons, Mirror), and the worked months.
+-- the programs that they reject (Rejected), the requests said in the same words (Seasons, Mirror), and the worked months.
 pub mod Months
 pub mod Given
 pub mod Demands
+pub mod Rejected
 pub mod Seasons
 pub mod Mirror
 pub mod Worked
