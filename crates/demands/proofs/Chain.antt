@@ -2,10 +2,10 @@
 -- one with each month. And the settled count of an add is that of the marks that it writes as 2, on any columns. Assumes nothing.
 use mathlib.Core.Path.{_≡_, refl, sym, ap, ap₂, _∙_}
 use mathlib.Core.List.{List, [], _∷_, _++_, append-assoc}
-use Prim.Native.Nat.{ℕ, zero, suc, _+_, _-_, _%_, _≤_, _<_}
+use Prim.Native.Nat.{ℕ, zero, suc, _+_, _-_, _≤_, _<_}
 use native.Mathlib.Omega.{arith}
 use lib.IntN.{natAbs}
-use lib.ListN.{length, take, drop, set, replicate}
+use lib.ListN.{length, take, drop, replicate}
 use lib.Seq.{take-set-le, take-suc-set, take-take}
 use Rattle.outline.specs.Numbers.{lastMonth}
 use Rattle.spells.specs.declared.Decision.{Decision}
@@ -24,7 +24,7 @@ use Rattle.adding.proofs.Readiness.{run-is}
 use Rattle.starts.proofs.Theorems.{fresh-fits}
 use Rattle.demands.specs.Months.{Ask, asked, State, after, Accepted, figuresAnswered, Station, stationOf, stationNext, stationAfter, figuresOfMonths, stationRow}
 use Rattle.demands.specs.Demands.{Fresh, first, now, calendarAfter, marksWith}
-use Rattle.demands.proofs.Took.{Took, took, station-next, settled-is}
+use Rattle.demands.proofs.Took.{took, station-next, settled-is}
 use Rattle.demands.proofs.Sequence.{station-all}
 use Rattle.demands.proofs.Shown.{figures-are}
 

@@ -19,6 +19,5 @@ pub mod WorkedMonths
 pub mod Seasons
 pub mod SeasonGiven
 pub mod Rejected
-pub mod Refused
 pub mod SeasonRejected
 pub mod Tempting

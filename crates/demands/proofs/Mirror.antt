@@ -29,7 +29,6 @@ use Rattle.hindsight_laws.specs.Counts.{count}
 use Rattle.hindsight_laws.proofs.Hindsight.{opens-counts}
 use Rattle.hindsight_laws.proofs.Adds.{series-is-adding}
 use Rattle.calendar.specs.Calendar.{nextCalendar}
-use Rattle.starts.specs.Start.{freshRun}
 use Rattle.runs.specs.declared.Run.{Run}
 use Rattle.series.specs.Series.{allZFit, seriesRefusal, Filled, filled, wholeSeries}
 use Rattle.refusals.specs.Columns.{Columns, long}

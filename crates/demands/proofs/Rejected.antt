@@ -35,6 +35,7 @@ use Rattle.adding.specs.declared.Figures.{Figures}
 use Rattle.drought.specs.Calls.{addOutcomes, addWater, addInches, addZ, rowOfRun}
 use Rattle.drought.specs.declared.Shown.{Shown}
 use Rattle.demands.specs.Months.{Ask, inches, anomaly, asked}
+use Rattle.demands.specs.Demands.{Fresh}
 use Rattle.demands.specs.Rejected.{Adds, Keeps, readings, next, Rejects, RoomFirst, PlaceFirst}
 
 -- ---- what the months are added to
@@ -54,9 +55,12 @@ plain (suc n) = pos 10000 ∷ pos 0 ∷ pos 0 ∷ pos 0 ∷ pos 10000 ∷ plain 
 abbrev begun : Run
 begun = freshRun (plain 12) (pos 6000) (pos 0) (pos 0) (pos 1)
 
-started : startRefusal (plain 12) (pos 6000) (pos 0) (pos 0) (pos 1) ≡ 0
+is-started : startRefusal (plain 12) (pos 6000) (pos 0) (pos 0) (pos 1) ≡ 0
 unfolding limitOf constantFits constantsFitTo constantsAt zeroKWithin surfaceHolds underlyingHolds capacityFits storagesFit monthFits startRefusal
-started = refl
+is-started = refl
+
+abbrev station : Fresh
+station = record { constants = plain 12; capacity = pos 6000; surface = pos 0; underlying = pos 0; month = pos 1; columns = blank 3; started = is-started }
 
 -- ---- what a month tells, in size: the settled count and the index that are answered; then what the columns hold at a place
 record Seen : Type 0 where
@@ -172,7 +176,7 @@ module _ {A : Type 0} (ask : A → Ask) where
           mark-untouched = λ h. let a = ap (λ (l : List ℕ). getD l 0 0) (h begun (t .dry) (blank 3) (t .dry-shows .number)) in omega arith;
           first-month-repeated = λ h. other-figures (h begun (t .dry) (blank 3) (t .dry-shows .number) (t .drier-shows .number));
           figures-repeated = λ h.
-              other-figures (h (plain 12) (pos 6000) (pos 0) (pos 0) (pos 1) (blank 3) (t .dry) (t .dry ∷ []) started (t .dry-shows .number) (t .drier-shows .number, tt));
+              other-figures (h station (t .dry) (t .dry ∷ []) (t .dry-shows .number) (t .drier-shows .number, tt));
           marks-stay-open = λ h. let a = h _ (t .steady) _ (t .steady-shows .number) 1 (t .eased-shows .mark) in omega arith;
           made-up-count = λ k h.
               let a = h begun (t .dry) (blank 3) (t .dry-shows .number) in

@@ -3,12 +3,9 @@
 -- comes to a contradiction on months that are worked out here. Assumes nothing.
 use mathlib.Core.Path.{_≡_, refl, sym, ap, _∙_}
 use mathlib.Core.List.{List, [], _∷_}
-use mathlib.Core.Bool.{Bool, true, false, cond}
 use native.Mathlib.Omega.{arith}
 use lib.IntN.{ℤ, pos, negsuc}
-use lib.Dec.{eqb}
 use lib.ListN.{length}
-use borrow.Author.Tests.{eq-eqb, ne-eqb}
 use Rattle.exact.specs.Nearest.{nearest, nearestℕ}
 use Rattle.exact.specs.Next.{nextOf}
 use Rattle.door.specs.Readings.{reading, whole}
@@ -23,9 +20,8 @@ use Rattle.runs.specs.Runs.{soilFits, sizesFit, signsFit, vFits, isRun}
 use Rattle.outline.specs.Numbers.{lengthFits, zFits}
 use Rattle.starts.specs.Start.{freshRun, ones}
 use Rattle.runs.specs.declared.Run.{Run}
-use Rattle.refusals.specs.Columns.{Columns, long, lengthsFit, columnsFit}
+use Rattle.refusals.specs.Columns.{Columns, lengthsFit}
 use Rattle.refusals.specs.Refusals.{runRefusal, roomRefusal, waterRefusal}
-use Rattle.outline.specs.Refusals.{badLists, orElse}
 use Rattle.adding.specs.Figures.{noFigures}
 use Rattle.drought.specs.Calls.{addOutcomes, addWater}
 use Rattle.adding.specs.Taken.{taken, takenWater}
@@ -139,25 +135,3 @@ module _ (f : Run → List ℤ → List ℤ → Columns → SeasonResult) (keeps
       let a = rw (is-two, is-one, is-last) at (h begun (pos 1) (pos 2) (pos 0) (pos 0) (blank 3)) in
       let e = sym (worked .two-settled) ∙ a (worked .two-number) ∙ worked .last-settled in
       omega arith
-
--- ---- EACH REFUSAL of the call before its first month, given exactly when
-module _ (r : Run) (ps pes : List ℤ) (cs : Columns) where
-  pub season-refused-1 : (length ps ≡ length pes → ⊥) → seasonRefusal r ps pes cs ≡ 1
-  unfolding seasonRefusal runRefusal
-  season-refused-1 h = rw (ne-eqb (length ps) (length pes) h)
-
-  pub season-refused-1-columns : columnsFit cs ≡ false → seasonRefusal r ps pes cs ≡ 1
-  unfolding seasonRefusal runRefusal
-  season-refused-1-columns h = rw h (go (eqb (length ps) (length pes)))
-    where
-      go : (t : Bool) → orElse (cond t 0 badLists) badLists ≡ 1
-      go true = refl
-      go false = refl
-
-  pub season-refused-7 : length ps ≡ length pes → columnsFit cs ≡ true → isRun (long cs) r ≡ false → seasonRefusal r ps pes cs ≡ 7
-  unfolding seasonRefusal runRefusal
-  season-refused-7 e h k = rw (eq-eqb (length ps) (length pes) e, h, k)
-
-  pub season-not-refused : length ps ≡ length pes → columnsFit cs ≡ true → isRun (long cs) r ≡ true → seasonRefusal r ps pes cs ≡ 0
-  unfolding seasonRefusal runRefusal
-  season-not-refused e h k = rw (eq-eqb (length ps) (length pes) e, h, k)

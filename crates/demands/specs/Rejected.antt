@@ -12,13 +12,13 @@ use lib.IntN.{ℤ, pos}
 use lib.ListN.{getD}
 use Rattle.outline.specs.Refusals.{full, noSuchRow}
 use Rattle.door.specs.declared.Reading.{Reading}
-use Rattle.starts.specs.Start.{startRefusal, freshRun}
 use Rattle.runs.specs.Runs.{isRun}
 use Rattle.runs.specs.declared.Run.{Run}
 use Rattle.refusals.specs.Columns.{Columns, long, columnsFit}
 use Rattle.adding.specs.Taken.{Result}
 use Rattle.drought.specs.declared.Shown.{Shown}
 use Rattle.demands.specs.Months.{Ask, water, asked}
+use Rattle.demands.specs.Demands.{Fresh, first}
 
 -- ---- the words
 
@@ -71,12 +71,12 @@ pub record Rejects {A : Type 0} (f : Adds A) : Type 0 where
   pub first-month-repeated : EachMonth f (λ r a cs b. next f b a .answer .number ≡ 0 → next f b a .answer .figures ≡ b .answer .figures) → ⊥
   -- and "(2 over sequences)": on every run that a start gives the last of any accepted months has the first one's figures
   pub figures-repeated :
-      ((constants : List ℤ) (c ss su m : ℤ) (cs : Columns) (a : A) (later : List A) → startRefusal constants c ss su m ≡ 0
-      → let b = f (freshRun constants c ss su m) a cs in b .answer .number ≡ 0 → AllTaken f b later → last f b later .answer .figures ≡ b .answer .figures)
+      ((s : Fresh) (a : A) (later : List A)
+      → let b = f (first s .run) a (s .columns) in b .answer .number ≡ 0 → AllTaken f b later → last f b later .answer .figures ≡ b .answer .figures)
       → ⊥
   -- "marks that stay open for good (3)"
   pub marks-stay-open : EachMonth f (λ r a cs b. (i : ℕ) → getD (cs .mark) i 0 ≡ 1 → getD (b .columns .mark) i 0 ≡ 1) → ⊥
-  -- "a made-up settled count (it equals the marks the call writes as 2)", which is `Demand3.settled`: one and the same for every month,
+  -- "a made-up settled count (it equals the marks the call writes as 2)", which is `Demand3.writes`: one and the same for every month,
   pub made-up-count : (k : ℕ) → EachMonth f (λ r a cs b. b .answer .settled ≡ k) → ⊥
   -- or of the call's own month alone
   pub own-month-counted : EachMonth f (λ r a cs b. b .answer .settled ≤ 1) → ⊥

@@ -2,7 +2,7 @@
 -- up to the first that a single add refuses. So each theorem of the three demands holds of its months as it stands. Which numbers it gives,
 -- and exactly when, is in `Demand1`. `seasons` of proofs/Seasons.antt proves it. Assumes nothing.
 use mathlib.Core.Path.{_≡_}
-use mathlib.Core.Bool.{true, _&&_, cond}
+use mathlib.Core.Bool.{_&&_, cond}
 use mathlib.Core.List.{List, [], _∷_, _++_}
 use Prim.Native.Nat.{ℕ, _+_, _≤_}
 use lib.Dec.{eqb}
