@@ -9,8 +9,9 @@ use Rattle.series.specs.Series.{seriesRefusal, wholeSeries}
 use Rattle.series.proofs.SeriesLaws.{number-of, refused-writes-nothing}
 use Rattle.demands.specs.Demands.{Demand1, Demand2, Demand3}
 use Rattle.demands.proofs.Shown.{refused-add, refused-start, figures-are, layers-hold, water-balances, inches-balance, values-at, settled-is-hindsight, open-exactly-when, settled-stays-settled, values-never-change, open-are-last, opens-are-counted, settled-are-counted}
-use Rattle.demands.proofs.Given.{no-water, readings-exactly, adds-exactly, row-refused, rows-exactly, series-exactly}
-use Rattle.demands.proofs.Chain.{chain, kept, calendar, writes}
+use Rattle.demands.proofs.Given.{no-water, readings-exactly, adds-exactly, row-shows, rows-exactly, series-exactly}
+use Rattle.demands.proofs.Chain.{chain, kept, calendar}
+use Rattle.demands.proofs.Writes.{writes}
 use Rattle.demands.proofs.Soils.{z-given, soil-started, soil-always, layers-exist}
 use Rattle.demands.proofs.Honest.{never-refused-7, rows-honest}
 use Rattle.demands.proofs.ZeroK.{starts-exactly, zero-k, nothing-counts, counts}
@@ -39,7 +40,7 @@ demand-1 =
       seasons = here-more;
       seasons-refused = seasons-refused;
       seasons-exactly = seasons-exactly;
-      rows = row-refused;
+      rows = row-shows;
       rows-exactly = rows-exactly;
       series = refused-series;
       series-exactly = series-exactly;

@@ -13,7 +13,7 @@ use lib.ListN.{length}
 use Rattle.outline.specs.Numbers.{mostZ, zFits}
 use Rattle.outline.specs.Refusals.{badLists, notARun, missing, notAcceptable, full, noSuchRow, badZ, orElse, unlessRefused}
 use Rattle.outline.proofs.Tests.{if-so}
-use Rattle.outline.proofs.Refusals.{or-first, or-second, is-refused}
+use Rattle.outline.proofs.Refusals.{or-first, or-second, is-done, is-refused}
 use Rattle.door.specs.Exact.{within, nearestTo}
 use Rattle.door.specs.Outcome.{accepted, refused}
 use Rattle.door.specs.Readings.{mostReading, whole, converted, inches, millimetres, reading, month}
@@ -285,10 +285,12 @@ module _ (r : Run) (i : ℕ) (cs : Columns) where
       go zero = refl
       go (suc k) = refl
 
-  -- a refused row is all zeros beside its number
-  pub row-refused : (told ≡ 0 → ⊥) → rowOfRun r i cs ≡ notShown told
+  -- what the columns hold, or all zeros beside the number
+  pub row-shows : (told ≡ 0 → rowOfRun r i cs ≡ shown i cs) × ((told ≡ 0 → ⊥) → rowOfRun r i cs ≡ notShown told)
   unfolding rowOfRun
-  row-refused h = rw row-by (is-refused (rowRefusal r i cs) (shown i cs) (notShown (rowRefusal r i cs)) (λ e. h (row-by ∙ e)))
+  row-shows =
+      let k = rowRefusal r i cs in
+      (λ e. is-done k (shown i cs) (notShown k) (sym row-by ∙ e), λ h. rw row-by (is-refused k (shown i cs) (notShown k) (λ e. h (row-by ∙ e))))
 
   row-is-1 : columnsFit cs ≡ false → told ≡ badLists
   unfolding rowRefusal

@@ -5,6 +5,7 @@ pub mod Rows
 pub mod Shown
 pub mod Given
 pub mod Chain
+pub mod Writes
 pub mod Honest
 pub mod ZeroK
 pub mod Soils

@@ -32,7 +32,7 @@ use Rattle.refusals.specs.Columns.{Columns, long, columnsFit}
 use Rattle.refusals.specs.Refusals.{waterRefusal, zRefusal}
 use Rattle.adding.specs.Figures.{noFigures}
 use Rattle.adding.specs.Taken.{Result, heldBy}
-use Rattle.drought.specs.Calls.{notShown, rowOfRun}
+use Rattle.drought.specs.Calls.{shown, notShown, rowOfRun}
 use Rattle.season.specs.Season.{seasonResult, nothing, addSeason}
 use Rattle.demands.specs.Months.{Ask, water, inches, anomaly, asked, State, after, afterAll, Accepted, figuresAnswered, monthsOf, leftOf, stationOf, figuresFor, figuresOfMonths, noRow, rowsOfMonths}
 use Rattle.demands.specs.Given.{ReadingGives, AddGives, RowGives, SeriesGives, SeasonGives}
@@ -103,9 +103,11 @@ pub record Demand1 : Type 0 where
   pub seasons-refused :
       (r : Run) (ps pes : List ℤ) (cs : Columns) → let t = addSeason r ps pes cs in (t .answer .number ≡ badLists) ⊎ (t .answer .number ≡ notARun) → t ≡ seasonResult (nothing (t .answer .number) r) cs
   pub seasons-exactly : (r : Run) (ps pes : List ℤ) (cs : Columns) (n : ℕ) → (addSeason r ps pes cs .answer .number ≡ n) ↔ SeasonGives r ps pes cs n
-  -- EVERY ROW: a refused one is all zeros beside its number. It answers with no run, since its caller has the one that it handed in, by value, and
-  -- no list is lent to be written
-  pub rows : (r : Run) (i : ℕ) (cs : Columns) → (rowOfRun r i cs .number ≡ 0 → ⊥) → rowOfRun r i cs ≡ notShown (rowOfRun r i cs .number)
+  -- EVERY ROW: "what the five columns hold there", or all zeros beside its number. It answers with no run, since its caller has the one that it
+  -- handed in, by value, and no list is lent to be written
+  pub rows :
+      (r : Run) (i : ℕ) (cs : Columns)
+      → (rowOfRun r i cs .number ≡ 0 → rowOfRun r i cs ≡ shown i cs) × ((rowOfRun r i cs .number ≡ 0 → ⊥) → rowOfRun r i cs ≡ notShown (rowOfRun r i cs .number))
   pub rows-exactly : (r : Run) (i : ℕ) (cs : Columns) (n : ℕ) → (rowOfRun r i cs .number ≡ n) ↔ RowGives r i cs n
   -- EVERY WHOLE SERIES
   pub series :
@@ -203,6 +205,24 @@ marks s = heldBy (s .run) (s .columns) .mark
 abbrev pub marksWith : ℕ → ℕ → List ℕ → List ℕ
 marksWith k at mark = take (suc at - k) (set mark at 1) ++ (replicate k 2 ++ drop (suc at) mark)
 
+-- "An add writes the new month's place in the five columns, and index and mark of the open months it settles, and nothing else": r and cs are
+-- what an accepted add was given, b what it left
+pub record Writes (r : Run) (cs : Columns) (b : Result) : Type 0 where
+  pub x1 : b .columns .x1 ≡ set (cs .x1) (r .months) (b .answer .figures .x1)
+  pub x2 : b .columns .x2 ≡ set (cs .x2) (r .months) (b .answer .figures .x2)
+  pub x3 : b .columns .x3 ≡ set (cs .x3) (r .months) (b .answer .figures .x3)
+  -- the index of no month before those that it settles, its own month's index, and none after it: "Places after the last month are never written"
+  pub index-kept :
+      let n = suc (r .months) - b .answer .settled in
+      take n (b .columns .index) ≡ take n (set (cs .index) (r .months) (b .answer .figures .index))
+  pub index-own : getD (b .columns .index) (r .months) (pos 0) ≡ b .answer .figures .index
+  pub index-beyond : drop (suc (r .months)) (b .columns .index) ≡ drop (suc (r .months)) (cs .index)
+  -- the settled count "equals the marks the call writes as 2"
+  pub marks : b .columns .mark ≡ marksWith (b .answer .settled) (r .months) (cs .mark)
+  -- "its own included: the open months before it plus one if it decides, else 0"
+  pub decides : b .answer .figures .mark ≡ 2 → b .answer .settled ≡ suc (r .opens)
+  pub undecided : b .answer .figures .mark ≡ 1 → b .answer .settled ≡ 0
+
 pub record Demand3 : Type 0 where
   -- "After each, every settled index equals the choice made knowing all months so far, by a rule that looks forward from that month." So
   -- does every open month's, and every mark is that rule's
@@ -219,10 +239,8 @@ pub record Demand3 : Type 0 where
   pub values :
       (f : Fresh) (asks more : List Ask) → Accepted (first f) asks → Accepted (now f asks) more → (i : ℕ) → i < length asks
       → valuesAt (afterAll (now f asks) more) i ≡ valuesAt (now f asks) i
-  -- the settled count of an add equals the marks that it writes as 2, on any columns
-  pub writes :
-      (r : Run) (a : Ask) (cs : Columns) → asked r a cs .answer .number ≡ 0
-      → asked r a cs .columns .mark ≡ marksWith (asked r a cs .answer .settled) (r .months) (cs .mark)
+  -- what an accepted add writes, on any columns, and that its settled count is that of the marks that it writes as 2;
+  pub writes : (r : Run) (a : Ask) (cs : Columns) → asked r a cs .answer .number ≡ 0 → Writes r cs (asked r a cs)
   -- so that on columns that nobody else writes there are as many more of them
   pub settled :
       (f : Fresh) (asks : List Ask) (a : Ask) → Accepted (first f) asks

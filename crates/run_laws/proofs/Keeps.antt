@@ -38,7 +38,7 @@ use Rattle.refusals.proofs.Refused.{columns-are}
 use Rattle.adding.proofs.Readiness.{run-is}
 
 -- ---- the columns keep their length
-settled-long : (w : With) (l : List X) → length (settledAll w l) ≡ length l
+pub settled-long : (w : With) (l : List X) → length (settledAll w l) ≡ length l
 settled-long w [] = refl
 settled-long w (m ∷ l) = ap suc (settled-long w l)
 
