@@ -1,3 +1,4 @@
--- That a promise allows one answer (OneAnswer), and what a reading of no such kind gives (NoKind).
+-- That a promise allows one answer (OneAnswer), what a reading of no such kind gives (NoKind), and what each kind gives (EachKind).
 pub mod OneAnswer
 pub mod NoKind
+pub mod EachKind

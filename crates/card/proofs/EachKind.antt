@@ -1,0 +1,13 @@
+-- The card's kinds: one table, one claim, by computation. Assumes nothing.
+use mathlib.Core.Path.{_≡_, refl}
+use mathlib.Core.Bool.{true}
+use Rattle.exact.specs.Nearest.{nearestℕ}
+use Rattle.exact.specs.Worked.{agree}
+use Rattle.door.specs.Exact.{within, nearestTo}
+use Rattle.door.specs.Readings.{whole, converted, inches, millimetres, reading}
+use Rattle.card.specs.FromC.{readingOfC}
+use Rattle.card.specs.Worked.{kindTable}
+
+pub kinds : agree kindTable ≡ true
+unfolding nearestℕ within nearestTo whole converted inches millimetres reading readingOfC
+kinds = refl

@@ -1,0 +1,183 @@
+-- Document 01's numbers by what the calls do at and beside them, so that none can be changed alike in the definitions and in the code. Those of a
+-- start stand with the crate `starts`. Worked.antt beside this file joins the rows to the table of worked months, and its one claim is that
+-- every row agrees. Assumes nothing.
+use Prim.Native.Nat.{ℕ, _+_, _*_}
+use mathlib.Core.Bool.{true, false}
+use mathlib.Core.List.{List, [], _∷_, _++_}
+use lib.IntN.{ℤ, pos, negsuc, negℤ}
+use lib.Ieee.{Float, nan, inf, fin}
+use lib.ListN.{replicate, set}
+use Rattle.outline.specs.Refusals.{notANumber}
+use Rattle.exact.specs.Worked.{Row, _gives_}
+use Rattle.door.specs.Outcome.{Outcome}
+use Rattle.door.specs.Readings.{reading}
+use Rattle.door.specs.declared.Reading.the-variants.{Whole, Inches, Millimetres, Missing}
+use Rattle.water.specs.declared.Soil.{Soil}
+use Rattle.spells.specs.Values.{fresh}
+use Rattle.spells.specs.declared.Running.{Running}
+use Rattle.starts.specs.Start.{ones}
+use Rattle.runs.specs.declared.Run.{Run}
+use Rattle.series.specs.Series.{seriesRefusal}
+use Rattle.refusals.specs.Columns.{Columns, columns}
+use Rattle.drought.specs.Calls.{addZ, rowOfRun}
+
+abbrev pub minus : ℕ → ℤ
+minus n = negℤ (pos n)
+
+-- columns of n places, which hold another number each
+abbrev pub lent : ℕ → Columns
+lent n = columns (replicate n (pos 71)) (replicate n (pos 72)) (replicate n (pos 73)) (replicate n (pos 74)) (replicate n 75)
+
+-- a reading's number, or its thousandths where it is 0
+abbrev told : Outcome → ℤ
+told o = pos (o .number * 1000000 + o .water)
+
+-- a refusal, as `told` has it
+abbrev no : ℕ → ℤ
+no k = pos (k * 1000000)
+
+abbrev inch : Float → ℤ
+inch x = told (reading (Inches x))
+
+abbrev mm : Float → ℤ
+mm x = told (reading (Millimetres x))
+
+-- "Readings at the door"
+abbrev readingTable : List Row
+readingTable =
+    -- "whole thousandths (0 to 100,000)", "or missing"
+    (told (reading (Whole (negsuc 0))) gives no 9)
+    ∷ (told (reading (Whole (pos 0))) gives pos 0)
+    ∷ (told (reading (Whole (pos 100000))) gives pos 100000)
+    ∷ (told (reading (Whole (pos 100001))) gives no 9)
+    ∷ (told (reading Missing) gives no 8)
+    -- "inches as an IEEE 754 binary32 number (0 to 100)": 100, and the next such number, 100 + 2^-17
+    ∷ (inch (fin false 25 (pos 2)) gives pos 100000)
+    ∷ (inch (fin false 13107201 (negsuc 16)) gives no 9)
+    -- "millimetres as binary32 (0 to 2,540)": 2,540, and the next, 2,540 + 2^-12
+    ∷ (mm (fin false 635 (pos 2)) gives pos 100000)
+    ∷ (mm (fin false 10403841 (negsuc 11)) gives no 9)
+    -- "Negative zero is 0. NaN, infinities, negatives and anything above the range are refused."
+    ∷ (inch (fin true 0 (pos 0)) gives pos 0)
+    ∷ (inch (fin true 1 (negsuc 148)) gives no 9)
+    ∷ (inch nan gives no 9)
+    ∷ (inch (inf false) gives no 9)
+    ∷ (inch (inf true) gives no 9)
+    -- "0.0625 inch gives 63; 2^-11 inch gives 0; 7.9375 mm gives 313; 2,540 mm gives 100,000." 7.9375 is 127 / 16
+    ∷ (inch (fin false 1 (negsuc 3)) gives pos 63)
+    ∷ (inch (fin false 1 (negsuc 10)) gives pos 0)
+    ∷ (mm (fin false 127 (negsuc 3)) gives pos 313)
+    ∷ []
+
+-- a run of so many months and so many open ones, in this calendar month, with this soil and these running values, and ones for constants
+abbrev run : ℕ → ℕ → ℕ → Soil → Running → Run
+run n opens calendar soil values = record { months = n; opens = opens; calendar = calendar; soil = soil; values = values; constants = ones }
+
+abbrev soil : ℕ → ℕ → ℕ → Soil
+soil c ss su = record { capacity = c; surface = ss; underlying = su }
+
+-- the number of an add of Z 0 to a run, on columns of three places
+abbrev number : Run → ℤ
+number r = pos (addZ r (pos 0) (lent 3) .answer .number)
+
+-- .. to one of so many months, so many of them open
+abbrev months : ℕ → ℕ → ℤ
+months n opens = number (run n opens 1 (soil 6000 0 0) fresh)
+
+-- .. in this calendar month
+abbrev calendar : ℕ → ℤ
+calendar m = number (run 2 0 m (soil 6000 0 0) fresh)
+
+-- .. with this soil
+abbrev held : ℕ → ℕ → ℕ → ℤ
+held c ss su = number (run 2 0 1 (soil c ss su) fresh)
+
+-- .. with this X1, X2, X3 and V, after two months
+abbrev values : ℤ → ℤ → ℤ → ℤ → ℤ
+values x1 x2 x3 v = number (run 2 0 1 (soil 6000 0 0) (record { x1 = x1; x2 = x2; x3 = x3; v = v }))
+
+-- .. of whose constants the one at this place is another
+abbrev constant : ℕ → ℤ → ℤ
+constant place n =
+    number (record { months = 2; opens = 0; calendar = 1; soil = soil 6000 0 0; values = fresh; constants = set ones place n })
+
+-- "Not a run", clause by clause, at its ends and past them
+abbrev runTable : List Row
+runTable =
+    -- "months above the column length; open months above months"; "10: months already equal the column length"
+    (months 2 2 gives pos 0)
+    ∷ (months 2 3 gives pos 7)
+    ∷ (months 3 3 gives pos 10)
+    ∷ (months 4 0 gives pos 7)
+    -- "constants, capacity or storages out of range"; and E11, a K of 0
+    ∷ (constant 14 (pos 100000) gives pos 0)
+    ∷ (constant 14 (pos 100001) gives pos 7)
+    ∷ (constant 14 (pos 0) gives pos 7)
+    ∷ (constant 12 (pos 50000) gives pos 0)
+    ∷ (constant 12 (pos 50001) gives pos 7)
+    ∷ (constant 10 (pos 10001) gives pos 7)
+    ∷ (constant 10 (negsuc 0) gives pos 7)
+    ∷ (held 99 0 0 gives pos 7)
+    ∷ (held 100 100 0 gives pos 0)
+    ∷ (held 100 101 0 gives pos 7)
+    ∷ (held 100 0 1 gives pos 7)
+    ∷ (held 30000 1000 29000 gives pos 0)
+    ∷ (held 30000 1001 0 gives pos 7)
+    ∷ (held 30000 0 29001 gives pos 7)
+    ∷ (held 30001 0 0 gives pos 7)
+    -- "calendar month not 1 to 12"
+    ∷ (calendar 0 gives pos 7)
+    ∷ (calendar 1 gives pos 0)
+    ∷ (calendar 12 gives pos 0)
+    ∷ (calendar 13 gives pos 7)
+    -- "any X beyond 13,000,000 in size; X1 negative or X2 positive"
+    ∷ (values (pos 13000000) (minus 13000000) (minus 13000000) (pos 0) gives pos 0)
+    ∷ (values (pos 0) (pos 0) (pos 13000000) (pos 0) gives pos 0)
+    ∷ (values (pos 13000001) (pos 0) (pos 0) (pos 0) gives pos 7)
+    ∷ (values (pos 0) (minus 13000001) (pos 0) (pos 0) gives pos 7)
+    ∷ (values (pos 0) (pos 0) (minus 13000001) (pos 0) gives pos 7)
+    ∷ (values (pos 0) (pos 0) (pos 13000001) (pos 0) gives pos 7)
+    ∷ (values (minus 1) (pos 0) (pos 0) (pos 0) gives pos 7)
+    ∷ (values (pos 0) (pos 1) (pos 0) (pos 0) gives pos 7)
+    -- "V beyond 4,000,150 x months in size; V above 0 without X3 below 0, or V below 0 without X3 above 0": of two months 8,000,300
+    ∷ (values (pos 0) (pos 0) (minus 1) (pos 8000300) gives pos 0)
+    ∷ (values (pos 0) (pos 0) (minus 1) (pos 8000301) gives pos 7)
+    ∷ (values (pos 0) (pos 0) (pos 1) (minus 8000300) gives pos 0)
+    ∷ (values (pos 0) (pos 0) (pos 1) (minus 8000301) gives pos 7)
+    ∷ (values (pos 0) (pos 0) (pos 0) (pos 1) gives pos 7)
+    ∷ (values (pos 0) (pos 0) (pos 0) (minus 1) gives pos 7)
+    ∷ []
+
+-- the number of an add of a Z to a fresh run, on columns of so many places
+abbrev added : ℤ → ℕ → ℤ
+added z n = pos (addZ (run 0 0 1 (soil 6000 0 0) fresh) z (lent n) .answer .number)
+
+-- .. of a whole series of n times this Z, with lists of so many places
+abbrev series : ℕ → ℤ → ℕ → ℕ → ℤ
+series n z index mark = pos (seriesRefusal (replicate n z) index mark)
+
+abbrev listTable : List Row
+listTable =
+    -- "Z given directly: -4,000,000 to 4,000,000."
+    (added (pos 4000000) 1 gives pos 0)
+    ∷ (added (pos 4000001) 1 gives pos 12)
+    ∷ (added (minus 4000000) 1 gives pos 0)
+    ∷ (added (minus 4000001) 1 gives pos 12)
+    -- "1: the five columns .. not all of one length, or length 0 or above 2,400"
+    ∷ (added (pos 0) 0 gives pos 1)
+    ∷ (added (pos 0) 2400 gives pos 0)
+    ∷ (added (pos 0) 2401 gives pos 1)
+    -- "or the three lists of a whole series"
+    ∷ (series 0 (pos 0) 0 0 gives pos 1)
+    ∷ (series 1 (pos 0) 1 1 gives pos 0)
+    ∷ (series 1 (pos 0) 2 1 gives pos 1)
+    ∷ (series 1 (pos 0) 1 2 gives pos 1)
+    ∷ (series 1 (pos 4000001) 1 1 gives pos 12)
+    ∷ (series 2400 (pos 0) 2400 2400 gives pos 0)
+    ∷ (series 2401 (pos 0) 2401 2401 gives pos 1)
+    -- "13: program only": what a line says is the crate `lines`'s, and here is only its number
+    ∷ (pos notANumber gives pos 13)
+    ∷ []
+
+abbrev pub numbersTable : List Row
+numbersTable = readingTable ++ (runTable ++ listTable)
