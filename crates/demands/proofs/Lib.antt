@@ -17,6 +17,7 @@ pub mod Ends
 pub mod Demands
 pub mod OneOutcome
 pub mod WorkedMonths
+pub mod Helpers
 pub mod Seasons
 pub mod SeasonGiven
 pub mod Rejected

@@ -19,7 +19,7 @@ use Rattle.starts.specs.Start.{ones}
 use Rattle.runs.specs.declared.Run.{Run}
 use Rattle.series.specs.Series.{seriesRefusal}
 use Rattle.refusals.specs.Columns.{Columns, columns}
-use Rattle.drought.specs.Calls.{addZ, rowOfRun}
+use Rattle.drought.specs.Calls.{addZ}
 
 abbrev pub minus : ℕ → ℤ
 minus n = negℤ (pos n)

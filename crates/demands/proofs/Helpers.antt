@@ -1,0 +1,221 @@
+-- What each helper of a statement rules out, so that none of them can be weakened unseen: `agree` of the worked table; `Honest`, `Answers`,
+-- `Balances`, `Accepted`, `SoilFits`, `NoneFrom` and `count` of the demands; `SameFrom` of a season; `Excepted` and `TurnsAbout` of the mirror.
+-- Where a helper is about numbers, one month that it lets through stands beside those that it does not. Assumes nothing.
+use mathlib.Core.Path.{_≡_, refl, sym, subst}
+use mathlib.Core.Bool.{Bool, true, false, _&&_}
+use mathlib.Core.List.{List, [], _∷_, _++_}
+use Prim.Native.Nat.{ℕ, _≤_, _<_}
+use native.Mathlib.Omega.{arith}
+use lib.IntN.{ℤ, pos}
+use lib.Signed.{leZ, _<ℤ_, <ℤ-irrefl}
+use lib.ListN.{length, getD}
+use Rattle.outline.proofs.Tests.{each}
+use Rattle.exact.specs.Worked.{Row as Line, _gives_, agree}
+use Rattle.exact.proofs.Z.{le-yes, le-no, ≤ℤ-antisym}
+use Rattle.water.specs.Layers.{surfaceHolds, underlyingHolds, SoilFits}
+use Rattle.water.specs.declared.Soil.{Soil}
+use Rattle.spells.specs.declared.With.{With}
+use Rattle.spells.specs.declared.Decision.the-variants.{Decides}
+use Rattle.hindsight.specs.Rule.{X, Row, Shown}
+use Rattle.hindsight_laws.specs.Counts.{NoneFrom, count}
+use Rattle.starts.specs.Start.{runForZ}
+use Rattle.runs.specs.declared.Run.{Run}
+use Rattle.refusals.specs.Columns.{Columns, columns}
+use Rattle.adding.specs.Figures.{noFigures}
+use Rattle.adding.specs.Taken.{Result, result, refusal}
+use Rattle.adding.specs.declared.Figures.{Figures}
+use Rattle.demands.specs.Months.{Ask, asked, State, after, afterAll, Accepted, noRow}
+use Rattle.demands.specs.Demands.{Answers, Honest, Balances}
+use Rattle.demands.specs.Seasons.{SameFrom}
+use Rattle.demands.specs.Mirror.{Excepted, TurnsAbout}
+use Rattle.demands.proofs.Rejected.{minus}
+
+-- two numbers of which the first is above the second
+apart : {a b : ℤ} → leZ a b ≡ false → a ≡ b → ⊥
+apart {a} {b} f e = <ℤ-irrefl (subst (λ (x : ℤ). b <ℤ x) e (le-no a b f))
+
+-- ---- `agree`
+abbrev same : Line → Bool
+same r = leZ (r .given) (r .said) && leZ (r .said) (r .given)
+
+-- a table that agrees has the two numbers of every row equal
+pub agrees : (before : List Line) (r : Line) (later : List Line) → agree (before ++ (r ∷ later)) ≡ true → r .given ≡ r .said
+agrees [] r later h =
+    let p = each (leZ (r .given) (r .said)) (leZ (r .said) (r .given)) (each (same r) (agree later) h .0) in
+    ≤ℤ-antisym (r .given) (r .said) (le-yes (r .given) (r .said) (p .0)) (le-yes (r .said) (r .given) (p .1))
+agrees (b ∷ before) r later h = agrees before r later (each (same b) (agree (before ++ (r ∷ later))) h .1)
+
+-- so 1 and 2 do not agree, either way round, first or behind a row that does
+pub disagrees :
+    (agree ((pos 1 gives pos 2) ∷ []) ≡ false)
+    × (agree ((pos 2 gives pos 1) ∷ []) ≡ false)
+    × (agree ((pos 0 gives pos 0) ∷ (pos 1 gives pos 2) ∷ []) ≡ false)
+    × (agree ((pos 0 gives pos 0) ∷ (pos 2 gives pos 1) ∷ []) ≡ false)
+disagrees = (refl, refl, refl, refl)
+
+-- ---- `Honest`: neither 1 nor 7, and every other number
+pub not-honest : (Honest 1 → ⊥) × (Honest 7 → ⊥)
+not-honest = ((λ h. h .0 refl), (λ h. h .1 refl))
+
+pub honest : (k : ℕ) → (k ≡ 1 → ⊥) → (k ≡ 7 → ⊥) → Honest k
+honest k a b = (a, b)
+
+-- what an add leaves, of its parts
+abbrev of : ℕ → ℕ → Figures → Run → Columns → Result
+of number settled figures run cs = result (record { number = number; settled = settled; figures = figures; run = run }) cs
+
+-- ---- `Answers`: no other number; and of a refused call nothing but its refusal, with the run and the columns given
+module _ (r : Run) (cs : Columns) (k : ℕ) (b : Result) where
+  pub answers-number : Answers r cs k b → b .answer .number ≡ k
+  answers-number h = h .0
+
+  pub answers-refused : (k ≡ 0 → ⊥) → Answers r cs k b → b ≡ result (refusal k r) cs
+  answers-refused n h =
+      let f = h .1 n in
+      let e : of (b .answer .number) (b .answer .settled) (b .answer .figures) (b .answer .run) (b .columns) ≡ of k 0 noFigures r cs = rw (h .0, f .0, f .1, f .2, f .3) in
+      e
+
+-- ---- `Balances`: P 1,000 with 500 and 2,000 before is ET 400 and RO 300 with 600 and 2,200 after, and none of them is a thousandth more or less
+abbrev storing : ℕ → ℕ → Run
+storing ss su =
+    record {
+      months = 1;
+      opens = 0;
+      calendar = 1;
+      soil = record { capacity = 6000; surface = ss; underlying = su };
+      values = runForZ .values;
+      constants = runForZ .constants;
+    }
+
+abbrev month : ℕ → ℕ → ℕ → ℕ → ℕ → Result
+month p et ro ss su =
+    result
+    (record {
+      number = 0;
+      settled = 0;
+      figures = record {
+        water = record { p = p; pe = 0; ls = 0; lu = 0; et = et; r = 0; ro = ro; pr = 0; pro = 0; pl = 0; cafec = pos 0 };
+        z = pos 0;
+        percent = 0;
+        x1 = pos 0;
+        x2 = pos 0;
+        x3 = pos 0;
+        index = pos 0;
+        mark = 0;
+      };
+      run = storing ss su;
+    })
+    (columns [] [] [] [] [])
+
+pub balances : Balances (storing 500 2000) (month 1000 400 300 600 2200)
+balances = refl
+
+pub loses :
+    (Balances (storing 501 2000) (month 1000 400 300 600 2200) → ⊥)
+    × (Balances (storing 500 2001) (month 1000 400 300 600 2200) → ⊥)
+    × (Balances (storing 500 2000) (month 1001 400 300 600 2200) → ⊥)
+    × (Balances (storing 500 2000) (month 1000 399 300 600 2200) → ⊥)
+    × (Balances (storing 500 2000) (month 1000 400 299 600 2200) → ⊥)
+    × (Balances (storing 500 2000) (month 1000 400 300 599 2200) → ⊥)
+    × (Balances (storing 500 2000) (month 1000 400 300 600 2199) → ⊥)
+loses = ((λ e. omega arith), (λ e. omega arith), (λ e. omega arith), (λ e. omega arith), (λ e. omega arith), (λ e. omega arith), (λ e. omega arith))
+
+pub gains :
+    (Balances (storing 499 2000) (month 1000 400 300 600 2200) → ⊥)
+    × (Balances (storing 500 1999) (month 1000 400 300 600 2200) → ⊥)
+    × (Balances (storing 500 2000) (month 999 400 300 600 2200) → ⊥)
+    × (Balances (storing 500 2000) (month 1000 401 300 600 2200) → ⊥)
+    × (Balances (storing 500 2000) (month 1000 400 301 600 2200) → ⊥)
+    × (Balances (storing 500 2000) (month 1000 400 300 601 2200) → ⊥)
+    × (Balances (storing 500 2000) (month 1000 400 300 600 2201) → ⊥)
+gains = ((λ e. omega arith), (λ e. omega arith), (λ e. omega arith), (λ e. omega arith), (λ e. omega arith), (λ e. omega arith), (λ e. omega arith))
+
+-- ---- `Accepted`: no list with a refused month, wherever it stands
+pub accepted-each :
+    (s : State) (asks : List Ask) (a : Ask) (later : List Ask) → Accepted s (asks ++ (a ∷ later))
+    → asked (afterAll s asks .run) a (afterAll s asks .columns) .answer .number ≡ 0
+accepted-each s [] a later h = h .0
+accepted-each s (b ∷ asks) a later h = accepted-each (after s b) asks a later (h .1)
+
+-- ---- `SoilFits`: layers that are full, and none a thousandth above its size; a capacity of 100 to 30,000
+abbrev soil : ℕ → ℕ → ℕ → Soil
+soil c ss su = record { capacity = c; surface = ss; underlying = su }
+
+pub soils-fit : SoilFits (soil 6000 1000 5000) × SoilFits (soil 100 100 0) × SoilFits (soil 30000 1000 29000)
+unfolding surfaceHolds underlyingHolds
+soils-fit = (
+  record { least = omega arith; most = omega arith; surface = omega arith; underlying = omega arith },
+  record { least = omega arith; most = omega arith; surface = omega arith; underlying = omega arith },
+  record { least = omega arith; most = omega arith; surface = omega arith; underlying = omega arith },
+)
+
+pub soils-pass :
+    (SoilFits (soil 6000 1001 0) → ⊥)
+    × (SoilFits (soil 6000 0 5001) → ⊥)
+    × (SoilFits (soil 100 101 0) → ⊥)
+    × (SoilFits (soil 100 0 1) → ⊥)
+    × (SoilFits (soil 99 0 0) → ⊥)
+    × (SoilFits (soil 30001 0 0) → ⊥)
+unfolding surfaceHolds underlyingHolds
+soils-pass = ((λ f. omega arith), (λ f. omega arith), (λ f. omega arith), (λ f. omega arith), (λ f. omega arith), (λ f. omega arith))
+
+-- ---- `NoneFrom`: no month from there on that decides; `count`: so often, and no other number
+pub one-decides : (rows : List Row) (i j : ℕ) (w : With) → i ≤ j → j < length rows → getD rows j noRow .decision ≡ Decides w → NoneFrom rows i → ⊥
+one-decides rows i j w p q e h = let n = h j noRow p q in let k : _≡_ {A = ℕ} 0 1 = cc in omega arith
+
+pub counts : (count 2 (2 ∷ 1 ∷ 2 ∷ 0 ∷ []) ≡ 2) × (count 1 (2 ∷ 1 ∷ 2 ∷ 0 ∷ []) ≡ 1) × (count 3 (2 ∷ 1 ∷ 2 ∷ 0 ∷ []) ≡ 0)
+counts = (refl, refl, refl)
+
+-- ---- `SameFrom`: none of the five columns changed at the place itself
+abbrev two : ℤ → ℤ → ℤ → ℤ → ℕ → Columns
+two x1 x2 x3 index mark = columns (pos 0 ∷ x1 ∷ []) (pos 0 ∷ x2 ∷ []) (pos 0 ∷ x3 ∷ []) (pos 0 ∷ index ∷ []) (0 ∷ mark ∷ [])
+
+abbrev Changed : ℤ → ℤ → ℤ → ℤ → ℕ → Type 0
+Changed x1 x2 x3 index mark = SameFrom 1 (two (pos 0) (pos 0) (pos 0) (pos 0) 0) (two x1 x2 x3 index mark) → ⊥
+
+pub changed :
+    Changed (pos 1) (pos 0) (pos 0) (pos 0) 0
+    × Changed (pos 0) (pos 1) (pos 0) (pos 0) 0
+    × Changed (pos 0) (pos 0) (pos 1) (pos 0) 0
+    × Changed (pos 0) (pos 0) (pos 0) (pos 1) 0
+    × Changed (pos 0) (pos 0) (pos 0) (pos 0) 1
+changed = (
+  (λ h. apart refl (h .x1 1 (omega arith))),
+  (λ h. apart refl (h .x2 1 (omega arith))),
+  (λ h. apart refl (h .x3 1 (omega arith))),
+  (λ h. apart refl (h .index 1 (omega arith))),
+  (λ h. let e = h .mark 1 (omega arith) in omega arith),
+)
+
+-- ---- `Excepted`: an open month with X1 224, X2 -224 and X3 0; not a settled one, nor with an X3, nor with sizes that differ, nor with both 0
+abbrev x : ℤ → ℤ → ℤ → X
+x x1 x2 x3 = record { x1 = x1; x2 = x2; x3 = x3 }
+
+abbrev shown : ℕ → ℤ → Shown
+shown mark index = record { mark = mark; index = index }
+
+abbrev tie : X
+tie = x (pos 224) (minus 224) (pos 0)
+
+pub excepted : Excepted tie (shown 1 (minus 224))
+excepted = record { is-open = refl; no-x3 = refl; one-size = refl; not-zero = apart refl }
+
+pub not-excepted :
+    (Excepted tie (shown 2 (minus 224)) → ⊥)
+    × (Excepted (x (pos 224) (minus 224) (pos 1)) (shown 1 (minus 224)) → ⊥)
+    × (Excepted (x (pos 224) (minus 225) (pos 0)) (shown 1 (minus 225)) → ⊥)
+    × (Excepted (x (pos 0) (pos 0) (pos 0)) (shown 1 (pos 0)) → ⊥)
+not-excepted = ((λ h. let e = h .is-open in omega arith), (λ h. apart refl (h .no-x3)), (λ h. let e = h .one-size in omega arith), (λ h. h .not-zero refl))
+
+-- ---- `TurnsAbout`: no other mark, no settled index that stays, no open one that stays unexcepted, and no excepted one that turns
+pub stays-as-it-was :
+    (TurnsAbout (x (pos 0) (minus 563) (pos 0)) (shown 2 (minus 563)) (shown 1 (pos 563)) → ⊥)
+    × (TurnsAbout (x (pos 0) (minus 563) (pos 0)) (shown 2 (minus 563)) (shown 2 (minus 563)) → ⊥)
+    × (TurnsAbout (x (pos 0) (minus 50) (minus 947)) (shown 1 (minus 947)) (shown 1 (minus 947)) → ⊥)
+    × (TurnsAbout tie (shown 1 (minus 224)) (shown 1 (pos 224)) → ⊥)
+stays-as-it-was = (
+  (λ h. let e = h .mark-kept in omega arith),
+  (λ h. apart refl (sym (h .settled-turns refl))),
+  (λ h. apart refl (sym (h .exactly .1 (λ e. apart refl (sym (e .no-x3)))))),
+  (λ h. apart refl (h .stays excepted .1)),
+)
