@@ -1,7 +1,8 @@
 #!/usr/bin/env python3
 """Holds README.md to what it says and shows: its commands print what it shows of them, its C compiles without a warning
 and prints what it says, its way from a CSV comes to the sample's own figures, its table of refusals has the words of
-the header and of the programs. And docs/MIRROR.md: every command of it prints what stands below it. CC and RUN, from the
+the header and of the programs. And docs/MIRROR.md: every command of it prints what stands below it. And docs/RULES.md:
+every definition that it names is in the file that it names, with the number that it says. CC and RUN, from the
 environment, are how C is compiled and run (host/setup.sh).
 """
 import os
@@ -69,6 +70,36 @@ def mirror():
         shown(command, lines.strip().split('\n'))
 
 
+def definitions(name):
+    """What a file of definitions defines: each name, and what follows its sign of equality where it takes nothing."""
+    body = text('crates', *name.split('/'))
+    named = re.findall(r'^(?:abbrev |unfoldable )?pub (?:record |data )?(\S+)', body, re.M)
+    return set(named), dict(re.findall(r'^(\S+) = (\S+)$', body, re.M))
+
+
+def rules():
+    """docs/RULES.md: a table's last cell has definitions, then their file, parted by commas; and so again after a
+    semicolon. A definition that is a number is said with it."""
+    if '`docs/RULES.md`' not in README:
+        sys.exit('readme: README.md does not lead to docs/RULES.md')
+    held = set()
+    for row in re.findall(r'^\| (.*) \|$', text('docs', 'RULES.md'), re.M):
+        said, cell = row.rsplit(' | ', 1)
+        for group in cell.split('; ') if cell != 'Definition' else []:
+            *names, file = re.findall(r'`(\S+)`', group)
+            if not names or '`, `'.join(names + [file]) != group.strip('`') or not os.path.isfile(os.path.join(TOP, 'crates', file)):
+                sys.exit('readme: docs/RULES.md does not name definitions and their file: %s' % group)
+            named, numbers = definitions(file)
+            for name in names:
+                if name not in named:
+                    sys.exit('readme: docs/RULES.md: crates/%s does not define %s' % (file, name))
+                number = numbers.get(name, '')
+                if number.isdigit() and number not in [one.replace(',', '') for one in re.findall(r'(?<!\w)\d[\d,]*', said)]:
+                    sys.exit('readme: docs/RULES.md: %s is %s: %s' % (name, number, said))
+                held.add((file, name))
+    return len(held)
+
+
 def c_program():
     """The program in C, and what README says that it prints."""
     said = re.search(r'and prints `(.*?)`\. `host/station\.c`', README)[1] + '\n'
@@ -122,7 +153,7 @@ def main():
     station()
     refusals()
     mirror()
-    print('readme: its commands, its C, its way from a CSV and its table are as it says, and so is docs/MIRROR.md')
+    print('readme: its commands, its C, its way from a CSV and its table are as it says, and so is docs/MIRROR.md; the %d definitions that docs/RULES.md names are there' % rules())
 
 
 if __name__ == '__main__':
