@@ -83,11 +83,14 @@ def kind_of_c(kind):
     return C_TYPES.get(kind, kind)
 
 
-def main():
+def sides():
     rust = text('host/card.rs')
-    sides = [of_rust('the library', ''.join(files('crates/card/src/**/*.rt')), files('crates/*/src/**/*.rt')), of_c(), of_rust('host/card.rs', rust, [rust])]
-    library = sides[0]
-    for other in sides[1:]:
+    return [of_rust('the library', ''.join(files('crates/card/src/**/*.rt')), files('crates/*/src/**/*.rt')), of_c(), of_rust('host/card.rs', rust, [rust])]
+
+
+def main():
+    library, *others = sides()
+    for other in others:
         if set(other.calls) != set(library.calls) or not library.calls:
             sys.exit('layout: %s has the calls %s, %s has %s' % (library.name, sorted(library.calls), other.name, sorted(other.calls)))
         for call in library.calls:
