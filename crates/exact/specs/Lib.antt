@@ -1,4 +1,4 @@
--- What the contracts of `exact` cite.
+-- What must be believed: nearest (Nearest), next(x) (Next), and what a table of worked months claims (Worked).
 pub mod Nearest
 pub mod Next
 pub mod Worked
