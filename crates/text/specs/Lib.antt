@@ -1,3 +1,3 @@
--- What the contracts of `text` cite, and those of the crates above it: bytes and digits (Bytes), and the lines of an input (Lines).
+-- What must be believed: bytes and digits (Bytes), and the lines of an input (Lines).
 pub mod Bytes
 pub mod Lines
