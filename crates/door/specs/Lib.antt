@@ -1,4 +1,5 @@
--- What the contracts of `door` cite: document 01, "Readings at the door".
+-- What must be believed: the exact value of a binary32 number (Exact), an answer in the paper's terms (Outcome), and what each reading
+-- gives (Readings).
 pub mod Exact
 pub mod Outcome
 pub mod Readings
