@@ -1,2 +1,2 @@
--- The words of the theorems about marks and decisions.
+-- What must be believed: marks and decisions over a list of months (Counts).
 pub mod Counts
