@@ -1,2 +1,2 @@
--- What the contracts of `series` cite: document 01, the whole series.
+-- What must be believed: the whole series (Series).
 pub mod Series
