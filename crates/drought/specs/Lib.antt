@@ -1,2 +1,2 @@
--- What the promises of `drought` cite: document 01, "What can be asked".
+-- What must be believed: what each call on a run answers, hands back and writes (Calls).
 pub mod Calls
