@@ -1,3 +1,4 @@
--- What the contracts of `season` cite: document 02, E2 (Season), and what the code holds between months (SoFar).
+-- What must be believed: a season in one call (Season).
 pub mod Season
+-- What only a proof wants: a season so far, without the run's constants (SoFar).
 pub mod SoFar
