@@ -1,4 +1,4 @@
--- What a reader must believe: a line by its columns (Columns), digits and a value by its seven characters (Field), and the numbers of the
+-- What must be believed: a line by its columns (Columns), digits and a value by its seven characters (Field), and the numbers of the
 -- refusals (Refusals).
 pub mod Columns
 pub mod Field
