@@ -1,2 +1,2 @@
--- What the contracts of `kept_line` cite (Kept).
+-- What only a proof wants: the bytes that a line is told by (Kept).
 pub mod Kept
