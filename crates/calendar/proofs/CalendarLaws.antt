@@ -14,7 +14,7 @@ use lib.IntN.{ℤ, pos, negsuc, natAbs}
 use lib.ListN.{getD}
 use Rattle.outline.specs.Numbers.{manyConstants, manyOfAMonth, lastMonth}
 use Rattle.outline.proofs.Tests.{if-so}
-use Rattle.water.specs.Constants.{ConstantsFit}
+use Rattle.water.specs.Bounds.{ConstantsFit}
 use Rattle.ranges.specs.Ranges.{limitOf, constantsFit, calendarFits}
 use Rattle.ranges.proofs.RangeLaws.{calendar-is, is-calendar, each-fits, constant-is}
 use Rattle.calendar.specs.Calendar.{placeOf, constantsAt, zeroKWithin, someZeroK, ZeroK, nextCalendar}

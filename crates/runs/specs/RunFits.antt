@@ -7,7 +7,7 @@ use lib.IntN.{pos, natAbs}
 use lib.Signed.{_≤ℤ_, _<ℤ_}
 use Rattle.outline.specs.Numbers.{mostX, mostU, lastMonth}
 use Rattle.water.specs.Layers.{SoilFits}
-use Rattle.water.specs.Constants.{ConstantsFit}
+use Rattle.water.specs.Bounds.{ConstantsFit}
 use Rattle.ranges.specs.Ranges.{constantsFit}
 use Rattle.calendar.specs.Calendar.{constantsAt, someZeroK}
 use Rattle.runs.specs.declared.Run.{Run}

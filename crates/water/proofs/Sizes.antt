@@ -11,8 +11,9 @@ use Rattle.exact.proofs.Nearest.{nearest-within, nearest-mono}
 use Rattle.exact.specs.Nearest.{nearest, nearestℕ}
 use Rattle.door.specs.Readings.{mostReading}
 use Rattle.water.specs.Layers.{mostCapacity}
-use Rattle.water.specs.Constants.{mostShare, mostGamma, mostK, ConstantsFit}
-use Rattle.water.specs.Expected.{mostN, nOf, cafecOf, zOf}
+use Rattle.water.specs.Constants.{mostShare, mostGamma, mostK}
+use Rattle.water.specs.Expected.{nOf, cafecOf, zOf}
+use Rattle.water.specs.Bounds.{ConstantsFit, mostN}
 use Rattle.water.specs.declared.Constants.{Constants}
 use Rattle.water.specs.declared.Potentials.{Potentials}
 

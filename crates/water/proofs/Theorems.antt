@@ -11,7 +11,7 @@ use lib.Signed.{_≤ℤ_}
 use Rattle.outline.specs.Numbers.{mostZ}
 use Rattle.door.specs.Readings.{mostReading}
 use Rattle.water.specs.Layers.{mostCapacity, surfaceHolds, underlyingHolds, SoilFits}
-use Rattle.water.specs.Constants.{ConstantsFit}
+use Rattle.water.specs.Bounds.{ConstantsFit}
 use Rattle.water.specs.Balance.{balanceOf}
 use Rattle.water.specs.Expected.{potentialsOf, nOf, expectedOf, monthOf}
 use Rattle.water.specs.declared.Soil.{Soil}

@@ -1,7 +1,6 @@
 -- Document 01, "Quantities": the range of each of a month's five constants, in ten-thousandths. "Zero is a value, never missing."
 -- Assumes nothing.
-use Prim.Native.Nat.{ℕ, _≤_}
-use Rattle.water.specs.declared.Constants.{Constants}
+use Prim.Native.Nat.{ℕ}
 
 -- "Alpha, beta, delta 0 to 10,000;
 abbrev pub mostShare : ℕ
@@ -14,10 +13,3 @@ mostGamma = 50000
 -- K 0 to 100,000."
 abbrev pub mostK : ℕ
 mostK = 100000
-
-pub record ConstantsFit (k : Constants) : Type 0 where
-  pub alpha : k .alpha ≤ mostShare
-  pub beta : k .beta ≤ mostShare
-  pub gamma : k .gamma ≤ mostGamma
-  pub delta : k .delta ≤ mostShare
-  pub weight : k .k ≤ mostK

@@ -31,10 +31,6 @@ potentialsOf s pe =
 unfoldable pub nOf : Constants → ℕ → Potentials → ℤ
 nOf k pe q = pos (k .alpha * pe + k .beta * q .pr + k .gamma * q .pro) -ℤ pos (k .delta * q .pl)
 
--- the most that N comes to in size, with every constant and every amount at its own: 10,000 x 100,000 + 50,000 x 30,000
-abbrev pub mostN : ℕ
-mostN = 2500000000
-
 -- "CAFEC precipitation is nearest to N/10,000."
 unfoldable pub cafecOf : ℤ → ℤ
 cafecOf n = nearest n 10000

@@ -8,9 +8,10 @@ ghost use Prim.Native.Nat.{_+_, _*_, _≤_, min};
 ghost use lib.IntN.{natAbs};
 ghost use Rattle.door.specs.Readings.{mostReading};
 ghost use Rattle.water.specs.Layers.{surfaceHolds, underlyingHolds, mostCapacity, SoilFits};
-ghost use Rattle.water.specs.Constants.{mostK, ConstantsFit};
+ghost use Rattle.water.specs.Constants.{mostK};
 ghost use Rattle.water.specs.Balance.{underLoss, dryMonth, wetMonth, balanceOf};
-ghost use Rattle.water.specs.Expected.{potentialsOf, mostN, nOf, zOf, expectedOf, monthOf};
+ghost use Rattle.water.specs.Expected.{potentialsOf, nOf, zOf, expectedOf, monthOf};
+ghost use Rattle.water.specs.Bounds.{ConstantsFit, mostN};
 
 // One, in the ten-thousandths of a constant.
 const ONE: i64 = 10_000;

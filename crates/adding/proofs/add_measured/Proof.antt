@@ -10,7 +10,7 @@ use mir.Facts.{toZ-ofZ}
 use denote.Ref.{now}
 use Rattle.outline.specs.Numbers.{mostZ}
 use Rattle.exact.proofs.Held.{held}
-use Rattle.water.specs.Constants.{ConstantsFit}
+use Rattle.water.specs.Bounds.{ConstantsFit}
 use Rattle.water.proofs.Theorems.{z-acceptable}
 use Rattle.calendar.specs.Calendar.{constantsAt}
 use Rattle.calendar.proofs.CalendarLaws.{constants-at-fit}

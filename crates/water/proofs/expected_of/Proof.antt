@@ -8,7 +8,8 @@ use mir.Val.{SFits}
 use mir.Facts.{toZ-ofZ}
 use Rattle.exact.proofs.Z.{fits-within}
 use Rattle.exact.proofs.Held.{held}
-use Rattle.water.specs.Expected.{mostN, nOf, cafecOf, zOf, expectedOf}
+use Rattle.water.specs.Expected.{nOf, cafecOf, zOf, expectedOf}
+use Rattle.water.specs.Bounds.{mostN}
 use Rattle.water.specs.declared.Expected.{Expected}
 use Rattle.water.proofs.Sizes.{n-most, cafec-most}
 use Rattle.water.proofs.expected_of.Statement.{statement}

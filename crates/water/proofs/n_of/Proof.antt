@@ -11,7 +11,8 @@ use mir.Syntax.{w64}
 use mir.Val.{SFits, toZ}
 use mir.Facts.{toZ-ofZ, toZ-pos}
 use Rattle.exact.proofs.Z.{fits-within}
-use Rattle.water.specs.Expected.{mostN, nOf}
+use Rattle.water.specs.Expected.{nOf}
+use Rattle.water.specs.Bounds.{mostN}
 use Rattle.water.proofs.Sizes.{mostLost, wanted-most, lost-most, n-most}
 use Rattle.water.proofs.n_of.Statement.{statement}
 use Rattle.water.proofs.n_of.Tie as tie

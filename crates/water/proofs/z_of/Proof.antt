@@ -12,7 +12,8 @@ use Rattle.exact.proofs.Z.{fits-within}
 use Rattle.exact.proofs.Held.{held}
 use Rattle.door.specs.Readings.{mostReading}
 use Rattle.water.specs.Constants.{mostK}
-use Rattle.water.specs.Expected.{mostN, zOf}
+use Rattle.water.specs.Expected.{zOf}
+use Rattle.water.specs.Bounds.{mostN}
 use Rattle.water.proofs.Sizes.{short-by-size, weighed, z-most}
 use Rattle.water.proofs.z_of.Statement.{statement}
 use Rattle.water.proofs.z_of.Tie as tie
