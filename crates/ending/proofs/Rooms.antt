@@ -11,7 +11,8 @@ use Rattle.exact.specs.Nearest.{clip}
 use Rattle.outline.specs.Numbers.{weight, mostX, mostZ, mostU}
 use Rattle.exact.proofs.Z.{zs, is-Z}
 use Rattle.exact.proofs.Held.{wide}
-use Rattle.ending.specs.Ending.{mostV, turn, uOf, vOf, eOf}
+use Rattle.ending.specs.Ending.{turn, uOf, vOf, eOf}
+use Rattle.ending.specs.Bounds.{mostV}
 
 -- ---- turned signs
 pub turn-size : (wet : Bool) (n : ℤ) (k : ℕ) → natAbs n ≤ k → natAbs (turn wet n) ≤ k

@@ -7,10 +7,6 @@ use lib.Signed.{leZ}
 use Rattle.exact.specs.Nearest.{nearest, clip}
 use Rattle.outline.specs.Numbers.{weight, weightOfZ, uOffset, eOffset}
 
--- V's room in the arithmetic: a million months of it, far more than a run holds
-abbrev pub mostV : ℕ
-mostV = 4000150000000
-
 -- "Wet spell: the mirror." Its numbers with the sign turned, a drought's as they are
 unfoldable pub turn : Bool → ℤ → ℤ
 turn false n = n

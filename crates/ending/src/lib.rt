@@ -11,7 +11,8 @@ ghost use Prim.Native.Nat.{_*_, _≤_};
 ghost use lib.IntN.{pos, natAbs, _*ℤ_};
 ghost use lib.Signed.{leZ};
 ghost use Rattle.outline.specs.Numbers.{mostX, mostZ, weightOfZ};
-ghost use Rattle.ending.specs.Ending.{mostV, turn, uOf, vOf, eOf, qOf, percentOf};
+ghost use Rattle.ending.specs.Ending.{turn, uOf, vOf, eOf, qOf, percentOf};
+ghost use Rattle.ending.specs.Bounds.{mostV};
 
 // A wet spell's number with its sign turned, a drought's as it is.
 fn turned(wet: bool, n: i64) -> i64

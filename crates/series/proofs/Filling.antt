@@ -12,7 +12,7 @@ use lib.Seq.{length-take-le}
 use Rattle.spells.specs.declared.Running.{Running}
 use Rattle.spells.specs.declared.SpellMonth.{SpellMonth}
 use Rattle.spells.specs.Values.{FitsWithin, ValuesFit, fresh}
-use Rattle.ending.specs.Ending.{mostV}
+use Rattle.ending.specs.Bounds.{mostV}
 use Rattle.outline.specs.Numbers.{mostU, mostMonths}
 use Rattle.spells.specs.Spells.{stepOf}
 use Rattle.spell_laws.proofs.Theorems.{values-kept, fits-in}

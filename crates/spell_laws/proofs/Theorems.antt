@@ -18,7 +18,8 @@ use Rattle.spells.specs.declared.Decision.{Decision}
 use Rattle.spells.specs.declared.Decision.the-variants.{Nothing, Decides}
 use Rattle.spells.specs.declared.SpellMonth.{SpellMonth}
 use Rattle.spells.specs.Values.{FitsWithin, ValuesFit}
-use Rattle.ending.specs.Ending.{mostV, Ending, steady, ended, abating, turn, vOf, qOf}
+use Rattle.ending.specs.Ending.{Ending, steady, ended, abating, turn, vOf, qOf}
+use Rattle.ending.specs.Bounds.{mostV}
 use Rattle.spells.specs.Spells.{steadyMonth, abatingValues, abatingMonth, noSpell, endingMonth, stepOf}
 use Rattle.spell_laws.specs.Months.{InForce, endingIn, SpellIs, spell-is, x1Of, x2Of, Shows}
 use Rattle.spell_laws.proofs.Cases.{by-month, step-ending}

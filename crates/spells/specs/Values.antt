@@ -3,7 +3,7 @@ use Prim.Native.Nat.{ℕ, _≤_}
 use lib.IntN.{ℤ, pos, natAbs}
 use lib.Signed.{_≤ℤ_, _<ℤ_}
 use Rattle.outline.specs.Numbers.{mostX}
-use Rattle.ending.specs.Ending.{mostV}
+use Rattle.ending.specs.Bounds.{mostV}
 use Rattle.spells.specs.declared.Running.{Running}
 
 -- X1 and X2 alone: neither "beyond 13,000,000 in size", nor "X1 negative or X2 positive"

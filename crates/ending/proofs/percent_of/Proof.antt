@@ -12,7 +12,7 @@ use mir.Facts.{toZ-ofZ}
 use Rattle.exact.specs.Nearest.{nearest, clip}
 use Rattle.exact.proofs.Z.{zs, zs-abs, is-Z, lt-no}
 use Rattle.exact.proofs.Held.{held}
-use Rattle.ending.specs.Ending.{mostV}
+use Rattle.ending.specs.Bounds.{mostV}
 use Rattle.ending.specs.Ending.{percentOf}
 use Rattle.ending.proofs.Rooms.{percent-low, percent-high, percent-between}
 use Rattle.ending.proofs.percent_of.Statement.{statement}

@@ -7,7 +7,8 @@ use mir.Syntax.{w64}
 use mir.Val.{SFits}
 use mir.Facts.{toZ-ofZ}
 use Rattle.exact.proofs.Z.{zs, is-Z}
-use Rattle.ending.specs.Ending.{mostV, turn, eOf, qOf}
+use Rattle.ending.specs.Ending.{turn, eOf, qOf}
+use Rattle.ending.specs.Bounds.{mostV}
 use Rattle.ending.proofs.Rooms.{rooms, turn-size, mostE, e-size}
 use Rattle.ending.proofs.q_of.Statement.{statement}
 use Rattle.ending.proofs.q_of.Tie as tie

@@ -7,7 +7,7 @@ use lib.IntN.{ℤ, pos, negℤ, natAbs, _-ℤ_}
 use mir.Syntax.{w64}
 use mir.Val.{SFits}
 use Rattle.exact.proofs.Z.{zs, is-Z}
-use Rattle.ending.specs.Ending.{mostV}
+use Rattle.ending.specs.Bounds.{mostV}
 use Rattle.ending.specs.Ending.{turn}
 use Rattle.ending.proofs.turned.Statement.{statement}
 use Rattle.ending.proofs.turned.Tie as tie

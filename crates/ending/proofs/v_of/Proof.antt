@@ -7,7 +7,8 @@ use mir.Syntax.{w64}
 use mir.Val.{SFits}
 use mir.Facts.{toZ-ofZ}
 use Rattle.exact.proofs.Z.{fits-within}
-use Rattle.ending.specs.Ending.{mostV, turn, uOf, vOf}
+use Rattle.ending.specs.Ending.{turn, uOf, vOf}
+use Rattle.ending.specs.Bounds.{mostV}
 use Rattle.ending.proofs.Rooms.{rooms, v-size}
 use Rattle.ending.proofs.v_of.Statement.{statement}
 use Rattle.ending.proofs.v_of.Tie as tie

@@ -12,7 +12,8 @@ use mir.Val.{SFits}
 use mir.Facts.{toZ-ofZ}
 use Rattle.exact.proofs.Z.{fits-within}
 use Rattle.outline.specs.Numbers.{mostX}
-use Rattle.ending.specs.Ending.{mostV, turn, uOf, vOf, eOf, qOf, steady, ended, abating, percentOf}
+use Rattle.ending.specs.Ending.{turn, uOf, vOf, eOf, qOf, steady, ended, abating, percentOf}
+use Rattle.ending.specs.Bounds.{mostV}
 use Rattle.spells.specs.Spells.{abatingMonth, endingMonth}
 use Rattle.spells.proofs.Choices.{ending-steady, ending-ended, ending-abating, ending-month}
 use Rattle.spells.proofs.in_force.Statement.{statement}
