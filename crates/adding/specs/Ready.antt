@@ -5,7 +5,7 @@ use mathlib.Core.Bool.{true}
 use Prim.Native.Nat.{ℕ, _≤_, _<_}
 use lib.ListN.{length}
 use Rattle.water.specs.Layers.{SoilFits}
-use Rattle.spells.specs.Values.{ValuesFit}
+use Rattle.spells.specs.ValuesFit.{ValuesFit}
 use Rattle.spells.specs.declared.Running.{Running}
 use Rattle.ranges.specs.Ranges.{constantsFit, calendarFits}
 use Rattle.outline.specs.Numbers.{mostMonths}

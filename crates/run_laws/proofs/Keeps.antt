@@ -11,7 +11,7 @@ use lib.ListN.{length, drop, length-append, length-drop, length-take, length-rep
 use Rattle.outline.specs.Numbers.{mostZ, mostU, mostMonths}
 use Rattle.water.specs.Layers.{SoilFits}
 use Rattle.water.specs.declared.Soil.{Soil}
-use Rattle.spells.specs.Values.{FitsWithin}
+use Rattle.spells.specs.ValuesFit.{FitsWithin}
 use Rattle.spells.specs.Spells.{stepOf}
 use Rattle.spells.specs.declared.With.{With}
 use Rattle.spells.specs.declared.Decision.{Decision}

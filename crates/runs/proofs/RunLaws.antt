@@ -15,7 +15,7 @@ use Rattle.exact.proofs.Z.{le-yes, le-no, lt-yes}
 use Rattle.exact.proofs.Orders.{le-is, le-not, lt-is}
 use Rattle.water.specs.Layers.{leastCapacity, mostCapacity, surfaceHolds, underlyingHolds, SoilFits}
 use Rattle.water.specs.declared.Soil.{Soil}
-use Rattle.spells.specs.Values.{ValuesFit}
+use Rattle.spells.specs.ValuesFit.{ValuesFit}
 use Rattle.ranges.specs.Ranges.{constantsFit, calendarFits}
 use Rattle.ranges.proofs.RangeLaws.{calendar-is, is-calendar}
 use Rattle.calendar.specs.Calendar.{someZeroK, ZeroK}

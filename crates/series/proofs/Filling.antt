@@ -11,7 +11,8 @@ use lib.ListN.{length, getD, set, take}
 use lib.Seq.{length-take-le}
 use Rattle.spells.specs.declared.Running.{Running}
 use Rattle.spells.specs.declared.SpellMonth.{SpellMonth}
-use Rattle.spells.specs.Values.{FitsWithin, ValuesFit, fresh}
+use Rattle.spells.specs.Values.{fresh}
+use Rattle.spells.specs.ValuesFit.{FitsWithin, ValuesFit}
 use Rattle.ending.specs.Bounds.{mostV}
 use Rattle.outline.specs.Numbers.{mostU, mostMonths}
 use Rattle.spells.specs.Spells.{stepOf}

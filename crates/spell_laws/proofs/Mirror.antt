@@ -20,7 +20,8 @@ use Rattle.spells.specs.declared.With.the-variants.{X1, X2}
 use Rattle.spells.specs.declared.Decision.{Decision}
 use Rattle.spells.specs.declared.Decision.the-variants.{Nothing, Decides}
 use Rattle.spells.specs.declared.SpellMonth.{SpellMonth}
-use Rattle.spells.specs.Values.{FitsWithin, ValuesFit, fresh}
+use Rattle.spells.specs.Values.{fresh}
+use Rattle.spells.specs.ValuesFit.{FitsWithin, ValuesFit}
 use Rattle.spells.specs.Spells.{raised, lowered, largerInSize, steadyMonth, abatingValues, abatingMonth, founded, unfounded, tried, noSpell, endingMonth, stepOf}
 use Rattle.ending.specs.Ending.{Ending, steady, ended, abating, turn, vOf}
 use Rattle.spell_laws.specs.Months.{InForce, NoneInForce, endingIn, spell-is, NoSpell, none, just-ended, x1Of, x2Of}

@@ -11,7 +11,7 @@ use Rattle.outline.specs.Numbers.{mostX, mostZ, mostU}
 use Rattle.exact.proofs.NextLaws.{next-within}
 use Rattle.spells.specs.declared.Running.{Running}
 use Rattle.spells.specs.declared.SpellMonth.{SpellMonth}
-use Rattle.spells.specs.Values.{SidesFit, FitsWithin}
+use Rattle.spells.specs.ValuesFit.{SidesFit, FitsWithin}
 use Rattle.spells.specs.Spells.{provisional, steadyMonth, abatingValues, abatingMonth, founded, unfounded, tried, noSpell, endingMonth, stepOf}
 use Rattle.ending.specs.Ending.{Ending, steady, ended, abating, turn, vOf, percentOf}
 use Rattle.spell_laws.specs.Months.{InForce, NoneInForce, endingIn, SpellIs, spell-is, x1Of, x2Of, Shows}

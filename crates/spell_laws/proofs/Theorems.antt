@@ -17,7 +17,7 @@ use Rattle.spells.specs.declared.With.the-variants.{X1, X2, X3}
 use Rattle.spells.specs.declared.Decision.{Decision}
 use Rattle.spells.specs.declared.Decision.the-variants.{Nothing, Decides}
 use Rattle.spells.specs.declared.SpellMonth.{SpellMonth}
-use Rattle.spells.specs.Values.{FitsWithin, ValuesFit}
+use Rattle.spells.specs.ValuesFit.{FitsWithin, ValuesFit}
 use Rattle.ending.specs.Ending.{Ending, steady, ended, abating, turn, vOf, qOf}
 use Rattle.ending.specs.Bounds.{mostV}
 use Rattle.spells.specs.Spells.{steadyMonth, abatingValues, abatingMonth, noSpell, endingMonth, stepOf}

@@ -13,7 +13,7 @@ use Rattle.outline.specs.Numbers.{mostX, mostZ}
 use Rattle.exact.proofs.Orders.{le-is, le-not, lt-is, lt-not}
 use Rattle.exact.proofs.Z.{zs-abs, is-Z, le-yes}
 use Rattle.exact.proofs.NextLaws.{next-within}
-use Rattle.spells.specs.Values.{SidesFit}
+use Rattle.spells.specs.ValuesFit.{SidesFit}
 use Rattle.spells.specs.Spells.{raised, lowered, isZero, largerInSize, provisional, founded, unfounded, tried, noSpell, endingMonth, inForce, stepOf}
 use Rattle.ending.specs.Ending.{Ending, steady, ended, abating, turn, uOf, vOf, eOf, endingOf}
 use Rattle.spells.specs.declared.Running.{Running}

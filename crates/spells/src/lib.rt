@@ -9,7 +9,7 @@ ghost use Prim.Native.Nat.{_≤_};
 ghost use lib.IntN.{natAbs};
 ghost use Rattle.exact.specs.Next.{nextOf};
 ghost use Rattle.outline.specs.Numbers.{mostX, mostZ};
-ghost use Rattle.spells.specs.Values.{SidesFit, ValuesFit};
+ghost use Rattle.spells.specs.ValuesFit.{SidesFit, ValuesFit};
 ghost use Rattle.spells.specs.Decisions.{withNumber, decisionNumber};
 ghost use Rattle.spells.specs.Spells.{raised, lowered, largerInSize, provisional, steadyMonth, abatingMonth, founded, unfounded, tried, noSpell, inForce, stepOf};
 

@@ -6,7 +6,7 @@ use mir.Syntax.{w32}
 use mir.Val.{SFits}
 use mir.Facts.{toZ-ofZ}
 use Rattle.exact.specs.Next.{nextOf}
-use Rattle.spells.specs.Values.{SidesFit}
+use Rattle.spells.specs.ValuesFit.{SidesFit}
 use Rattle.spells.specs.Spells.{raised, lowered, tried, noSpell}
 use Rattle.spells.proofs.Choices.{sides-kept}
 use Rattle.spells.proofs.no_spell.Statement.{statement}
