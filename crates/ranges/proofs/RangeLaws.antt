@@ -15,7 +15,8 @@ use lib.Signed.{leZ, nonNeg, _≤ℤ_}
 use mir.Syntax.{w32}
 use mir.Val.{Fits, SFits}
 use Rattle.exact.proofs.Z.{zs, zs-abs, is-Z, le-yes}
-use Rattle.ranges.specs.Ranges.{limitOf, constantFits, fiveFit, constantsFitTo, calendarFits}
+use Rattle.ranges.specs.Ranges.{limitOf, constantFits, constantsFitTo, calendarFits}
+use Rattle.ranges.specs.Five.{fiveFit}
 use Rattle.outline.specs.Numbers.{manyOfAMonth, lastMonth}
 use Rattle.outline.proofs.Tests.{first, second, both}
 

@@ -1,5 +1,5 @@
 -- Document 01, "Quantities": the ranges of the sixty constants and of the calendar, as tests. Assumes nothing.
-use Prim.Native.Nat.{ℕ, zero, suc, _+_, _%_}
+use Prim.Native.Nat.{ℕ, zero, suc, _%_}
 use mathlib.Core.Bool.{Bool, true, _&&_}
 use mathlib.Core.List.{List}
 use lib.IntN.{ℤ, pos}
@@ -20,10 +20,6 @@ limitOf (suc (suc (suc (suc n)))) = mostK
 -- the constant at place i is in its range
 unfoldable pub constantFits : List ℤ → ℕ → Bool
 constantFits l i = leZ (pos 0) (getD l i (pos 0)) && leZ (getD l i (pos 0)) (pos (limitOf (i % manyOfAMonth)))
-
--- so are a month's five, from place k on
-unfoldable pub fiveFit : List ℤ → ℕ → Bool
-fiveFit l k = constantFits l k && constantFits l (k + 1) && constantFits l (k + 2) && constantFits l (k + 3) && constantFits l (k + 4)
 
 -- so are all below place k
 unfoldable pub constantsFitTo : List ℤ → ℕ → Bool

@@ -14,7 +14,8 @@ ghost use lib.Signed.{_≤ℤ_, leZ};
 ghost use lib.Dec.{leb};
 ghost use lib.ListN.{length};
 ghost use Rattle.outline.specs.Numbers.{manyConstants, manyOfAMonth, lengthFits, zFits};
-ghost use Rattle.ranges.specs.Ranges.{limitOf, constantFits, fiveFit, constantsFit, calendarFits};
+ghost use Rattle.ranges.specs.Ranges.{limitOf, constantFits, constantsFit, calendarFits};
+ghost use Rattle.ranges.specs.Five.{fiveFit};
 
 // The most of alpha, beta and delta, of gamma, and of K.
 const MOST_SHARE: u32 = 10_000;

@@ -1,6 +1,6 @@
 -- `ranges::five_fit` meets its contract: the month's five places in turn. Assumes nothing.
 use borrow.Author.Needs.{needs}
-use Rattle.ranges.specs.Ranges.{fiveFit}
+use Rattle.ranges.specs.Five.{fiveFit}
 use Rattle.outline.proofs.Tests.{fails, passes}
 use Rattle.ranges.proofs.five_fit.Statement.{statement}
 use Rattle.ranges.proofs.five_fit.Tie as tie
