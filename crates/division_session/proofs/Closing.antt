@@ -6,7 +6,7 @@ use borrow.Author.Tests.{ne-eqb}
 use Rattle.fields.specs.Refusals.{another}
 use Rattle.layout.specs.Rainfall.{yearSaid}
 use Rattle.layout.specs.declared.Year.{Year}
-use Rattle.rows.specs.Text.{laid}
+use Rattle.rows.specs.Room.{laid}
 use Rattle.division_session.specs.ByLines.{expected}
 use Rattle.division_session.specs.Session.{closed, rowText, withRow, passed, stopped, closedBy, closedWith, lineClosed}
 use Rattle.division_session.specs.declared.Session.{Session}

@@ -24,7 +24,8 @@ use Rattle.layout_months.proofs.Months.{months-twelve}
 use Rattle.layout_heading.specs.Heading.{headed}
 use Rattle.layout.specs.Rainfall.{isLine, rainFits, isNamed, isYear, refusal, yearSaid}
 use Rattle.layout.proofs.Refusals.{number-is}
-use Rattle.rows.specs.Text.{numeral, monthText, monthsText, yearText, laid, mostYear}
+use Rattle.rows.specs.Text.{numeral, monthText, monthsText, yearText}
+use Rattle.rows.specs.Room.{laid, mostYear}
 use Rattle.rows.proofs.Digits.{numeral-length}
 use Rattle.division_session.specs.ByLines.{expected}
 use Rattle.division_session.specs.Session.{Held, mostYears, Closed, closed, rowText, closedBy, lineClosed, lastClosed}

@@ -12,7 +12,8 @@ use Rattle.fields.specs.Refusals.{another}
 use Rattle.layout.specs.Rainfall.{yearSaid}
 use Rattle.layout.specs.declared.Year.{Year}
 use Rattle.kept_line.specs.Kept.{mostKept}
-use Rattle.rows.specs.Text.{yearText, laid, mostYear}
+use Rattle.rows.specs.Text.{yearText}
+use Rattle.rows.specs.Room.{laid, mostYear}
 use Rattle.division_session.specs.ByLines.{counted, expected}
 use Rattle.division_session.specs.declared.Session.{Session}
 

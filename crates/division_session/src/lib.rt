@@ -9,7 +9,7 @@ use layout::Year;
 ghost use mathlib.Core.Path.{_≡_};
 ghost use Prim.Native.Nat.{_+_, _≤_, _<_};
 ghost use lib.ListN.{length, take};
-ghost use Rattle.rows.specs.Text.{laid, mostYear};
+ghost use Rattle.rows.specs.Room.{laid, mostYear};
 ghost use Rattle.division_session.specs.ByLines.{counted, expected};
 ghost use Rattle.division_session.specs.Session.{begun, mostYears, Held, closed, rowText, withRow, passed, stopped, lineClosed, lastClosed, noneFound};
 

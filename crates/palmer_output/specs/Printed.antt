@@ -4,7 +4,7 @@ use Prim.Native.Nat.{ℕ, _+_, _*_, min}
 use mathlib.Core.List.{List}
 use lib.ListN.{getD}
 use Rattle.outline.specs.Numbers.{mostMonths}
-use Rattle.rows.specs.Text.{mostRow}
+use Rattle.rows.specs.Room.{mostRow}
 use Rattle.rows.specs.declared.Row.{Row}
 use Rattle.runs.specs.declared.Run.{Run}
 use Rattle.refusals.specs.Columns.{Columns}

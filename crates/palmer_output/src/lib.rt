@@ -7,7 +7,8 @@ ghost use Prim.Native.Nat.{_+_, _≤_, _<_};
 ghost use mathlib.Core.Path.{_≡_};
 ghost use lib.ListN.{length};
 ghost use Rattle.refusals.specs.Columns.{columns};
-ghost use Rattle.rows.specs.Text.{rowText, laid, mostRow};
+ghost use Rattle.rows.specs.Text.{rowText};
+ghost use Rattle.rows.specs.Room.{laid, mostRow};
 ghost use Rattle.palmer_output.specs.Printed.{percentAt, rowAt, lineAfter, room};
 
 // What a row needs at most, and all rows.

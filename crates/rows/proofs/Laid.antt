@@ -7,7 +7,7 @@ use native.Mathlib.Numerals.{add-one}
 use native.Mathlib.Omega.{arith}
 use lib.ListN.{length, take, drop, set, length-append, take-append-drop}
 use lib.Seq.{take-at, drop-at, drop-drop, set-split, append-snoc, length-take-le}
-use Rattle.rows.specs.Text.{laid}
+use Rattle.rows.specs.Room.{laid}
 
 -- what a function that puts a text says: r is where it ends, and q the list that was o
 abbrev pub Put : List ℕ → ℕ → List ℕ → ℕ → List ℕ → Type 0

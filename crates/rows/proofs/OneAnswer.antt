@@ -4,7 +4,8 @@ use mathlib.Core.Path.{_≡_, sym, _∙_}
 use mathlib.Core.List.{List}
 use Prim.Native.Nat.{ℕ, _+_, _≤_}
 use lib.ListN.{length}
-use Rattle.rows.specs.Text.{rowText, refusedText, yearText, laid, mostRow, mostYear}
+use Rattle.rows.specs.Text.{rowText, refusedText, yearText}
+use Rattle.rows.specs.Room.{laid, mostRow, mostYear}
 use Rattle.rows.specs.declared.Row.{Row}
 
 -- the promise of a call that lays a text of so many bytes at most out: it answers r, and leaves q in the list that was o

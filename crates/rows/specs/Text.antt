@@ -4,7 +4,6 @@ use Prim.Native.Nat.{ℕ, zero, suc, _+_, _/_, _%_}
 use mathlib.Core.Bool.{cond}
 use mathlib.Core.List.{List, [], _∷_, _++_}
 use lib.IntN.{ℤ, pos, negsuc}
-use lib.ListN.{length, take, drop}
 use lib.Dec.{ltb, eqb}
 use Rattle.text.specs.Bytes.{space, lineFeed, minusSign, digitZero}
 use Rattle.rows.specs.declared.Row.{Row}
@@ -59,15 +58,3 @@ monthsText (a ∷ rest) set = (space ∷ monthText a (set % 2)) ++ monthsText re
 -- "year, twelve amounts or a dash, months present"
 unfoldable pub yearText : ℕ → List ℕ → ℕ → ℕ → List ℕ
 yearText year amounts set count = numeral year ++ monthsText amounts set ++ (space ∷ numeral count) ++ (lineFeed ∷ [])
-
--- a list in which the bytes from a place on are these, and all others as they were
-abbrev pub laid : List ℕ → ℕ → List ℕ → List ℕ
-laid text at out = take at out ++ text ++ drop (at + length text) out
-
--- the bytes that a row can have: ten digits of a u32, and a sign with ten digits of an i32, so 10 + 12 + 12 + 12 + 11 + 12 + 3
-abbrev pub mostRow : ℕ
-mostRow = 72
-
--- the bytes that a year's row can have: 10 + 12 * 11 + 11 + 1
-abbrev pub mostYear : ℕ
-mostYear = 154

@@ -10,7 +10,8 @@ ghost use mathlib.Core.List.{[], _∷_};
 ghost use lib.ListN.{length};
 ghost use Rattle.outline.specs.Numbers.{lastMonth};
 ghost use Rattle.text.specs.Bytes.{space, lineFeed};
-ghost use Rattle.rows.specs.Text.{numeral, integer, letter, rowText, refusedText, monthText, monthsText, yearText, laid, mostRow, mostYear};
+ghost use Rattle.rows.specs.Text.{numeral, integer, letter, rowText, refusedText, monthText, monthsText, yearText};
+ghost use Rattle.rows.specs.Room.{laid, mostRow, mostYear};
 
 // A month's row.
 pub struct Row {

@@ -6,7 +6,8 @@ use denote.Ref.{now}
 use mir.Syntax.{w32}
 use mir.Val.{SFits}
 use mir.Facts.{toZ-ofZ}
-use Rattle.rows.specs.Text.{rowText, laid}
+use Rattle.rows.specs.Text.{rowText}
+use Rattle.rows.specs.Room.{laid}
 use Rattle.palmer_output.specs.Printed.{rowAt, rowOf}
 use borrow.Author.Needs.{needs}
 use Rattle.palmer_output.proofs.put_row.Statement.{statement}

@@ -8,7 +8,8 @@ use native.Mathlib.Omega.{arith}
 use lib.ListN.{length, drop, getD, drop-of-length-le}
 use lib.Seq.{drop-cons}
 use Rattle.text.specs.Bytes.{space}
-use Rattle.rows.specs.Text.{monthText, monthsText, laid}
+use Rattle.rows.specs.Text.{monthText, monthsText}
+use Rattle.rows.specs.Room.{laid}
 use Rattle.rows.proofs.Laid.{Put, put-then, put-none}
 use Rattle.rows.proofs.put_months.Statement.{statement}
 use Rattle.rows.proofs.put_months.Tie as tie
