@@ -14,7 +14,7 @@ use Rattle.spells.specs.declared.Running.{Running}
 use Rattle.spells.specs.declared.SpellMonth.{SpellMonth}
 use Rattle.hindsight.specs.Rule.{Row}
 use Rattle.hindsight.specs.Adding.{addAs, addMonth, settledAs, settledCount, History}
-use Rattle.hindsight.specs.Columns.{rowOf, Adds}
+use Rattle.hindsight.specs.Coded.{rowOf, Adds}
 use Rattle.spells.specs.Decisions.{decisionNumber}
 use Rattle.hindsight.specs.Months.{rowFor}
 use Rattle.hindsight.proofs.Numbers.{number-is}

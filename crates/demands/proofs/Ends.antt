@@ -17,7 +17,7 @@ use Rattle.ending.specs.Ending.{turn, uOf, vOf, eOf, qOf, endingOf, percentOf}
 use Rattle.spells.specs.declared.Running.{Running}
 use Rattle.spell_laws.specs.Reached.{Reached}
 use Rattle.spell_laws.proofs.Reached.{fresh-reached, dry-over, wet-over}
-use Rattle.hindsight.specs.Columns.{stateOf}
+use Rattle.hindsight.specs.Coded.{stateOf}
 use Rattle.hindsight.specs.Months.{nextValues}
 use Rattle.refusals.specs.Columns.{long, columnsFit}
 use Rattle.adding.specs.declared.Figures.{Figures}

@@ -23,7 +23,7 @@ use Rattle.spell_laws.proofs.Reached.{fresh-reached, step-reached}
 use Rattle.hindsight.specs.Rule.{Row, Shown, markOf, indexOf, forward, forwardAll, forwardIndexes, forwardMarks}
 use Rattle.hindsight.proofs.Forward.{getD-map, getD-forwardAll}
 use Rattle.hindsight.specs.Adding.{History, addAll}
-use Rattle.hindsight.specs.Columns.{stateOf}
+use Rattle.hindsight.specs.Coded.{stateOf}
 use Rattle.hindsight.specs.Months.{nextValues, rowsOfZ}
 use Rattle.hindsight_laws.specs.Counts.{count}
 use Rattle.hindsight_laws.proofs.Hindsight.{opens-counts}

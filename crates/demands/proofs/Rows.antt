@@ -6,7 +6,8 @@ use native.Mathlib.Nat.{not-suc-le-zero, le-of-suc-le-suc}
 use native.Mathlib.Omega.{arith}
 use lib.ListN.{length, getD}
 use Rattle.hindsight.specs.Rule.{X, Row}
-use Rattle.hindsight.specs.Columns.{xsFrom, rowsOf, stateOf}
+use Rattle.hindsight.specs.Columns.{xsFrom, rowsOf}
+use Rattle.hindsight.specs.Coded.{stateOf}
 
 module _ {S Z : Type 0} (next : S → Z → S) (row : S → Z → Row) where
   -- as many as the months

@@ -9,7 +9,8 @@ use lib.IntN.{ℤ, pos}
 use lib.ListN.{length, getD}
 use lib.Seq.{getD-set-other}
 use Rattle.hindsight.specs.Adding.{addTo, History}
-use Rattle.hindsight.specs.Columns.{rowsOf, stateOf}
+use Rattle.hindsight.specs.Columns.{rowsOf}
+use Rattle.hindsight.specs.Coded.{stateOf}
 use Rattle.spell_laws.specs.Reached.{Reached}
 use Rattle.spell_laws.proofs.Reached.{step-reached}
 use Rattle.runs.specs.declared.Run.{Run}

@@ -19,7 +19,8 @@ use Rattle.spells.specs.Spells.{stepOf}
 use Rattle.hindsight.specs.Rule.{X, Row, forward}
 use Rattle.hindsight_laws.specs.Counts.{NoneFrom, count}
 use Rattle.hindsight.specs.Adding.{addAll, addTo, addMonth, settledCount, History, fresh as nothing-held}
-use Rattle.hindsight.specs.Columns.{xAt, rowsOf, stateOf as stateAfter}
+use Rattle.hindsight.specs.Columns.{xAt, rowsOf}
+use Rattle.hindsight.specs.Coded.{stateOf as stateAfter}
 use Rattle.hindsight.proofs.Forward.{getD-map}
 use Rattle.hindsight_laws.proofs.Hindsight.{xOf, every-index, every-mark, open-exactly, settled-stays, last-are-open, opens-counts, answers-settled, add-append}
 use Rattle.hindsight_laws.proofs.Adds.{past-all}

@@ -20,7 +20,7 @@ use Rattle.spells.specs.Spells.{raised, lowered, largerInSize, provisional, ste
 use Rattle.ending.specs.Ending.{turn, uOf, vOf, eOf, qOf, endingOf, percentOf}
 use Rattle.spell_laws.specs.Months.{NoneInForce, NoSpell, none, x2Of}
 use Rattle.hindsight.specs.Rule.{Shown}
-use Rattle.hindsight.specs.Columns.{stateOf}
+use Rattle.hindsight.specs.Coded.{stateOf}
 use Rattle.hindsight.specs.Months.{nextValues}
 use Rattle.ranges.specs.Ranges.{limitOf, constantFits, constantsFitTo, calendarFits}
 use Rattle.calendar.specs.Calendar.{constantsAt, zeroKWithin, nextCalendar}

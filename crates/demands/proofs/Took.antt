@@ -13,7 +13,8 @@ use Rattle.door.proofs.Bounds.{reading-most, inches-most}
 use Rattle.water.specs.Layers.{SoilFits}
 use Rattle.spells.specs.Spells.{stepOf}
 use Rattle.hindsight.specs.Rule.{Row}
-use Rattle.hindsight.specs.Columns.{historyIn, rowOf}
+use Rattle.hindsight.specs.Columns.{historyIn}
+use Rattle.hindsight.specs.Coded.{rowOf}
 use Rattle.hindsight.specs.Adding.{addMonth, settledCount}
 use Rattle.spells.specs.Decisions.{decisionNumber}
 use Rattle.hindsight_laws.proofs.Adds.{adds-run}

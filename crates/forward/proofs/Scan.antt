@@ -10,7 +10,8 @@ use lib.IntN.{ℤ}
 use Rattle.spells.specs.declared.With.{With}
 use Rattle.spells.specs.declared.Decision.the-variants.{Nothing, Decides}
 use Rattle.hindsight.specs.Rule.{X, Row, Side, nonzero, oneOf, sideFrom, nobody, after, oneEarlier, deciding, Shown}
-use Rattle.hindsight.specs.Columns.{xsFrom, sideOf, sideNumber, rowsFrom}
+use Rattle.hindsight.specs.Columns.{xsFrom}
+use Rattle.hindsight.specs.Coded.{sideOf, sideNumber, rowsFrom}
 
 -- a mark and an index are those that are shown
 pub record Says (s : Shown) (mark : ℕ) (index : ℤ) : Type 0 where

@@ -8,7 +8,8 @@ use lib.IntN.{ℤ, pos}
 use lib.ListN.{length, take, drop, set, getD, length-map, drop-of-length-le, length-set}
 use lib.Seq.{take-all}
 use Rattle.hindsight.specs.Rule.{Row, sideFrom, after, deciding, shownBy, forward, forwardAll, forwardIndexes, forwardMarks, indexOf, markOf}
-use Rattle.hindsight.specs.Columns.{xsFrom, withOf, sideOf, valueBy, decisionOf, rowsFrom}
+use Rattle.hindsight.specs.Columns.{xsFrom}
+use Rattle.hindsight.specs.Coded.{withOf, sideOf, valueBy, decisionOf, rowsFrom}
 use Rattle.hindsight.proofs.Forward.{getD-forwardAll, getD-map, length-forwardAll}
 use Rattle.forward.proofs.Scan.{Says, Scanning, xs-cons, scan-out, scan-found}
 use Rattle.hindsight.proofs.Numbers.{decision-some}

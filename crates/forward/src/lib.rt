@@ -6,7 +6,7 @@ ghost use mathlib.Core.Path.{_≡_};
 ghost use Prim.Native.Nat.{_+_, _-_};
 ghost use lib.ListN.{length};
 ghost use Rattle.hindsight.specs.Rule.{forwardIndexes, forwardMarks};
-ghost use Rattle.hindsight.specs.Columns.{rowAt, rowsFrom};
+ghost use Rattle.hindsight.specs.Coded.{rowAt, rowsFrom};
 
 // The later of two places: b - a is 0 where b is not after a.
 fn later(a: usize, b: usize) -> usize

@@ -8,7 +8,8 @@ use lib.IntN.{ℤ}
 use lib.ListN.{length, take, drop, set, replicate, take-append-drop, length-set}
 use Rattle.hindsight.specs.Rule.{X, nonzero, sideFrom, settledIndex}
 use Rattle.hindsight.specs.Adding.{settledAll}
-use Rattle.hindsight.specs.Columns.{xsFrom, withOf, sideOf, sideNumber, valueBy}
+use Rattle.hindsight.specs.Columns.{xsFrom}
+use Rattle.hindsight.specs.Coded.{withOf, sideOf, sideNumber, valueBy}
 use Rattle.hindsight.proofs.Numbers.{told-side}
 
 -- a store right before what is written already

@@ -10,7 +10,7 @@ use Rattle.spells.specs.declared.With.the-variants.{X1, X2, X3}
 use Rattle.hindsight.specs.Rule.{second, nonzero, oneOf}
 use Rattle.spells.specs.declared.Decision.{Decision}
 use Rattle.spells.specs.declared.Decision.the-variants.{Nothing, Decides}
-use Rattle.hindsight.specs.Columns.{withOf, sideOf, sideNumber, decisionOf}
+use Rattle.hindsight.specs.Coded.{withOf, sideOf, sideNumber, decisionOf}
 use Rattle.hindsight.specs.Months.{markFor}
 use Rattle.spells.specs.Decisions.{decisionNumber}
 

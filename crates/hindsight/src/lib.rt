@@ -8,7 +8,8 @@ ghost use Prim.Native.Nat.{_-_, _≤_};
 ghost use lib.ListN.{length, take, drop, replicate};
 ghost use Rattle.hindsight.specs.Rule.{nonzero};
 ghost use Rattle.hindsight.specs.Adding.{settledAll};
-ghost use Rattle.hindsight.specs.Columns.{xAt, xsFrom, withOf, sideOf, sideNumber, valueBy};
+ghost use Rattle.hindsight.specs.Columns.{xAt, xsFrom};
+ghost use Rattle.hindsight.specs.Coded.{withOf, sideOf, sideNumber, valueBy};
 
 // The side that a month gives, if exactly one of its X1 and X2 is not 0, else the side that is passed.
 pub fn told(a: i32, b: i32, side: u8) -> u8

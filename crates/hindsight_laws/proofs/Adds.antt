@@ -11,7 +11,8 @@ use Rattle.spells.specs.declared.Decision.{Decision}
 use Rattle.spells.specs.declared.Decision.the-variants.{Nothing, Decides}
 use Rattle.hindsight.specs.Rule.{X, Row, forwardIndexes, forwardMarks}
 use Rattle.hindsight.specs.Adding.{History, fresh, addAll, addAs, addMonth, addTo}
-use Rattle.hindsight.specs.Columns.{xAt, xsFrom, decisionOf, historyIn, rowOf, Adds}
+use Rattle.hindsight.specs.Columns.{xAt, xsFrom, historyIn}
+use Rattle.hindsight.specs.Coded.{decisionOf, rowOf, Adds}
 use Rattle.history.proofs.Adding.{xs-same, earlier-same}
 use Rattle.hindsight_laws.proofs.Hindsight.{xOf, inv, index-columns, mark-columns, add-append}
 

@@ -5,7 +5,8 @@ use Prim.Native.Nat.{ℕ}
 use lib.IntN.{ℤ}
 use Rattle.hindsight.specs.Rule.{Row}
 use Rattle.hindsight.specs.Adding.{History, fresh, addMonth, addTo, addAll}
-use Rattle.hindsight.specs.Columns.{Adds, rowsOf}
+use Rattle.hindsight.specs.Columns.{rowsOf}
+use Rattle.hindsight.specs.Coded.{Adds}
 
 -- months Z that a step with a state S turns into rows, one after another: adding them singly is adding the list of their rows,
 -- so every theorem on `addAll` holds of them

@@ -7,7 +7,8 @@ use lib.IntN.{ℤ, pos}
 use lib.ListN.{length, take, set, getD, length-set}
 use lib.Seq.{take-suc, take-all, getD-set-other, getD-set-same, getD-take, length-take-le}
 use Rattle.hindsight.specs.Rule.{Row}
-use Rattle.hindsight.specs.Columns.{rowAt, rowsFrom, rowOf, rowsOf, stateOf}
+use Rattle.hindsight.specs.Columns.{rowsOf}
+use Rattle.hindsight.specs.Coded.{rowAt, rowsFrom, rowOf, stateOf}
 
 rows-same : (f g : ℕ → Row) (i n : ℕ) → ((j : ℕ) → j < i + n → f j ≡ g j) → rowsFrom f i n ≡ rowsFrom g i n
 rows-same f g i zero e = refl

@@ -9,7 +9,8 @@ use lib.ListN.{length, take, drop, set, replicate}
 use lib.Seq.{set-split, take-set-le, take-take, getD-set-other}
 use Rattle.hindsight.specs.Rule.{X}
 use Rattle.hindsight.specs.Adding.{settledAll, kept}
-use Rattle.hindsight.specs.Columns.{xAt, xsFrom, withOf, historyIn, rowOf, Adds}
+use Rattle.hindsight.specs.Columns.{xAt, xsFrom, historyIn}
+use Rattle.hindsight.specs.Coded.{withOf, rowOf, Adds}
 use Rattle.hindsight.proofs.Numbers.{decision-zero, decision-some}
 
 -- the months of places

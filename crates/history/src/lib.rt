@@ -6,7 +6,8 @@ ghost use mathlib.Core.Path.{_≡_};
 ghost use Prim.Native.Nat.{_≤_, _<_};
 ghost use lib.ListN.{length, set};
 ghost use Rattle.hindsight.specs.Months.{markFor};
-ghost use Rattle.hindsight.specs.Columns.{decisionOf, historyIn, rowOf, Adds};
+ghost use Rattle.hindsight.specs.Columns.{historyIn};
+ghost use Rattle.hindsight.specs.Coded.{decisionOf, rowOf, Adds};
 
 // What an add answers: how many months are open now, how many it settled, and the mark of the month that it added.
 pub struct Added {

@@ -18,7 +18,7 @@ use Rattle.outline.specs.Numbers.{mostU, mostMonths}
 use Rattle.spells.specs.Spells.{stepOf}
 use Rattle.spell_laws.proofs.Theorems.{values-kept, fits-in}
 use Rattle.hindsight.specs.Rule.{Row, forwardIndexes, forwardMarks}
-use Rattle.hindsight.specs.Columns.{rowAt, rowsFrom}
+use Rattle.hindsight.specs.Coded.{rowAt, rowsFrom}
 use Rattle.spells.specs.Decisions.{decisionNumber}
 use Rattle.hindsight.specs.Months.{nextValues, rowOfZ, rowsOfZ}
 use Rattle.hindsight.proofs.Numbers.{number-is}

@@ -8,7 +8,7 @@ use mir.Val.{SFits}
 use mir.Facts.{toZ-ofZ}
 use denote.Ref.{now}
 use Rattle.exact.proofs.Held.{held}
-use Rattle.hindsight.specs.Columns.{rowOf, decisionOf}
+use Rattle.hindsight.specs.Coded.{rowOf, decisionOf}
 use Rattle.hindsight.specs.Months.{markFor}
 use Rattle.hindsight.proofs.Numbers.{mark-of}
 use Rattle.adding.specs.Taken.{heldIn}

@@ -11,7 +11,7 @@ use mir.Facts.{toZ-ofZ}
 use lib.ListN.{length, getD}
 use denote.Ref.{now}
 use Rattle.hindsight.specs.Rule.{Row, forward}
-use Rattle.hindsight.specs.Columns.{rowAt, rowsFrom, sideOf, withOf, valueBy}
+use Rattle.hindsight.specs.Coded.{rowAt, rowsFrom, sideOf, withOf, valueBy}
 use Rattle.forward.proofs.Scan.{side, Says, Passed, Scanning, passed-first, passed-next, scan-first, scan-next, side-next, side-found, side-out}
 use Rattle.hindsight.proofs.Numbers.{decision-zero}
 use Rattle.forward.proofs.Series.{Filling, filling-first, filling-next, filling-all, says-open, says-own, says-settled}

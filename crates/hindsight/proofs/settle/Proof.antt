@@ -9,7 +9,8 @@ use mir.Val.{SFits}
 use mir.Facts.{toZ-ofZ}
 use lib.ListN.{getD}
 use denote.Ref.{now}
-use Rattle.hindsight.specs.Columns.{xAt, sideOf, withOf, sideNumber, valueBy}
+use Rattle.hindsight.specs.Columns.{xAt}
+use Rattle.hindsight.specs.Coded.{sideOf, withOf, sideNumber, valueBy}
 use Rattle.hindsight.specs.Rule.{nonzero}
 use Rattle.hindsight.proofs.Back.{Going, at-first, turn}
 use Rattle.hindsight.proofs.settle.Statement.{statement}
