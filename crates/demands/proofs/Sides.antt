@@ -11,7 +11,7 @@ use lib.IntN.{ℤ, pos, negsuc, negℤ}
 use Rattle.spells.specs.declared.Running.{Running}
 use Rattle.spells.specs.declared.With.{With}
 use Rattle.spells.specs.declared.With.the-variants.{X1, X2, X3}
-use Rattle.spell_laws.specs.Mirror.{mirrorWith}
+use Rattle.spell_laws.specs.Uneven.{mirrorWith}
 use Rattle.hindsight.specs.Rule.{X, Side, first, second, nonzero, oneOf, sideFrom, valueOn, settledIndex}
 use Rattle.demands.specs.Mirror.{mirrorX}
 

@@ -18,7 +18,8 @@ use Rattle.spells.specs.declared.Decision.the-variants.{Decides}
 use Rattle.spells.specs.Values.{fresh}
 use Rattle.spells.specs.Spells.{raised, lowered, largerInSize, provisional, steadyMonth, abatingValues, abatingMonth, founded, unfounded, tried, noSpell, endingMonth, inForce, stepOf}
 use Rattle.ending.specs.Ending.{turn, uOf, vOf, eOf, qOf, endingOf, percentOf}
-use Rattle.spell_laws.specs.Months.{NoneInForce, NoSpell, none, x2Of}
+use Rattle.spell_laws.specs.Months.{x2Of}
+use Rattle.spell_laws.specs.Cases.{NoneInForce, NoSpell, none}
 use Rattle.hindsight.specs.Rule.{Shown}
 use Rattle.hindsight.specs.Coded.{stateOf}
 use Rattle.hindsight.specs.Months.{nextValues}

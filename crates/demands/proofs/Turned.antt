@@ -19,7 +19,8 @@ use Rattle.spells.specs.declared.Decision.the-variants.{Nothing, Decides}
 use Rattle.spells.specs.declared.SpellMonth.{SpellMonth}
 use Rattle.spells.specs.Spells.{largerInSize, provisional, stepOf}
 use Rattle.spells.proofs.Choices.{zero-is}
-use Rattle.spell_laws.specs.Mirror.{mirror, mirrorWith, mirrorDecision, BothZero, TiedValues}
+use Rattle.spell_laws.specs.Mirror.{mirror}
+use Rattle.spell_laws.specs.Uneven.{mirrorWith, mirrorDecision, BothZero, TiedValues}
 use Rattle.spell_laws.specs.Reached.{Reached}
 use Rattle.spell_laws.proofs.Cases.{decides-some}
 use Rattle.spell_laws.proofs.Theorems.{decides-nothing}

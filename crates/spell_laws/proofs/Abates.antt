@@ -12,7 +12,7 @@ use Rattle.exact.proofs.NextLaws.{sum, next-near, next-odd}
 use Rattle.exact.proofs.Z.{zs, is-Z, le-no}
 use Rattle.spells.specs.declared.Running.{Running}
 use Rattle.ending.specs.Ending.{steady, ended, abating, turn, uOf, vOf, eOf, qOf, endingOf}
-use Rattle.spell_laws.specs.Months.{endingIn}
+use Rattle.spell_laws.specs.Cases.{endingIn}
 
 -- turning the signs
 pub turn-next : (wet : Bool) (x z : ℤ) → nextOf (turn wet x) (turn wet z) ≡ turn wet (nextOf x z)

@@ -14,7 +14,7 @@ use Rattle.spells.specs.declared.Decision.the-variants.{Nothing, Decides}
 use Rattle.spells.specs.declared.SpellMonth.{SpellMonth}
 use Rattle.spells.specs.Spells.{largerInSize, founded, unfounded, tried, noSpell, endingMonth, inForce, stepOf}
 use Rattle.ending.specs.Ending.{Ending, turn}
-use Rattle.spell_laws.specs.Months.{InForce, NoneInForce, endingIn}
+use Rattle.spell_laws.specs.Cases.{InForce, NoneInForce, endingIn}
 use Rattle.spells.proofs.Choices.{tried-first, tried-second, tried-x1, tried-x2, tried-open, step-drought, step-wet, step-none}
 
 -- a number is 0, or it is not

@@ -24,8 +24,10 @@ use Rattle.spells.specs.Values.{fresh}
 use Rattle.spells.specs.ValuesFit.{FitsWithin, ValuesFit}
 use Rattle.spells.specs.Spells.{raised, lowered, largerInSize, steadyMonth, abatingValues, abatingMonth, founded, unfounded, tried, noSpell, endingMonth, stepOf}
 use Rattle.ending.specs.Ending.{Ending, steady, ended, abating, turn, vOf}
-use Rattle.spell_laws.specs.Months.{InForce, NoneInForce, endingIn, spell-is, NoSpell, none, just-ended, x1Of, x2Of}
-use Rattle.spell_laws.specs.Mirror.{mirror, mirrorDecision, mirrorMonth, BothFound, BothZero, Tied, TiedValues}
+use Rattle.spell_laws.specs.Months.{x1Of, x2Of}
+use Rattle.spell_laws.specs.Cases.{InForce, NoneInForce, endingIn, spell-is, NoSpell, none, just-ended}
+use Rattle.spell_laws.specs.Mirror.{mirror}
+use Rattle.spell_laws.specs.Uneven.{mirrorDecision, mirrorMonth, BothFound, BothZero, Tied, TiedValues}
 use Rattle.spells.proofs.Choices.{same-values, raised-fits, lowered-fits, tried-first, tried-second, tried-x1, tried-x2, tried-open, step-none, provisional-x3}
 use Rattle.spell_laws.proofs.Cases.{by-zero, by-order, by-tried, by-month, step-ending}
 use Rattle.spell_laws.proofs.Abates.{abating-some}

@@ -14,7 +14,8 @@ use Rattle.spells.specs.declared.SpellMonth.{SpellMonth}
 use Rattle.spells.specs.ValuesFit.{SidesFit, FitsWithin}
 use Rattle.spells.specs.Spells.{provisional, steadyMonth, abatingValues, abatingMonth, founded, unfounded, tried, noSpell, endingMonth, stepOf}
 use Rattle.ending.specs.Ending.{Ending, steady, ended, abating, turn, vOf, percentOf}
-use Rattle.spell_laws.specs.Months.{InForce, NoneInForce, endingIn, SpellIs, spell-is, x1Of, x2Of, Shows}
+use Rattle.spell_laws.specs.Months.{x1Of, x2Of}
+use Rattle.spell_laws.specs.Cases.{InForce, NoneInForce, endingIn, SpellIs, spell-is, Shows}
 use Rattle.spells.proofs.Choices.{sides-kept, larger-within, provisional-x3}
 use Rattle.ending.proofs.Rooms.{turn-size}
 use Rattle.spell_laws.proofs.Cases.{by-tried, by-month, step-ending}

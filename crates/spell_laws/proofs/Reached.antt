@@ -19,8 +19,10 @@ use Rattle.spells.specs.Values.{fresh}
 use Rattle.spells.specs.Spells.{raised, lowered, steadyMonth, abatingValues, abatingMonth, founded, unfounded, tried, noSpell, endingMonth, stepOf}
 use Rattle.spells.proofs.Choices.{same-values, raised-kept, raised-off, lowered-kept, lowered-off}
 use Rattle.ending.specs.Ending.{Ending, steady, ended, abating, turn, uOf, vOf, eOf, endingOf}
-use Rattle.spell_laws.specs.Months.{InForce, endingIn, SpellIs, spell-is, NoSpell, none, just-ended, x1Of, x2Of}
-use Rattle.spell_laws.specs.Mirror.{mirror, BothFound}
+use Rattle.spell_laws.specs.Months.{x1Of, x2Of}
+use Rattle.spell_laws.specs.Cases.{InForce, endingIn, SpellIs, spell-is, NoSpell, none, just-ended}
+use Rattle.spell_laws.specs.Mirror.{mirror}
+use Rattle.spell_laws.specs.Uneven.{BothFound}
 use Rattle.spell_laws.specs.Reached.{Reached}
 use Rattle.spell_laws.proofs.Cases.{decides-some, by-order, by-tried, by-month, step-ending}
 use Rattle.spell_laws.proofs.Abates.{abating-x3}

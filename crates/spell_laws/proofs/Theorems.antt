@@ -21,7 +21,8 @@ use Rattle.spells.specs.ValuesFit.{FitsWithin, ValuesFit}
 use Rattle.ending.specs.Ending.{Ending, steady, ended, abating, turn, vOf, qOf}
 use Rattle.ending.specs.Bounds.{mostV}
 use Rattle.spells.specs.Spells.{steadyMonth, abatingValues, abatingMonth, noSpell, endingMonth, stepOf}
-use Rattle.spell_laws.specs.Months.{InForce, endingIn, SpellIs, spell-is, x1Of, x2Of, Shows}
+use Rattle.spell_laws.specs.Months.{x1Of, x2Of}
+use Rattle.spell_laws.specs.Cases.{InForce, endingIn, SpellIs, spell-is, Shows}
 use Rattle.spell_laws.proofs.Cases.{by-month, step-ending}
 use Rattle.spell_laws.proofs.Parts.{tried-kept, tried-index, month-sides, spell-kept, spell-index, percent-tells, spell-percent, tried-shows, spell-shows}
 use Rattle.spell_laws.proofs.Abates.{abating-x3, abating-v, q-above}

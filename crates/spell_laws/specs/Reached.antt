@@ -5,7 +5,7 @@ use lib.IntN.{ℤ, pos, negℤ}
 use lib.Signed.{_≤ℤ_, _<ℤ_}
 use Rattle.outline.specs.Numbers.{foundsFrom}
 use Rattle.spells.specs.declared.Running.{Running}
-use Rattle.spell_laws.specs.Months.{InForce, NoneInForce}
+use Rattle.spell_laws.specs.Cases.{InForce, NoneInForce}
 
 pub record Reached (s : Running) : Type 0 where
   pub x1-sign : pos 0 ≤ℤ s .x1
