@@ -1,5 +1,5 @@
--- What the contracts of `lines` cite: what a line says (Line), how far a line that is being read has come (Reading), and where a line that is
--- no whole number is at fault (Fault).
+-- What must be believed: what a line says (Line), and where a line that is no whole number is at fault (Fault).
 pub mod Line
-pub mod Reading
 pub mod Fault
+-- What only a proof wants: a line that is read byte by byte (Reading).
+pub mod Reading

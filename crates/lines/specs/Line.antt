@@ -8,6 +8,7 @@ use lib.IntN.{ℤ, pos, negℤ}
 use Rattle.outline.specs.Refusals.{badZ, notANumber}
 use Rattle.text.specs.Bytes.{allDigits, negative, body, natural}
 use Rattle.outline.specs.Numbers.{zFits}
+use Rattle.lines.specs.declared.Line.{Line}
 
 -- ---- "an optional minus and one or more digits"
 unfoldable pub oneOrMore : List ℕ → Bool
@@ -43,3 +44,7 @@ ranged v = cond (zFits v) (accepted v) (refused badZ)
 
 unfoldable pub judged : List ℕ → Judged
 judged line = cond (wellFormed line) (ranged (value line)) (refused notANumber)
+
+-- ---- a line of which nothing has come, as the code holds it
+abbrev pub begun : Line
+begun = record { minus = false; digits = false; spoiled = false; size = 0 }

@@ -1,6 +1,6 @@
--- A line that is read byte by byte: `begun` before its first byte, `fed` after one byte more, and what is `finished` where it ends. A size
--- beyond the range is held one above it, so a line of any length is judged within fixed memory. That this gives what `judged` says of the
--- whole line is `streamed`, proofs/Lines.antt. Assumes nothing.
+-- A proof's vocabulary, which contracts cite: a line that is read byte by byte, `begun` (Line.antt) before its first byte, `fed` after one
+-- byte more, and what is `finished` where it ends. A size beyond the range is held one above it, so a line of any length is judged within
+-- fixed memory. That this gives what `judged` says of the whole line is `streamed`, proofs/Lines.antt. Assumes nothing.
 use Prim.Native.Nat.{ℕ, _+_}
 use mathlib.Core.Bool.{Bool, true, false, cond, not, _&&_, _||_}
 use lib.Dec.{leb, eqb}
@@ -11,9 +11,6 @@ use Rattle.outline.specs.Refusals.{badZ, notANumber}
 use Rattle.lines.specs.declared.Line.{Line}
 use Rattle.lines.specs.declared.Read.{Read}
 use Rattle.lines.specs.declared.Read.the-variants.{Z, OutOfRange, NotANumber}
-
-abbrev pub begun : Line
-begun = record { minus = false; digits = false; spoiled = false; size = 0 }
 
 -- a size as it is kept
 unfoldable pub held : ℕ → ℕ

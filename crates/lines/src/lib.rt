@@ -6,7 +6,8 @@ use outline::MOST_Z;
 ghost use mathlib.Core.Path.{_≡_};
 ghost use mathlib.Core.Bool.{true};
 ghost use Rattle.text.specs.Bytes.{isDigit, andDigit};
-ghost use Rattle.lines.specs.Reading.{begun, held, opens, fed, finished, readOf};
+ghost use Rattle.lines.specs.Reading.{held, opens, fed, finished, readOf};
+ghost use Rattle.lines.specs.Line.{begun};
 ghost use Rattle.lines.specs.Fault.{signLength, spoiledAt};
 
 // A line so far. Its bytes are given one by one, without the line feed.

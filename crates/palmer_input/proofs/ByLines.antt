@@ -11,8 +11,8 @@ use Rattle.outline.proofs.Refusals.{is-done, is-refused}
 use Rattle.text.specs.Bytes.{lineFeed, isDigit}
 use Rattle.text.specs.Lines.{lastLine, cut, linesOf}
 use Rattle.runs.specs.declared.Run.{Run}
-use Rattle.lines.specs.Line.{Judged, judged}
-use Rattle.lines.specs.Reading.{begun, opens, fed}
+use Rattle.lines.specs.Line.{Judged, judged, begun}
+use Rattle.lines.specs.Reading.{opens, fed}
 use Rattle.lines.specs.declared.Line.{Line}
 use Rattle.lines.proofs.Lines.{streamed}
 use Rattle.refusals.specs.Columns.{Columns}

@@ -9,8 +9,8 @@ use lib.ListN.{set}
 use lib.Dec.{eqb}
 use Rattle.outline.specs.Refusals.{unlessRefused}
 use Rattle.text.specs.Bytes.{lineFeed}
-use Rattle.lines.specs.Line.{Judged}
-use Rattle.lines.specs.Reading.{begun, fed, finished}
+use Rattle.lines.specs.Line.{Judged, begun}
+use Rattle.lines.specs.Reading.{fed, finished}
 use Rattle.lines.specs.declared.Line.{Line}
 use Rattle.starts.specs.Start.{runForZ}
 use Rattle.runs.specs.declared.Run.{Run}
