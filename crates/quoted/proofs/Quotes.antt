@@ -13,8 +13,8 @@ use lib.Seq.{take-all, take-append-le, take-suc-set}
 use borrow.Author.Tests.{ltb-true, ltb-false, lt-ltb, le-ltb, eqb-true, eqb-false}
 use Rattle.text.specs.Bytes.{lineFeed}
 use Rattle.text.specs.Lines.{lastLine, cut, linesOf}
-use Rattle.quoted.specs.Start.{room, fresh, inRoom, pastRoom, withByte, nextLine, faultEnded, heeded}
-use Rattle.quoted.specs.Quotes.{Quotes, feeds}
+use Rattle.quoted.specs.Start.{fresh, inRoom, pastRoom, withByte, nextLine, faultEnded, heeded}
+use Rattle.quoted.specs.Quotes.{room, Quotes, feeds}
 use Rattle.quoted.specs.declared.Start.{Start}
 use Rattle.quoted.proofs.Steps.{step-ended, step-next, step-fault, step-byte}
 

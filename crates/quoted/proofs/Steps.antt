@@ -4,7 +4,8 @@ use mathlib.Core.Bool.{true, false}
 use Prim.Native.Nat.{ℕ, _≤_, _<_}
 use borrow.Author.Tests.{lt-ltb, le-ltb, eq-eqb, ne-eqb}
 use Rattle.text.specs.Bytes.{lineFeed}
-use Rattle.quoted.specs.Start.{room, inRoom, pastRoom, withByte, nextLine, faultEnded, lineEnded, heeded}
+use Rattle.quoted.specs.Start.{inRoom, pastRoom, withByte, nextLine, faultEnded, lineEnded, heeded}
+use Rattle.quoted.specs.Quotes.{room}
 use Rattle.quoted.specs.declared.Start.{Start}
 
 pub step-ended : (fault : ℕ) (s : Start) (b : ℕ) → s .ended ≡ true → heeded fault s b ≡ s

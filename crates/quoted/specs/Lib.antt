@@ -1,3 +1,4 @@
--- What the contracts of `quoted` cite: the start of a line, as it is kept (Start); and what its theorem says of it (Quotes).
-pub mod Start
+-- What must be believed: what it means that the start of a line is kept (Quotes).
 pub mod Quotes
+-- What only a proof wants: how it is kept, byte by byte (Start).
+pub mod Start

@@ -7,8 +7,11 @@ use mathlib.Core.List.{List, [], _∷_}
 use lib.ListN.{length, take}
 use lib.Dec.{ltb, eqb}
 use Rattle.text.specs.Bytes.{lineFeed}
-use Rattle.quoted.specs.Start.{room}
 use Rattle.quoted.specs.declared.Start.{Start}
+
+-- how many bytes of a line are kept
+abbrev pub room : ℕ
+room = 40
 
 pub record Quotes (s : Start) (line : List ℕ) : Type 0 where
   pub text : take (s .kept) (s .bytes) ≡ take room line

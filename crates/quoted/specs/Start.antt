@@ -1,15 +1,13 @@
--- What is kept of a line to be quoted: its first forty bytes, and whether it has more. The lines of the input are counted from 1, and the
--- one at fault is not left again. That this is the start of that line is `quotes`, and of an input in pieces `quotes-in-pieces`, proofs/Quotes.antt. Assumes nothing.
+-- A proof's vocabulary, which contracts cite: how the start of a line is kept, byte by byte. The lines of the input are counted from 1, and
+-- the one at fault is not left again. That what is kept is the start of that line is `quotes`, and of an input in pieces `quotes-in-pieces`,
+-- proofs/Quotes.antt. Assumes nothing.
 use Prim.Native.Nat.{ℕ, _+_}
 use mathlib.Core.Bool.{true, false, cond}
 use lib.ListN.{set, replicate}
 use lib.Dec.{ltb, eqb}
 use Rattle.text.specs.Bytes.{lineFeed}
+use Rattle.quoted.specs.Quotes.{room}
 use Rattle.quoted.specs.declared.Start.{Start}
-
--- how many bytes of a line are kept
-abbrev pub room : ℕ
-room = 40
 
 abbrev pub fresh : Start
 fresh = record { line = 1; ended = false; kept = 0; more = false; bytes = replicate room 0 }
