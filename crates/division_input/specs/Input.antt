@@ -1,22 +1,15 @@
 -- A proof's vocabulary, here since contracts cite it: what a reader believes is ByLines, of the crate `division_session`, which `by-lines`, of the crate
--- `division_laws`, compares this with. What the program `division` holds, byte by byte. Only `namedOf` is believed as it stands. Assumes nothing.
+-- `division_laws`, compares this with. What the program `division` holds, byte by byte. Assumes nothing.
 use Prim.Native.Nat.{ℕ}
-use mathlib.Core.Bool.{Bool, true, false, cond, _&&_}
+use mathlib.Core.Bool.{Bool, true, false, cond}
 use mathlib.Core.List.{List, [], _∷_, _++_}
-use lib.Dec.{leb, eqb}
-use lib.ListN.{length, take}
+use lib.Dec.{eqb}
+use lib.ListN.{take}
 use Rattle.text.specs.Bytes.{lineFeed}
-use Rattle.fields.specs.Field.{digitsOf}
-use Rattle.fields.specs.declared.Digits.{Digits}
-use Rattle.fields.specs.declared.Digits.the-variants.{Other}
 use Rattle.kept_line.specs.Kept.{keptCount, keptLine}
 use Rattle.outline.specs.Refusals.{unlessRefused}
 use Rattle.division_session.specs.Session.{Closed, closed, lineClosed, lastClosed, noneFound}
 use Rattle.division_session.specs.declared.Session.{Session}
-
--- ---- the arguments: a state or a division as a person writes it, "1" or "01"
-unfoldable pub namedOf : List ℕ → Digits
-namedOf bs = cond (leb 1 (length bs) && leb (length bs) 2) (digitsOf bs) Other
 
 -- ---- what is held
 pub record State : Type 0 where

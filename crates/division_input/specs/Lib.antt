@@ -1,2 +1,4 @@
--- What a reader must believe is an argument (`namedOf`, Input). The rest of Input is a proof's vocabulary.
+-- What must be believed: an argument (Arguments).
+pub mod Arguments
+-- What only a proof wants: what the program `division` holds, byte by byte (Input).
 pub mod Input

@@ -11,7 +11,8 @@ ghost use mathlib.Core.Path.{_≡_};
 ghost use mathlib.Core.List.{foldl};
 ghost use Rattle.kept_line.specs.Kept.{untilFeed};
 ghost use Rattle.division_session.specs.Session.{Held, closed};
-ghost use Rattle.division_input.specs.Input.{namedOf, held, byteFed, ended, inputEnded};
+ghost use Rattle.division_input.specs.Input.{held, byteFed, ended, inputEnded};
+ghost use Rattle.division_input.specs.Arguments.{namedOf};
 
 // A state or a division as a person writes it: one or two digits.
 pub fn named(part: &[u8]) -> Digits

@@ -1,7 +1,7 @@
 -- `division_input::named`: one or two bytes, if they are digits. Assumes nothing.
 use borrow.Author.Needs.{needs}
 use borrow.Author.Tests.{le-leb, lt-leb}
-use Rattle.division_input.specs.Input.{namedOf}
+use Rattle.division_input.specs.Arguments.{namedOf}
 use lib.ListN.{length}
 use Rattle.division_input.proofs.named.Statement.{statement}
 use Rattle.division_input.proofs.named.Tie as tie
