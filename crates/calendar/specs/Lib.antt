@@ -1,4 +1,4 @@
--- What the contracts of `calendar` cite: a calendar month's five constants, a K of 0 among the twelve, and the month after one (Calendar);
--- and where the sixty stand (Worked).
+-- What must be believed: a calendar month's five constants, a K of 0 among the twelve, and the month after one (Calendar); and where the sixty
+-- stand (Worked).
 pub mod Calendar
 pub mod Worked

@@ -1,4 +1,4 @@
--- What the contracts of `card` cite beside those of `drought`: what a reading says that C hands in, and its answer in the paper's terms
--- (FromC); and the kinds of a reading, worked out (Worked).
+-- What must be believed beside what `drought` and `season` have: what a reading says that C hands in, and its answer in the paper's terms (FromC);
+-- and the kinds of a reading, worked out (Worked).
 pub mod FromC
 pub mod Worked

@@ -7,10 +7,11 @@ use native.Mathlib.Omega.{arith}
 use lib.IntN.{natAbs}
 use lib.ListN.{length}
 use Rattle.outline.specs.Numbers.{lastMonth}
+use Rattle.hindsight.specs.Coded.{stateOf}
 use Rattle.calendar.specs.Calendar.{nextCalendar}
 use Rattle.adding.specs.declared.Figures.{Figures}
 use Rattle.starts.proofs.Theorems.{fresh-fits}
-use Rattle.demands.specs.Months.{Ask, State, after, Accepted, figuresAnswered, Station, stationOf, stationNext, stationAfter, figuresOfMonths}
+use Rattle.demands.specs.Months.{Ask, State, after, Accepted, figuresAnswered, Station, stationOf, stationNext, figuresOfMonths}
 use Rattle.demands.specs.Demands.{Fresh, first, now, calendarAfter}
 use Rattle.demands.proofs.Took.{took, station-next}
 use Rattle.demands.proofs.Sequence.{station-all}
@@ -27,11 +28,11 @@ pub chain : (f : Fresh) (asks : List Ask) → Accepted (first f) asks → figure
 chain f asks h = figures-all (first f) asks h
 
 -- ---- the constants and the calendar
-constants-stay : (d : Station) (asks : List Ask) → stationAfter d asks .constants ≡ d .constants
+constants-stay : (d : Station) (asks : List Ask) → stateOf stationNext d asks .constants ≡ d .constants
 constants-stay d [] = refl
 constants-stay d (a ∷ later) = constants-stay (stationNext d a) later
 
-calendar-moves : (d : Station) (asks : List Ask) → 1 ≤ d .calendar → d .calendar ≤ lastMonth → stationAfter d asks .calendar ≡ calendarAfter (d .calendar) (length asks)
+calendar-moves : (d : Station) (asks : List Ask) → 1 ≤ d .calendar → d .calendar ≤ lastMonth → stateOf stationNext d asks .calendar ≡ calendarAfter (d .calendar) (length asks)
 unfolding nextCalendar
 calendar-moves d [] l m = omega arith
 calendar-moves d (a ∷ later) l m = let e = calendar-moves (stationNext d a) later (omega arith) (omega arith) in omega arith

@@ -1,6 +1,8 @@
 -- What each helper of a statement rules out, so that none of them can be weakened unseen: `agree` of the worked table; `Honest`, `Answers`,
--- `Balances`, `Accepted`, `SoilFits`, `NoneFrom` and `count` of the demands; `SameFrom` of a season; `Excepted` and `TurnsAbout` of the mirror.
--- Where a helper is about numbers, one month that it lets through stands beside those that it does not. Assumes nothing.
+-- `Balances`, `Accepted`, the figures month after month, `calendarAfter`, `marksWith`, `Existing`, `SoilFits`, `NoneFrom` and `count` of the demands;
+-- `SameFrom` of a season; `Excepted` and `TurnsAbout` of the mirror. Where a helper is about numbers, one month that it lets through stands
+-- beside those that it does not. The cases of specs/Given.antt want no such lemma: each call gives a number exactly where they have it. Assumes
+-- nothing.
 use mathlib.Core.Path.{_≡_, refl, sym, subst}
 use mathlib.Core.Bool.{Bool, true, false, _&&_}
 use mathlib.Core.List.{List, [], _∷_, _++_}
@@ -17,6 +19,7 @@ use Rattle.water.specs.declared.Soil.{Soil}
 use Rattle.spells.specs.declared.With.{With}
 use Rattle.spells.specs.declared.Decision.the-variants.{Decides}
 use Rattle.hindsight.specs.Rule.{X, Row, Shown}
+use Rattle.hindsight.specs.Coded.{stateOf}
 use Rattle.hindsight_laws.specs.Counts.{NoneFrom, count}
 use Rattle.starts.specs.Start.{runForZ}
 use Rattle.runs.specs.declared.Run.{Run}
@@ -24,8 +27,8 @@ use Rattle.refusals.specs.Columns.{Columns, columns}
 use Rattle.adding.specs.Figures.{noFigures}
 use Rattle.adding.specs.Taken.{Result, result, refusal}
 use Rattle.adding.specs.declared.Figures.{Figures}
-use Rattle.demands.specs.Months.{Ask, asked, State, after, afterAll, Accepted, noRow}
-use Rattle.demands.specs.Demands.{Answers, Honest, Balances}
+use Rattle.demands.specs.Months.{Ask, asked, State, after, afterAll, Accepted, figuresAnswered, Station, stationNext, figuresFor, figuresOfMonths, noRow}
+use Rattle.demands.specs.Demands.{Answers, Honest, calendarAfter, Balances, Existing, by-add, marksWith}
 use Rattle.demands.specs.Seasons.{SameFrom}
 use Rattle.demands.specs.Mirror.{Excepted, TurnsAbout}
 use Rattle.demands.proofs.Rejected.{minus}
@@ -136,6 +139,33 @@ pub accepted-each :
     → asked (afterAll s asks .run) a (afterAll s asks .columns) .answer .number ≡ 0
 accepted-each s [] a later h = h .0
 accepted-each s (b ∷ asks) a later h = accepted-each (after s b) asks a later (h .1)
+
+-- ---- `figuresAnswered` and `figuresOfMonths`: of each month its own, from what the months before it left
+pub answered-at : (s : State) (asks : List Ask) (a : Ask) (later : List Ask) (d : Figures)
+    → getD (figuresAnswered s (asks ++ (a ∷ later))) (length asks) d ≡ asked (afterAll s asks .run) a (afterAll s asks .columns) .answer .figures
+answered-at s [] a later d = refl
+answered-at s (b ∷ asks) a later d = answered-at (after s b) asks a later d
+
+pub chained-at : (s : Station) (asks : List Ask) (a : Ask) (later : List Ask) (d : Figures)
+    → getD (figuresOfMonths s (asks ++ (a ∷ later))) (length asks) d ≡ figuresFor (stateOf stationNext s asks) a
+chained-at s [] a later d = refl
+chained-at s (b ∷ asks) a later d = chained-at (stationNext s b) asks a later d
+
+-- ---- `calendarAfter`: after December comes January, and a year later the same month
+pub turns-of-the-year : (calendarAfter 11 1 ≡ 12) × (calendarAfter 12 1 ≡ 1) × (calendarAfter 3 0 ≡ 3) × (calendarAfter 3 12 ≡ 3) × (calendarAfter 1 2399 ≡ 12)
+turns-of-the-year = (refl, refl, refl, refl, refl)
+
+-- ---- `marksWith`: the fourth month is added, none, itself, itself and two before it are settled; the fifth place is as it was
+pub marks-written :
+    (marksWith 0 3 (2 ∷ 1 ∷ 1 ∷ 7 ∷ 8 ∷ []) ≡ 2 ∷ 1 ∷ 1 ∷ 1 ∷ 8 ∷ [])
+    × (marksWith 1 3 (2 ∷ 1 ∷ 1 ∷ 7 ∷ 8 ∷ []) ≡ 2 ∷ 1 ∷ 1 ∷ 2 ∷ 8 ∷ [])
+    × (marksWith 3 3 (2 ∷ 1 ∷ 1 ∷ 7 ∷ 8 ∷ []) ≡ 2 ∷ 2 ∷ 2 ∷ 2 ∷ 8 ∷ [])
+marks-written = (refl, refl, refl)
+
+-- ---- `Existing`: every run that a call hands back, the given one too
+pub exists-on : (r : Run) (asks : List Ask) (cs : Columns) → Existing r → Existing (afterAll (record { run = r; columns = cs }) asks .run)
+exists-on r [] cs e = e
+exists-on r (a ∷ later) cs e = let b = asked r a cs in exists-on (b .answer .run) later (b .columns) (by-add r a cs e)
 
 -- ---- `SoilFits`: layers that are full, and none a thousandth above its size; a capacity of 100 to 30,000
 abbrev soil : ℕ → ℕ → ℕ → Soil

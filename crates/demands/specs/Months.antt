@@ -14,7 +14,7 @@ use Rattle.spells.specs.Spells.{stepOf}
 use Rattle.spells.specs.declared.Running.{Running}
 use Rattle.spells.specs.declared.Decision.the-variants.{Nothing}
 use Rattle.hindsight.specs.Rule.{Row}
-use Rattle.hindsight.specs.Columns.{rowsOf, stateOf as stateAfter}
+use Rattle.hindsight.specs.Columns.{rowsOf}
 use Rattle.hindsight.specs.Months.{rowFor}
 use Rattle.calendar.specs.Calendar.{constantsAt, nextCalendar}
 use Rattle.runs.specs.declared.Run.{Run}
@@ -112,10 +112,6 @@ stationNext s a =
       constants = s .constants;
       values = stepOf (s .values) (zFor s a) .after;
     }
-
--- the station after months
-abbrev pub stationAfter : Station → List Ask → Station
-stationAfter s asks = stateAfter stationNext s asks
 
 -- the month's figures
 abbrev pub figuresFor : Station → Ask → Figures

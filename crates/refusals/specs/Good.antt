@@ -1,4 +1,4 @@
--- Neither 1 nor 7, as facts: what `requires` and proofs ask of a run and its columns once `runRefusal` is 0. Assumes nothing.
+-- Neither 1 nor 7, as facts: what holds of a run and its columns where `runRefusal` is 0. Assumes nothing.
 use mathlib.Core.Path.{_≡_}
 use mathlib.Core.Bool.{true}
 use Rattle.runs.specs.Runs.{isRun}

@@ -1,5 +1,4 @@
--- What must be believed: the five lent columns (Columns), and each call's refusals in their order (Refusals).
+-- What must be believed: the five lent columns (Columns), each call's refusals in their order (Refusals), and neither 1 nor 7, as facts (Good).
 pub mod Columns
 pub mod Refusals
--- What only a proof wants: "not refused", as facts (Good).
 pub mod Good

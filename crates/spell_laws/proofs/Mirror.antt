@@ -1,4 +1,4 @@
--- The mirror law: a month with every sign changed is the month's mirror, but for the three places of specs/Mirror.antt; there it
+-- The mirror law: a month with every sign changed is the month's mirror, but for the three places of specs/Uneven.antt; there it
 -- fails, and each of them is met. A month and its mirror go through the same cases (`by-mirror`, `by-tried2`). Assumes nothing.
 use mathlib.Core.Path.{_≡_, refl, sym, ap, ap₂, _∙_, subst}
 use mathlib.Core.Bool.{Bool, true, false, cond, not}
