@@ -16,7 +16,7 @@ use Rattle.outline.proofs.Tests.{if-so}
 use Rattle.outline.proofs.Refusals.{or-first, or-second, is-done, is-refused}
 use Rattle.door.specs.Exact.{within, nearestTo}
 use Rattle.door.specs.Outcome.{accepted, refused}
-use Rattle.door.specs.Readings.{mostReading, whole, converted, inches, millimetres, reading, month}
+use Rattle.door.specs.Readings.{mostReading, mostInches, mostMillimetres, whole, converted, inches, millimetres, reading, month}
 use Rattle.door.specs.declared.Reading.{Reading}
 use Rattle.door.specs.declared.Reading.the-variants.{Whole, Inches, Millimetres, Missing}
 use Rattle.runs.specs.Runs.{isRun}
@@ -65,8 +65,8 @@ not-missing r e h = let k = sym e ∙ ap named h in omega arith
 abbrev fits : Reading → Bool
 fits (Whole (pos n)) = leb n mostReading
 fits (Whole (negsuc n)) = false
-fits (Inches x) = within 100 x
-fits (Millimetres x) = within 2540 x
+fits (Inches x) = within mostInches x
+fits (Millimetres x) = within mostMillimetres x
 fits Missing = false
 
 fits-acceptable : (r : Reading) → fits r ≡ true → Acceptable r
@@ -94,8 +94,8 @@ number-by : (r : Reading) → named r ≡ 0 → reading r .number ≡ cond (fits
 unfolding reading whole inches millimetres converted
 number-by (Whole (pos n)) e = picked (leb n mostReading) n
 number-by (Whole (negsuc n)) e = refl
-number-by (Inches x) e = picked (within 100 x) (nearestTo 1000 1 x)
-number-by (Millimetres x) e = picked (within 2540 x) (nearestTo 5000 127 x)
+number-by (Inches x) e = picked (within mostInches x) (nearestTo 1000 1 x)
+number-by (Millimetres x) e = picked (within mostMillimetres x) (nearestTo 5000 127 x)
 number-by Missing e = absurd (omega arith)
 
 number-missing : (r : Reading) → r ≡ Missing → reading r .number ≡ missing
@@ -131,8 +131,8 @@ pub no-water : (r : Reading) → (reading r .number ≡ 0 → ⊥) → reading r
 unfolding reading whole inches millimetres converted
 no-water (Whole (pos n)) h = picked-none (leb n mostReading) n h
 no-water (Whole (negsuc n)) h = refl
-no-water (Inches x) h = picked-none (within 100 x) (nearestTo 1000 1 x) h
-no-water (Millimetres x) h = picked-none (within 2540 x) (nearestTo 5000 127 x) h
+no-water (Inches x) h = picked-none (within mostInches x) (nearestTo 1000 1 x) h
+no-water (Millimetres x) h = picked-none (within mostMillimetres x) (nearestTo 5000 127 x) h
 no-water Missing h = refl
 
 -- ---- a month by itself

@@ -13,7 +13,7 @@ use lib.Signed.{_≤ℤ_}
 use Rattle.outline.specs.Numbers.{mostZ}
 use Rattle.outline.specs.Refusals.{badLists, notARun, missing, notAcceptable, full, noSuchRow, badZ}
 use Rattle.door.specs.Exact.{within}
-use Rattle.door.specs.Readings.{mostReading}
+use Rattle.door.specs.Readings.{mostReading, mostInches, mostMillimetres}
 use Rattle.door.specs.declared.Reading.{Reading}
 use Rattle.door.specs.declared.Reading.the-variants.{Whole, Inches, Millimetres, Missing}
 use Rattle.runs.specs.Runs.{isRun}
@@ -29,8 +29,8 @@ use Rattle.demands.specs.Months.{Ask, water, inches, anomaly, State, aft
 -- anything above the range are refused" (`within`)
 abbrev pub Acceptable : Reading → Type 0
 Acceptable (Whole n) = (pos 0 ≤ℤ n) × (n ≤ℤ pos mostReading)
-Acceptable (Inches x) = within 100 x ≡ true
-Acceptable (Millimetres x) = within 2540 x ≡ true
+Acceptable (Inches x) = within mostInches x ≡ true
+Acceptable (Millimetres x) = within mostMillimetres x ≡ true
 Acceptable Missing = ⊥
 
 pub data ReadingGives (r : Reading) : ℕ → Type 0 where

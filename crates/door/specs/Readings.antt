@@ -26,12 +26,18 @@ unfoldable pub converted : ℕ → ℕ → ℕ → Float → Outcome
 converted most per of x = cond (within most x) (accepted (nearestTo per of x)) (refused notAcceptable)
 
 -- "inches as an IEEE 754 binary32 number (0 to 100)"
+abbrev pub mostInches : ℕ
+mostInches = 100
+
 unfoldable pub inches : Float → Outcome
-inches x = converted 100 1000 1 x
+inches x = converted mostInches 1000 1 x
 
 -- "millimetres as binary32 (0 to 2,540)", "for millimetres that is value x 5000/127"
+abbrev pub mostMillimetres : ℕ
+mostMillimetres = 2540
+
 unfoldable pub millimetres : Float → Outcome
-millimetres x = converted 2540 5000 127 x
+millimetres x = converted mostMillimetres 5000 127 x
 
 unfoldable pub reading : Reading → Outcome
 reading (Whole n) = whole n

@@ -1,6 +1,9 @@
--- Document 01, "Quantities": the range of each of a month's five constants, in ten-thousandths. "Zero is a value, never missing."
--- Assumes nothing.
+-- Document 01, "Quantities": the unit and the range of each of a month's five constants. "Zero is a value, never missing." Assumes nothing.
 use Prim.Native.Nat.{ℕ}
+
+-- "Constants and K: ten-thousandths": one, in these
+abbrev pub one : ℕ
+one = 10000
 
 -- "Alpha, beta, delta 0 to 10,000;
 abbrev pub mostShare : ℕ

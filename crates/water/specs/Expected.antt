@@ -2,6 +2,7 @@
 use Prim.Native.Nat.{ℕ, _+_, _-_, _*_, min}
 use lib.IntN.{ℤ, pos, _-ℤ_, _*ℤ_}
 use Rattle.exact.specs.Nearest.{nearest}
+use Rattle.water.specs.Constants.{one}
 use Rattle.water.specs.Balance.{underLoss, balanceOf}
 use Rattle.water.specs.declared.Soil.{Soil}
 use Rattle.water.specs.declared.Constants.{Constants}
@@ -33,11 +34,11 @@ nOf k pe q = pos (k .alpha * pe + k .beta * q .pr + k .gamma * q .pro) -ℤ pos 
 
 -- "CAFEC precipitation is nearest to N/10,000."
 unfoldable pub cafecOf : ℤ → ℤ
-cafecOf n = nearest n 10000
+cafecOf n = nearest n one
 
 -- "Z = nearest to K x (10,000 P - N) / 100,000,000, rounded once, from N and not from the rounded CAFEC."
 unfoldable pub zOf : ℕ → ℕ → ℤ → ℤ
-zOf k p n = nearest (pos k *ℤ (pos (10000 * p) -ℤ n)) 100000000
+zOf k p n = nearest (pos k *ℤ (pos (one * p) -ℤ n)) (one * one)
 
 unfoldable pub expectedOf : Constants → ℕ → ℕ → Potentials → Expected
 expectedOf k p pe q = record { cafec = cafecOf (nOf k pe q); z = zOf (k .k) p (nOf k pe q) }

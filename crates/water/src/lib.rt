@@ -17,7 +17,7 @@ ghost use Rattle.water.specs.Bounds.{ConstantsFit, mostN};
 const ONE: i64 = 10_000;
 
 // One, in the ten-thousandths of K times the ten-thousandths of another constant.
-const Z_DIVISOR: i64 = 100_000_000;
+const Z_DIVISOR: i64 = ONE * ONE;
 
 // One inch, which the surface layer holds where the soil does.
 const SURFACE: u32 = 1_000;
