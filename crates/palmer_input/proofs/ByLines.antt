@@ -16,8 +16,8 @@ use Rattle.lines.specs.Reading.{opens, fed}
 use Rattle.lines.specs.declared.Line.{Line}
 use Rattle.lines.proofs.Lines.{streamed}
 use Rattle.refusals.specs.Columns.{Columns}
-use Rattle.palmer_input.specs.Input.{State, state, isBlank, withZ, heardWith, heardAs, lineClosed, byteFed, inputEnded}
-use Rattle.palmer_input.specs.ByLines.{heard}
+use Rattle.palmer_input.specs.ByLines.{State, state, withZ, heardWith, heardAs, heard}
+use Rattle.palmer_input.specs.Input.{isBlank, lineClosed, byteFed, inputEnded}
 use Rattle.palmer_input.proofs.Steps.{byte-closes, byte-within, byte-refused, end-closes, end-blank, end-refused}
 
 -- ---- worked inputs: "", "a" and a line feed, a line feed, and "a", two line feeds, "b"
@@ -38,11 +38,11 @@ not-blank l b (b' ∷ bs) = not-blank (fed l b) b' bs
 
 -- ---- after a refusal nothing changes
 module _ (t : State) (k : t .session .refused ≡ 0 → ⊥) where
-  bytes-stay : (bytes : List ℕ) → foldl byteFed t bytes ≡ t
+  pub bytes-stay : (bytes : List ℕ) → foldl byteFed t bytes ≡ t
   bytes-stay [] = refl
   bytes-stay (b ∷ bs) = rw (byte-refused t b k) (bytes-stay bs)
 
-  lines-stay : (ls : List (List ℕ)) → foldl heard t ls ≡ t
+  pub lines-stay : (ls : List (List ℕ)) → foldl heard t ls ≡ t
   unfolding heard
   lines-stay [] = refl
   lines-stay (l ∷ ls) = ap (λ (u : State). foldl heard u ls) (is-refused _ _ t k) ∙ lines-stay ls

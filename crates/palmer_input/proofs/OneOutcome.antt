@@ -4,7 +4,8 @@ use mathlib.Core.Path.{_≡_, sym, ap, _∙_}
 use mathlib.Core.List.{List, foldl}
 use Prim.Native.Nat.{ℕ}
 use Rattle.refusals.specs.Columns.{Columns}
-use Rattle.palmer_input.specs.Input.{State, state, byteFed, inputEnded}
+use Rattle.palmer_input.specs.ByLines.{State, state}
+use Rattle.palmer_input.specs.Input.{byteFed, inputEnded}
 use Rattle.palmer_input.specs.declared.Session.{Session}
 
 one-outcome : {said : State} {a b : Session} {cs ds : Columns} {ps qs : List ℕ} → state a cs ps ≡ said → state b ds qs ≡ said → (a ≡ b) × (cs ≡ ds) × (ps ≡ qs)

@@ -17,7 +17,8 @@ use Rattle.refusals.specs.Columns.{Columns, columns}
 use Rattle.drought.specs.Calls.{addZ}
 use Rattle.adding.specs.Taken.{Result, result}
 use Rattle.adding.specs.declared.Added.{Added}
-use Rattle.palmer_input.specs.Input.{State, state, percentKept, afterLine, afterAdd, withZ, heardAs, lineClosed, withByte, byteFed, isBlank, inputEnded}
+use Rattle.palmer_input.specs.ByLines.{State, state, percentKept, afterLine, afterAdd, withZ, heardAs}
+use Rattle.palmer_input.specs.Input.{lineClosed, withByte, byteFed, isBlank, inputEnded}
 use Rattle.palmer_input.specs.declared.Session.{Session}
 
 -- ---- a line's Z

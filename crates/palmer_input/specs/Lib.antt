@@ -1,4 +1,4 @@
--- What the contracts of `palmer_input` cite: what the program holds while it reads (Input). And the same said of whole lines, which the theorem
--- of proofs/ByLines.antt compares it with (ByLines).
-pub mod Input
+-- What a reader must believe: what the program holds from line to line, and what a line makes of it (ByLines).
 pub mod ByLines
+-- What only a proof wants, here since contracts cite it: the same byte by byte (Input).
+pub mod Input

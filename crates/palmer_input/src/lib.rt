@@ -13,7 +13,8 @@ ghost use mathlib.Core.Path.{_≡_};
 ghost use mathlib.Core.List.{foldl};
 ghost use Rattle.refusals.specs.Columns.{columns};
 ghost use Rattle.starts.specs.Start.{runForZ};
-ghost use Rattle.palmer_input.specs.Input.{state, fresh, isBlank, percentKept, afterLine, withZ, lineClosed, byteFed, inputEnded};
+ghost use Rattle.palmer_input.specs.ByLines.{state, fresh, percentKept, afterLine, withZ};
+ghost use Rattle.palmer_input.specs.Input.{isBlank, lineClosed, byteFed, inputEnded};
 
 // What has been read: the line so far, the refusal that ended the reading (0: none yet), and the run.
 pub struct Session {

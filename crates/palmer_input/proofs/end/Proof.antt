@@ -3,7 +3,7 @@ use borrow.Author.Needs.{needs}
 use mathlib.Core.Path.{sym, _∙_}
 use denote.Ref.{now}
 use Rattle.refusals.specs.Columns.{columns}
-use Rattle.palmer_input.specs.Input.{State, state}
+use Rattle.palmer_input.specs.ByLines.{State, state}
 use Rattle.palmer_input.proofs.Steps.{end-closes, end-blank, end-refused}
 use Rattle.palmer_input.proofs.end.Statement.{statement}
 use Rattle.palmer_input.proofs.end.Tie as tie

@@ -10,7 +10,8 @@ use native.Mathlib.Omega.{arith}
 use lib.ListN.{length, drop, getD, drop-of-length-le}
 use lib.Seq.{drop-cons}
 use denote.Ref.{now}
-use Rattle.palmer_input.specs.Input.{State, byteFed}
+use Rattle.palmer_input.specs.ByLines.{State}
+use Rattle.palmer_input.specs.Input.{byteFed}
 use Rattle.palmer_input.proofs.Steps.{held, held-same, Lengths, lengths, long-same, byte-closes, byte-within, byte-refused}
 use Rattle.palmer_input.proofs.take.Statement.{statement}
 use Rattle.palmer_input.proofs.take.Tie as tie
