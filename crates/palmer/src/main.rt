@@ -89,8 +89,9 @@ fn read_all(
     heard
 }
 
-// Writes the row of each month.
-fn print_rows(
+// Writes what comes of the input: the rows, or which line was refused.
+fn print_output(
+    number: u8,
     run: Run,
     x1: &[i32],
     x2: &[i32],
@@ -100,11 +101,11 @@ fn print_rows(
     percent: &[u32],
 ) {
     let mut out = palmer_output::make_room();
-    let end = palmer_output::put_rows(&mut out, run, x1, x2, x3, index, mark, percent);
+    let end = palmer_output::put_output(&mut out, number, run, x1, x2, x3, index, mark, percent);
     stdio::write_out(b"palmer", &out[..end]);
 }
 
-// Writes what comes of the input: the rows, or which line was refused and why.
+// Writes what comes of the input, and says why a line was refused.
 fn print(
     s: Session,
     start: Start,
@@ -117,13 +118,10 @@ fn print(
 ) {
     let run = s.run;
     let number = s.refused;
-    if number == 0 {
-        print_rows(run, x1, x2, x3, index, mark, percent);
-        return;
+    print_output(number, run, x1, x2, x3, index, mark, percent);
+    if number != 0 {
+        words::explain(palmer_output::line_after(run.months), number, start);
     }
-    let line = palmer_output::line_after(run.months);
-    stdio::print_refusal(b"palmer", line, number);
-    words::explain(line, number, start);
 }
 
 fn main() {

@@ -1,10 +1,9 @@
 -- Document 01, the program that "prints, at the end, month number, X1, X2, X3, percent, index, S or O": which row is printed of a month, and
--- the number of a refused line, "counted from 1". Assumes nothing.
-use Prim.Native.Nat.{ℕ, _+_, _*_, min}
-use mathlib.Core.List.{List}
+-- the rows of months in order. Assumes nothing.
+use Prim.Native.Nat.{ℕ, zero, suc, _+_}
+use mathlib.Core.List.{List, [], _++_}
 use lib.ListN.{getD}
-use Rattle.outline.specs.Numbers.{mostMonths}
-use Rattle.rows.specs.Room.{mostRow}
+use Rattle.rows.specs.Text.{rowText}
 use Rattle.rows.specs.declared.Row.{Row}
 use Rattle.runs.specs.declared.Run.{Run}
 use Rattle.refusals.specs.Columns.{Columns}
@@ -22,10 +21,7 @@ rowOf i s p = record { month = i + 1; x1 = s .x1; x2 = s .x2; x3 = s .x3; percen
 unfoldable pub rowAt : Run → ℕ → Columns → List ℕ → Row
 rowAt run i cs ps = rowOf i (rowOfRun run i cs) (percentAt ps i)
 
--- each line before a refused one gave a month, of which a run holds at most 2,400
-abbrev pub lineAfter : ℕ → ℕ
-lineAfter months = min months mostMonths + 1
-
--- what all rows need at most
-abbrev pub room : ℕ
-room = mostMonths * mostRow
+-- the rows of the first n months, one after another
+unfoldable pub rowsText : Run → ℕ → Columns → List ℕ → List ℕ
+rowsText run zero cs ps = []
+rowsText run (suc n) cs ps = rowsText run n cs ps ++ rowText (rowAt run n cs ps)

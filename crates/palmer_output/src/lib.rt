@@ -1,5 +1,5 @@
-// What the program `palmer` prints: the row of each month, and the number of the line that was refused. `drought` gives what
-// a row shows, `rows` lays it out. Every call here serves that program alone.
+// What the program `palmer` prints: the row of each month, or which line was refused. `drought` gives what a row shows, `rows`
+// lays it out. Every call here serves that program alone.
 use outline::MOST_MONTHS;
 use rows::Row;
 use runs::Run;
@@ -9,7 +9,8 @@ ghost use lib.ListN.{length};
 ghost use Rattle.refusals.specs.Columns.{columns};
 ghost use Rattle.rows.specs.Text.{rowText};
 ghost use Rattle.rows.specs.Room.{laid, mostRow};
-ghost use Rattle.palmer_output.specs.Printed.{percentAt, rowAt, lineAfter, room};
+ghost use Rattle.palmer_output.specs.Printed.{percentAt, rowAt};
+ghost use Rattle.palmer_output.specs.Output.{allRows, lineAfter, outputOf, room};
 
 // What a row needs at most, and all rows.
 const MOST_ROW: usize = 72;
@@ -76,7 +77,7 @@ pub fn make_room() -> [u8; ROOM]
 }
 
 // Puts the row of each month, and answers where they end.
-pub fn put_rows(
+fn put_rows(
     out: &mut [u8],
     run: Run,
     x1: &[i32],
@@ -88,6 +89,8 @@ pub fn put_rows(
 ) -> usize
     requires { ⌜ length (now out) ≡ room ⌝ }
     ensures { λ r. ⌜ r ≤ room ⌝ }
+    ensures { λ r. ⌜ r ≡ length (allRows run (columns (now (x1 .entry)) (now (x2 .entry)) (now (x3 .entry)) (now (index .entry)) (now (mark .entry))) (now (percent .entry))) ⌝ }
+    ensures { λ _. ⌜ now (out .exit) ≡ laid (allRows run (columns (now (x1 .entry)) (now (x2 .entry)) (now (x3 .entry)) (now (index .entry)) (now (mark .entry))) (now (percent .entry))) 0 (now (out .entry)) ⌝ }
 {
     let end = line_after(run.months) - 1;
     let mut at: usize = 0;
@@ -97,4 +100,28 @@ pub fn put_rows(
         i += 1;
     }
     at
+}
+
+// Puts all that is printed where the input has ended, and answers where it ends: the rows, or where a line was refused, with
+// this number, that line alone.
+pub fn put_output(
+    out: &mut [u8],
+    number: u8,
+    run: Run,
+    x1: &[i32],
+    x2: &[i32],
+    x3: &[i32],
+    index: &[i32],
+    mark: &[u8],
+    percent: &[u32],
+) -> usize
+    requires { ⌜ length (now out) ≡ room ⌝ }
+    ensures { λ r. ⌜ r ≤ room ⌝ }
+    ensures { λ r. ⌜ r ≡ length (outputOf number run (columns (now (x1 .entry)) (now (x2 .entry)) (now (x3 .entry)) (now (index .entry)) (now (mark .entry))) (now (percent .entry))) ⌝ }
+    ensures { λ _. ⌜ now (out .exit) ≡ laid (outputOf number run (columns (now (x1 .entry)) (now (x2 .entry)) (now (x3 .entry)) (now (index .entry)) (now (mark .entry))) (now (percent .entry))) 0 (now (out .entry)) ⌝ }
+{
+    if number == 0 {
+        return put_rows(out, run, x1, x2, x3, index, mark, percent);
+    }
+    rows::lay_refusal(line_after(run.months), number, 0, out)
 }

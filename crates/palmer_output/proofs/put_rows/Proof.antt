@@ -1,16 +1,30 @@
--- `palmer_output::put_rows` is safe and ends: a row has at most 72 bytes, and there is room for 2,400. Assumes nothing.
+-- `palmer_output::put_rows`: the rows put so far are those of the first months, laid where the lent list begins. A row has at most 72 bytes, and
+-- there is room for 2,400. Assumes nothing.
 use borrow.Author.Needs.{needs}
 use mathlib.Core.Path.{_≡_, refl, _∙_}
-use Prim.Native.Nat.{_-_, _*_, _≤_}
+use mathlib.Core.List.{List}
+use Prim.Native.Nat.{ℕ, _+_, _-_, _*_, _≤_}
+use native.Mathlib.Numerals.{add-one}
 use native.Mathlib.Omega.{arith}
 use lib.ListN.{length}
-use Rattle.outline.specs.Numbers.{mostMonths}
+use denote.Ref.{now}
+use Rattle.rows.specs.Text.{rowText}
+use Rattle.rows.proofs.Laid.{Put, put-then, put-none}
+use Rattle.refusals.specs.Columns.{Columns, columns}
+use Rattle.runs.specs.declared.Run.{Run}
+use Rattle.palmer_output.specs.Printed.{rowAt, rowsText}
+use Rattle.palmer_output.specs.Output.{shownMonths}
 use Rattle.palmer_output.proofs.put_rows.Statement.{statement}
 use Rattle.palmer_output.proofs.put_rows.Tie as tie
 
+-- the row of one month more
+one-more : (run : Run) (i : ℕ) (cs : Columns) (ps o : List ℕ) (e r : ℕ) (p q : List ℕ) → Put (rowsText run i cs ps) 0 o e p → Put (rowText (rowAt run i cs ps)) e p r q → Put (rowsText run (i + 1) cs ps) 0 o r q
+unfolding rowsText
+one-more run i cs ps o e r p q f g = rw (add-one i) (put-then (rowsText run i cs ps) (rowText (rowAt run i cs ps)) 0 o (omega arith) e r p q f g)
+
 abbrev Inv-loop : tie.InvT-loop
 Inv-loop out₀ run x1 x2 x3 index mark percent end at₀ i₀ out at i =
-    (length out ≡ length out₀) × (at ≤ 72 * i) × (i ≤ end) × (end ≤ mostMonths)
+    (length out ≡ length out₀) × (at ≤ 72 * i) × (i ≤ end) × (end ≡ shownMonths (run .months)) × Put (rowsText run i (columns x1 x2 x3 index mark) percent) 0 out₀ at out
 
 abbrev μ-loop : tie.MeasureT-loop
 μ-loop out₀ run x1 x2 x3 index mark percent end at₀ i₀ out at i = end - i
@@ -22,7 +36,8 @@ sub-end : tie.Need-sub-end Inv-loop μ-loop
 sub-end c = omega (arith, c .line-after .ensures)
 
 loop-holds : tie.Need-loop-holds Inv-loop μ-loop
-loop-holds c = let e = c .line-after .ensures in (refl, omega arith, omega arith, omega (arith, e))
+unfolding rowsText
+loop-holds c = let e = c .line-after .ensures in (refl, omega arith, omega arith, omega (arith, e), put-none _ _)
 
 put-row-requires : tie.Need-put-row-requires Inv-loop μ-loop
 put-row-requires c κs =
@@ -39,14 +54,23 @@ loop-less c = omega arith
 loop-again : tie.Need-loop-again Inv-loop μ-loop
 loop-again c =
     let p = c .before .before in
-    let v = p .before .before .before .loop .inv in
-    (p .put-row .kept .1 .1 .1 .1 .1 .1 .1 .1 .1 .0 ∙ v .0, omega (arith, p .put-row .ensures .0, v .1), omega arith, v .3)
+    let l = p .before .before .before in
+    let v = l .loop .inv in
+    let a = l .before .before .before .before .before .args in
+    let cs = columns (now (a .x1)) (now (a .x2)) (now (a .x3)) (now (a .index)) (now (a .mark)) in
+    let e = p .put-row .ensures in
+    (p .put-row .kept .1 .1 .1 .1 .1 .1 .1 .1 .1 .0 ∙ v .0, omega (arith, e .0, v .1), omega arith, v .3, one-more (a .run) (l .loop .i) cs (now (a .percent)) (now (a .out)) (l .loop .at) _ (l .loop .out) _ (v .4) (e .1 .0, e .1 .1))
 
 same-length : tie.Need-same-length Inv-loop μ-loop
 same-length c = c .before .loop .inv .0
 
 returns : tie.Need-returns Inv-loop μ-loop
-returns c = let v = c .before .loop .inv in omega (arith, v .1, v .2, v .3)
+returns c =
+    let v = c .before .loop .inv in
+    let s = c .before .before .before .before .before .before in
+    let e : c .before .loop .i ≡ shownMonths (s .args .run .months) = omega (arith, v .2, v .3) in
+    let p = rw e at (v .4) in
+    (omega (arith, v .1, v .2, v .3), (omega (arith, p .0), p .1))
 
 pub put-rows-spec : {M : Type 1} → statement M
 put-rows-spec =

@@ -1,18 +1,18 @@
--- `palmer::print_rows` is safe and ends: the rows end within what is lent. Assumes nothing.
+-- `palmer::print_output` is safe and ends: what is laid out ends within what is lent. Assumes nothing.
 use mathlib.Core.Path.{sym}
 use lib.Seq.{length-take-le}
 use borrow.Author.Needs.{needs}
-use Rattle.palmer.proofs.print_rows.Statement.{statement}
-use Rattle.palmer.proofs.print_rows.Tie as tie
+use Rattle.palmer.proofs.print_output.Statement.{statement}
+use Rattle.palmer.proofs.print_output.Tie as tie
 
 make-room-requires : tie.Need-make-room-requires
 make-room-requires c κs = search needs
 
-slice-aggregate-put-rows : tie.Need-slice-aggregate-put-rows
-slice-aggregate-put-rows c = search needs
+slice-aggregate-put-output : tie.Need-slice-aggregate-put-output
+slice-aggregate-put-output c = search needs
 
-put-rows-requires : tie.Need-put-rows-requires
-put-rows-requires c κs = search needs
+put-output-requires : tie.Need-put-output-requires
+put-output-requires c κs = search needs
 
 slice-aggregate-write-out : tie.Need-slice-aggregate-write-out
 slice-aggregate-write-out c = search needs
@@ -29,13 +29,13 @@ write-out-requires c κs = search needs
 returns : tie.Need-returns
 returns c = search needs
 
-pub print-rows-spec : {M : Type 1} → statement M
-print-rows-spec =
+pub print-output-spec : {M : Type 1} → statement M
+print-output-spec =
     tie.close
     (tie.spec
     make-room-requires
-    slice-aggregate-put-rows
-    put-rows-requires
+    slice-aggregate-put-output
+    put-output-requires
     slice-aggregate-write-out
     array-share-prefix-out
     slice-aggregate-write-out-2
