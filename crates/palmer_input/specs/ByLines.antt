@@ -6,8 +6,7 @@ use mathlib.Core.List.{List}
 use lib.IntN.{ℤ}
 use lib.ListN.{set}
 use Rattle.outline.specs.Refusals.{unlessRefused}
-use Rattle.lines.specs.Line.{Judged, judged}
-use Rattle.lines.specs.Reading.{begun}
+use Rattle.lines.specs.Line.{Judged, judged, begun}
 use Rattle.starts.specs.Start.{runForZ}
 use Rattle.runs.specs.declared.Run.{Run}
 use Rattle.refusals.specs.Columns.{Columns}

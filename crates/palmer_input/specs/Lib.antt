@@ -1,4 +1,4 @@
--- What a reader must believe: what the program holds from line to line, and what a line makes of it (ByLines).
+-- What must be believed: what the program `palmer` holds from line to line (ByLines).
 pub mod ByLines
--- What only a proof wants, here since contracts cite it: the same byte by byte (Input).
+-- What only a proof wants: what it holds byte by byte (Input).
 pub mod Input

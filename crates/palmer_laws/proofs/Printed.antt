@@ -9,7 +9,8 @@ use lib.Seq.{take-at}
 use Rattle.outline.specs.Numbers.{mostMonths}
 use Rattle.outline.proofs.Refusals.{is-done}
 use Rattle.text.specs.Lines.{linesOf}
-use Rattle.rows.specs.Text.{refusedText, laid}
+use Rattle.rows.specs.Text.{refusedText}
+use Rattle.rows.specs.Room.{laid}
 use Rattle.palmer_input.specs.ByLines.{State, state, heard}
 use Rattle.palmer_input.specs.Input.{byteFed, inputEnded}
 use Rattle.palmer_input.specs.declared.Session.{Session}

@@ -5,7 +5,7 @@ use mathlib.Core.Path.{_≡_}
 use mathlib.Core.List.{List, [], _∷_, foldl}
 use Prim.Native.Nat.{ℕ}
 use lib.ListN.{length, take}
-use Rattle.rows.specs.Text.{laid}
+use Rattle.rows.specs.Room.{laid}
 use Rattle.palmer_input.specs.ByLines.{State, state, fresh}
 use Rattle.palmer_input.specs.Input.{byteFed, inputEnded}
 use Rattle.palmer_input.specs.declared.Session.{Session}

@@ -1,6 +1,5 @@
--- What a reader must believe: what the program prints for an input (Palmer).
+-- What must be believed: what the program `palmer` prints for an input (Palmer).
 pub mod Palmer
--- What only a proof wants, the words of its theorems: the program's calls, each by its promise (Calls), and which line is refused, and with which
--- number (Refused).
+-- What only a proof wants: the program's calls, each by its promise (Calls), and which line is refused, and with which number (Refused).
 pub mod Calls
 pub mod Refused

@@ -5,7 +5,8 @@ use Prim.Native.Nat.{ℕ, _+_, _*_, min}
 use mathlib.Core.List.{List}
 use Rattle.outline.specs.Numbers.{mostMonths}
 use Rattle.outline.specs.Refusals.{unlessRefused}
-use Rattle.rows.specs.Text.{mostRow, refusedText}
+use Rattle.rows.specs.Room.{mostRow}
+use Rattle.rows.specs.Text.{refusedText}
 use Rattle.runs.specs.declared.Run.{Run}
 use Rattle.refusals.specs.Columns.{Columns}
 use Rattle.palmer_output.specs.Printed.{rowsText}

@@ -1,6 +1,7 @@
 // What the program `palmer` prints: the row of each month, or which line was refused. `drought` gives what a row shows, `rows`
 // lays it out. Every call here serves that program alone.
 use outline::MOST_MONTHS;
+use rows::MOST_ROW;
 use rows::Row;
 use runs::Run;
 ghost use Prim.Native.Nat.{_+_, _≤_, _<_};
@@ -12,9 +13,7 @@ ghost use Rattle.rows.specs.Room.{laid, mostRow};
 ghost use Rattle.palmer_output.specs.Printed.{percentAt, rowAt};
 ghost use Rattle.palmer_output.specs.Output.{allRows, lineAfter, outputOf, room};
 
-// What a row needs at most, and all rows.
-const MOST_ROW: usize = 72;
-
+// What all rows need at most.
 pub const ROOM: usize = MOST_MONTHS * MOST_ROW;
 
 // The number of the line that comes after so many months, counted from 1: each line before it gave a month.

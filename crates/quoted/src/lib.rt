@@ -15,10 +15,11 @@ pub struct Start {
     // How many of its bytes are kept, the first ones, and whether it has more.
     pub kept: usize,
     pub more: bool,
-    pub bytes: [u8; 40],
+    pub bytes: [u8; ROOM],
 }
 
-const ROOM: usize = 40;
+// How many of its bytes are kept at most.
+pub const ROOM: usize = 40;
 
 const LINE_FEED: u8 = 10;
 

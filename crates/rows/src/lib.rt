@@ -26,6 +26,9 @@ pub struct Row {
     pub mark: u8,
 }
 
+// The bytes that a month's row, or the line of a refusal, needs at most.
+pub const MOST_ROW: usize = 72;
+
 const SPACE: u8 = 32;
 
 const LINE_FEED: u8 = 10;

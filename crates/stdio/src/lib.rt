@@ -3,11 +3,9 @@
 use libc::STDERR_FILENO;
 use libc::STDIN_FILENO;
 use libc::STDOUT_FILENO;
+use rows::MOST_ROW;
 ghost use Prim.Native.Nat.{_<_};
 ghost use Rattle.io.specs.Counts.{Counts};
-
-// What a refusal needs at most.
-const MOST_ROW: usize = 72;
 
 // A piece of the input: how many bytes it has, 0 at the end, and whether the read failed.
 pub struct Piece {

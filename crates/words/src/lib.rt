@@ -3,14 +3,12 @@
 // these functions are proved safe and ending, and tests/program.py holds the words to a table.
 use outline::BAD_Z;
 use outline::FULL;
+use quoted::ROOM;
 use quoted::Start;
 use stdio::say;
 use stdio::say_number;
 ghost use Prim.Native.Nat.{_≤_, _<_};
 ghost use lib.ListN.{length};
-
-// How much of a line is kept to be quoted.
-const ROOM: usize = 40;
 
 // A byte as it is quoted: a question mark stands for one that cannot be shown.
 fn shown(b: u8) -> u8 {

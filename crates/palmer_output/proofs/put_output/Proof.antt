@@ -6,7 +6,8 @@ use Prim.Native.Nat.{ℕ, zero, suc}
 use native.Mathlib.Omega.{arith}
 use lib.ListN.{length}
 use denote.Ref.{now}
-use Rattle.rows.specs.Text.{refusedText, laid}
+use Rattle.rows.specs.Text.{refusedText}
+use Rattle.rows.specs.Room.{laid}
 use Rattle.rows.proofs.Laid.{Put}
 use Rattle.refusals.specs.Columns.{Columns, columns}
 use Rattle.runs.specs.declared.Run.{Run}
