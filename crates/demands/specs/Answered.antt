@@ -1,7 +1,7 @@
 -- Whole answers through a run and its list of sixty: months of water and of Z, a refused one, a season, a row and a whole series. Every figure is
--- said, the run that is handed back and every place of the lent lists, and no two constants are the same. So no two fields, constants or
--- months can be exchanged alike in the definitions and in the code. Worked.antt beside this file joins the rows to the table of worked months,
--- and its one claim is that every row agrees. Assumes nothing.
+-- said, the run that is handed back and every place of the lent lists. No two constants are the same, and any two figures differ in some
+-- month, so that none can be exchanged alike in the definitions and in the code. Worked.antt beside this file joins the rows to the table of
+-- worked months, and its one claim is that every row agrees. Assumes nothing.
 use Prim.Native.Nat.{ℕ, zero, suc, _+_, _*_}
 use mathlib.Core.Bool.{false}
 use mathlib.Core.List.{List, [], _∷_, _++_, map}
@@ -71,7 +71,7 @@ refused = addWater (november .answer .run) Missing (Whole (negsuc 0)) (november 
 unfoldable pub series : Filled
 series = wholeSeries (minus 12210 ∷ pos 3590 ∷ minus 878 ∷ pos 7933 ∷ []) (pos 74 ∷ pos 74 ∷ pos 74 ∷ pos 74 ∷ []) (75 ∷ 75 ∷ 75 ∷ 75 ∷ [])
 
--- December's row after January, and the one after the last
+-- a month's row after January
 abbrev row : ℕ → Shown
 row i = rowOfRun (january .answer .run) i (january .columns)
 
@@ -315,7 +315,7 @@ eachColumn cs said =
 abbrev each : Result → Added → Columns → List Row
 each b said leaves = eachAnswer (b .answer) said ++ eachColumn (b .columns) leaves
 
--- a start that is not refused has months to come in the rows above; a refused one gives "all zeros"
+-- "a refused start: all zeros"; what one that is not refused gives goes into the months above
 abbrev startTable : List Row
 startTable =
     (pos (station 500 3000 13 .number) gives pos 6)

@@ -24,9 +24,13 @@ use Rattle.drought.specs.Calls.{addZ}
 abbrev pub minus : ℕ → ℤ
 minus n = negℤ (pos n)
 
--- columns of n places, which hold another number each
+-- columns of so many places, which hold another number each; and all of one length
+abbrev lentOf : ℕ → ℕ → ℕ → ℕ → ℕ → Columns
+lentOf x1 x2 x3 index mark =
+    columns (replicate x1 (pos 71)) (replicate x2 (pos 72)) (replicate x3 (pos 73)) (replicate index (pos 74)) (replicate mark 75)
+
 abbrev pub lent : ℕ → Columns
-lent n = columns (replicate n (pos 71)) (replicate n (pos 72)) (replicate n (pos 73)) (replicate n (pos 74)) (replicate n 75)
+lent n = lentOf n n n n n
 
 -- a reading's number, or its thousandths where it is 0
 abbrev told : Outcome → ℤ
@@ -148,9 +152,9 @@ runTable =
     ∷ (values (pos 0) (pos 0) (pos 0) (minus 1) gives pos 7)
     ∷ []
 
--- the number of an add of a Z to a fresh run, on columns of so many places
-abbrev added : ℤ → ℕ → ℤ
-added z n = pos (addZ (run 0 0 1 (soil 6000 0 0) fresh) z (lent n) .answer .number)
+-- the number of an add of a Z to a fresh run, on these columns
+abbrev added : ℤ → Columns → ℤ
+added z cs = pos (addZ (run 0 0 1 (soil 6000 0 0) fresh) z cs .answer .number)
 
 -- .. of a whole series of n times this Z, with lists of so many places
 abbrev series : ℕ → ℤ → ℕ → ℕ → ℤ
@@ -159,14 +163,20 @@ series n z index mark = pos (seriesRefusal (replicate n z) index mark)
 abbrev listTable : List Row
 listTable =
     -- "Z given directly: -4,000,000 to 4,000,000."
-    (added (pos 4000000) 1 gives pos 0)
-    ∷ (added (pos 4000001) 1 gives pos 12)
-    ∷ (added (minus 4000000) 1 gives pos 0)
-    ∷ (added (minus 4000001) 1 gives pos 12)
+    (added (pos 4000000) (lent 1) gives pos 0)
+    ∷ (added (pos 4000001) (lent 1) gives pos 12)
+    ∷ (added (minus 4000000) (lent 1) gives pos 0)
+    ∷ (added (minus 4000001) (lent 1) gives pos 12)
     -- "1: the five columns .. not all of one length, or length 0 or above 2,400"
-    ∷ (added (pos 0) 0 gives pos 1)
-    ∷ (added (pos 0) 2400 gives pos 0)
-    ∷ (added (pos 0) 2401 gives pos 1)
+    ∷ (added (pos 0) (lentOf 2 1 1 1 1) gives pos 1)
+    ∷ (added (pos 0) (lentOf 1 2 1 1 1) gives pos 1)
+    ∷ (added (pos 0) (lentOf 1 1 2 1 1) gives pos 1)
+    ∷ (added (pos 0) (lentOf 1 1 1 2 1) gives pos 1)
+    ∷ (added (pos 0) (lentOf 1 1 1 1 2) gives pos 1)
+    ∷ (added (pos 0) (lent 0) gives pos 1)
+    ∷ (added (pos 0) (lent 1) gives pos 0)
+    ∷ (added (pos 0) (lent 2400) gives pos 0)
+    ∷ (added (pos 0) (lent 2401) gives pos 1)
     -- "or the three lists of a whole series"
     ∷ (series 0 (pos 0) 0 0 gives pos 1)
     ∷ (series 1 (pos 0) 1 1 gives pos 0)
