@@ -2,9 +2,11 @@
 """Holds README.md to what it says and shows: its commands print what it shows of them, its C compiles without a warning
 and prints what it says, its way from a CSV comes to the sample's own figures, its table of refusals has the words of
 the header and of the programs. And docs/MIRROR.md: every command of it prints what stands below it. And docs/RULES.md:
-every definition that it names is in the file that it names, with the number that it says. CC and RUN, from the
-environment, are how C is compiled and run (host/setup.sh).
+every definition that it names is in the file that it names, with the number that it says. And the two groups of each
+crate's specs/Lib.antt: nothing that must be believed uses what only a proof wants. CC and RUN, from the environment,
+are how C is compiled and run (host/setup.sh).
 """
+import glob
 import os
 import re
 import shlex
@@ -100,6 +102,26 @@ def rules():
     return len(held)
 
 
+def groups():
+    """The files of every specs/, by the group that their Lib.antt has them in."""
+    heads = {'-- What must be believed': 'believed', '-- What only a proof wants': 'wanted'}
+    group = {}
+    for lib in glob.glob('crates/*/specs/Lib.antt', root_dir=TOP):
+        crate, head = lib.split('/')[1], None
+        for line in text(lib).split('\n'):
+            head = next((told for words, told in heads.items() if line.startswith(words)), head)
+            if line.startswith('pub mod '):
+                group[crate, line.split()[2]] = head
+    for (crate, name), head in group.items():
+        if head is None:
+            sys.exit('readme: crates/%s/specs/Lib.antt has %s in no group' % (crate, name))
+        used = re.findall(r'^use Rattle·(\w+?)(?:·specs)?\.specs\.(\w+)\.', text('crates', crate, 'specs', name + '.antt'), re.M)
+        bad = [pair for pair in used if head == 'believed' and group.get(pair) == 'wanted']
+        if bad:
+            sys.exit('readme: crates/%s/specs/%s.antt must be believed, and uses what only a proof wants: %s of %s' % (crate, name, bad[0][1], bad[0][0]))
+    return list(group.values()).count('believed'), list(group.values()).count('wanted')
+
+
 def c_program():
     """The program in C, and what README says that it prints."""
     said = re.search(r'and prints `(.*?)`\. `host/station\.c`', README)[1] + '\n'
@@ -154,6 +176,7 @@ def main():
     refusals()
     mirror()
     print('readme: its commands, its C, its way from a CSV and its table are as it says, and so is docs/MIRROR.md; the %d definitions that docs/RULES.md names are there' % rules())
+    print('readme: %d files of specs/ must be believed, and none of them uses one of the %d that only a proof wants' % groups())
 
 
 if __name__ == '__main__':

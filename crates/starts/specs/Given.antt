@@ -1,5 +1,5 @@
--- Which number a start gives, and exactly when: one case for each number, in the order in which they are asked. The tests before its own
--- were passed, and its own was not. Assumes nothing.
+-- Which number a start gives, and exactly when: one case for each number, 0 first and then in the order in which they are asked. The tests
+-- before its own were passed, and its own was not. Assumes nothing.
 use mathlib.Core.Path.{_≡_}
 use mathlib.Core.Bool.{true, false}
 use mathlib.Core.List.{List}
@@ -26,17 +26,17 @@ pub record StartFits (cs : List ℤ) (c ss su m : ℤ) : Type 0 where
   pub month : monthFits m ≡ true
 
 pub data StartGives (cs : List ℤ) (c ss su m : ℤ) (n : ℕ) : Type 0 where
-  -- "constants not sixty numbers"
-  gives-2 : n ≡ notSixty → (length cs ≡ manyConstants → ⊥) → StartGives cs c ss su m n
-  -- "a constant outside its range"
-  gives-3 : n ≡ badConstant → length cs ≡ manyConstants → constantsFit cs ≡ false → StartGives cs c ss su m n
-  -- "zero K": 3 looks at all sixty first, and lets a 0 through
-  gives-21 : n ≡ zeroK → length cs ≡ manyConstants → constantsFit cs ≡ true → ZeroK cs → StartGives cs c ss su m n
-  -- "capacity outside its range"
-  gives-4 : n ≡ badCapacity → ConstantsTaken cs → capacityFits c ≡ false → StartGives cs c ss su m n
-  -- "a start storage negative or above its layer"
-  gives-5 : n ≡ badStorage → ConstantsTaken cs → capacityFits c ≡ true → storagesFit c ss su ≡ false → StartGives cs c ss su m n
-  -- "start month not 1 to 12"
-  gives-6 : n ≡ badMonth → ConstantsTaken cs → capacityFits c ≡ true → storagesFit c ss su ≡ true → monthFits m ≡ false → StartGives cs c ss su m n
-  -- and 0 where none of these holds
+  -- 0: done
   gives-0 : n ≡ 0 → StartFits cs c ss su m → StartGives cs c ss su m n
+  -- 2: "constants not sixty numbers"
+  gives-2 : n ≡ notSixty → (length cs ≡ manyConstants → ⊥) → StartGives cs c ss su m n
+  -- 3: "a constant outside its range"
+  gives-3 : n ≡ badConstant → length cs ≡ manyConstants → constantsFit cs ≡ false → StartGives cs c ss su m n
+  -- 21: "zero K": 3 looks at all sixty first, and lets a 0 through
+  gives-21 : n ≡ zeroK → length cs ≡ manyConstants → constantsFit cs ≡ true → ZeroK cs → StartGives cs c ss su m n
+  -- 4: "capacity outside its range"
+  gives-4 : n ≡ badCapacity → ConstantsTaken cs → capacityFits c ≡ false → StartGives cs c ss su m n
+  -- 5: "a start storage negative or above its layer"
+  gives-5 : n ≡ badStorage → ConstantsTaken cs → capacityFits c ≡ true → storagesFit c ss su ≡ false → StartGives cs c ss su m n
+  -- 6: "start month not 1 to 12"
+  gives-6 : n ≡ badMonth → ConstantsTaken cs → capacityFits c ≡ true → storagesFit c ss su ≡ true → monthFits m ≡ false → StartGives cs c ss su m n
