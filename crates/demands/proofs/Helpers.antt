@@ -12,10 +12,9 @@ use lib.IntN.{ℤ, pos}
 use lib.Signed.{leZ, _<ℤ_, <ℤ-irrefl}
 use lib.ListN.{length, getD}
 use Rattle.outline.proofs.Tests.{each}
-use Rattle.exact.specs.Worked.{Row as Line, _gives_, agree}
+use Rattle.exact.specs.Worked.{Row as Line, _gives_, minus, agree}
 use Rattle.exact.proofs.Z.{le-yes, le-no, ≤ℤ-antisym}
 use Rattle.water.specs.Layers.{surfaceHolds, underlyingHolds, SoilFits}
-use Rattle.water.specs.declared.Soil.{Soil}
 use Rattle.spells.specs.declared.With.{With}
 use Rattle.spells.specs.declared.Decision.the-variants.{Decides}
 use Rattle.hindsight.specs.Rule.{X, Row, Shown}
@@ -31,7 +30,7 @@ use Rattle.demands.specs.Months.{Ask, asked, State, after, afterAll, Acc
 use Rattle.demands.specs.Demands.{Answers, Honest, calendarAfter, Balances, Existing, by-add, marksWith}
 use Rattle.demands.specs.Seasons.{SameFrom}
 use Rattle.demands.specs.Mirror.{Excepted, TurnsAbout}
-use Rattle.demands.proofs.Rejected.{minus}
+use Rattle.demands.specs.Pinned.{soil}
 
 -- two numbers of which the first is above the second
 apart : {a b : ℤ} → leZ a b ≡ false → a ≡ b → ⊥
@@ -168,9 +167,6 @@ exists-on r [] cs e = e
 exists-on r (a ∷ later) cs e = let b = asked r a cs in exists-on (b .answer .run) later (b .columns) (by-add r a cs e)
 
 -- ---- `SoilFits`: layers that are full, and none a thousandth above its size; a capacity of 100 to 30,000
-abbrev soil : ℕ → ℕ → ℕ → Soil
-soil c ss su = record { capacity = c; surface = ss; underlying = su }
-
 pub soils-fit : SoilFits (soil 6000 1000 5000) × SoilFits (soil 100 100 0) × SoilFits (soil 30000 1000 29000)
 unfolding surfaceHolds underlyingHolds
 soils-fit = (

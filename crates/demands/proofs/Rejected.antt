@@ -7,11 +7,12 @@ use mathlib.Core.Bool.{true, false}
 use mathlib.Core.List.{List, [], _∷_}
 use Prim.Native.Nat.{ℕ, zero, suc}
 use native.Mathlib.Omega.{arith}
-use lib.IntN.{ℤ, pos, negsuc, negℤ, natAbs}
+use lib.IntN.{ℤ, pos, negsuc, natAbs}
 use lib.ListN.{getD, replicate}
 use lib.Ieee.{Float, nan, fin}
 use Rattle.exact.specs.Nearest.{nearest, nearestℕ}
 use Rattle.exact.specs.Next.{nextOf}
+use Rattle.exact.specs.Worked.{minus}
 use Rattle.door.specs.Exact.{within, nearestTo}
 use Rattle.door.specs.Readings.{whole, converted, inches as inInches, reading, month}
 use Rattle.door.specs.declared.Reading.{Reading}
@@ -39,9 +40,6 @@ use Rattle.demands.specs.Demands.{Fresh}
 use Rattle.demands.specs.Rejected.{Adds, Keeps, readings, next, Rejects, RoomFirst, PlaceFirst}
 
 -- ---- what the months are added to
-abbrev pub minus : ℕ → ℤ
-minus n = negℤ (pos n)
-
 -- columns of n places
 abbrev pub blank : ℕ → Columns
 blank n = columns (replicate n (pos 0)) (replicate n (pos 0)) (replicate n (pos 0)) (replicate n (pos 0)) (replicate n 0)

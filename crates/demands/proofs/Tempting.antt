@@ -10,6 +10,7 @@ use lib.ListN.{length, replicate}
 use Rattle.outline.specs.Numbers.{foundsFrom, inForceBeyond, lengthFits, zFits}
 use Rattle.exact.specs.Nearest.{nearest, nearestℕ}
 use Rattle.exact.specs.Next.{nextOf}
+use Rattle.exact.specs.Worked.{minus}
 use Rattle.exact.proofs.Z.{zs, is-Z}
 use Rattle.water.specs.Layers.{leastCapacity, surfaceHolds, underlyingHolds}
 use Rattle.spells.specs.declared.Running.{Running}
@@ -37,7 +38,7 @@ use Rattle.drought.specs.Calls.{addZ}
 use Rattle.demands.specs.Mirror.{turned, mirrorRun, Given, shownAt}
 use Rattle.demands.specs.Demands.{Fresh}
 use Rattle.demands.proofs.Shown.{refused-start}
-use Rattle.demands.proofs.Rejected.{minus, blank}
+use Rattle.demands.proofs.Rejected.{blank}
 
 -- the running values after a list of Z from a fresh run
 abbrev valuesAfter : List ℤ → Running

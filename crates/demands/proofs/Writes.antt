@@ -7,13 +7,14 @@ use native.Mathlib.Omega.{arith}
 use lib.IntN.{ℤ, pos}
 use lib.ListN.{length, getD, take, drop, set, replicate, length-append, length-drop}
 use lib.Seq.{take-set-le, take-suc-set, take-take, take-at, drop-at, getD-at, length-take-le}
+use Rattle.spells.specs.declared.With.{With}
 use Rattle.spells.specs.declared.Decision.{Decision}
 use Rattle.spells.specs.declared.Decision.the-variants.{Nothing, Decides}
-use Rattle.hindsight.specs.Rule.{Row}
+use Rattle.hindsight.specs.Rule.{X, Row}
 use Rattle.hindsight.specs.Adding.{History, settledAll, addAs, settledAs}
-use Rattle.hindsight.specs.Columns.{xAt}
+use Rattle.hindsight.specs.Columns.{xAt, xsFrom}
 use Rattle.hindsight.specs.Months.{markFor}
-use Rattle.history.proofs.Adding.{length-xs}
+use Rattle.history.proofs.Adding.{length-xs, drop-xs}
 use Rattle.runs.specs.declared.Run.{Run}
 use Rattle.refusals.specs.Columns.{Columns}
 use Rattle.refusals.proofs.Refused.{columns-are}
@@ -51,7 +52,7 @@ module _ (held : History) (at : ℕ) (p : length (held .past) ≡ at) (o : held 
 
     parts : (n : ℕ) (settled : List ℤ) → n + length settled ≡ at
         → let new = (take n index ++ (settled ++ (r .shown ∷ []))) ++ drop (suc at) index in
-        (take n new ≡ take n index) × (getD new at (pos 0) ≡ r .shown) × (drop (suc at) new ≡ drop (suc at) index)
+        (take n new ≡ take n index) × (getD new at (pos 0) ≡ r .shown) × (drop (suc at) new ≡ drop (suc at) index) × (take (length settled) (drop n new) ≡ settled)
     parts n settled e =
         let front = take n index in
         let rest = drop (suc at) index in
@@ -62,6 +63,9 @@ module _ (held : History) (at : ℕ) (p : length (held .past) ≡ at) (o : held 
           ap (λ (u : List ℤ). getD u at (pos 0)) (append-assoc front (settled ++ (r .shown ∷ [])) rest ∙ ap (λ (u : List ℤ). front ++ u) (append-assoc settled (r .shown ∷ []) rest) ∙ sym (append-assoc front settled (r .shown ∷ rest)))
               ∙ getD-at (front ++ settled) (r .shown) rest (pos 0) at before,
           drop-at (front ++ (settled ++ (r .shown ∷ []))) rest (suc at) all,
+          ap (λ (u : List ℤ). take (length settled) (drop n u)) (append-assoc front (settled ++ (r .shown ∷ [])) rest)
+              ∙ ap (take (length settled)) (drop-at front _ n long ∙ append-assoc settled (r .shown ∷ []) rest)
+              ∙ take-at settled _ (length settled) refl,
         )
 
     index-as : held .index ≡ take at index → (d : Decision) → Kept d (addAs d held r .index ++ drop (suc at) index)
@@ -72,12 +76,30 @@ module _ (held : History) (at : ℕ) (p : length (held .past) ≡ at) (o : held 
     index-as i (Decides w) =
         let n = at - held .opens in
         let q = parts n (settledAll w (drop n (held .past))) (omega (arith, settled-long w (drop n (held .past)), length-drop n (held .past))) in
-        rw (i, p, take-take n at index (omega arith), less at (held .opens), take-set-le n index at (r .shown) (omega arith)) q
+        rw (i, p, take-take n at index (omega arith), less at (held .opens), take-set-le n index at (r .shown) (omega arith)) (q .0, q .1, q .2)
+
+    settled-as : held .index ≡ take at index → (d : Decision) (w : With) → d ≡ Decides w
+        → take (held .opens) (drop (at - held .opens) (addAs d held r .index ++ drop (suc at) index)) ≡ settledAll w (drop (at - held .opens) (held .past))
+    settled-as i d w e =
+        let n = at - held .opens in
+        let s = settledAll w (drop n (held .past)) in
+        let long : length s ≡ held .opens = omega (arith, settled-long w (drop n (held .past)), length-drop n (held .past)) in
+        rw (e, i, p, take-take n at index (omega arith)) (ap (λ (k : ℕ). take k (drop n ((take n index ++ (s ++ (r .shown ∷ []))) ++ drop (suc at) index))) (sym long) ∙ parts n s (omega (arith, long)) .3)
 
 -- ---- the count: "the open months before it plus one if it decides, else 0"
 count-as : (d : Decision) (opens : ℕ) → (markFor d ≡ 2 → settledAs d opens ≡ suc opens) × (markFor d ≡ 1 → settledAs d opens ≡ 0)
 count-as Nothing opens = (λ e. absurd (omega arith), λ e. refl)
 count-as (Decides w) opens = (λ e. refl, λ e. absurd (omega arith))
+
+-- the last k of n months
+last-of : (f : ℕ → X) (n k : ℕ) → k ≤ n → xsFrom f (0 + (n - k)) (n - (n - k)) ≡ xsFrom f (n - k) k
+last-of f n k l = rw (zero-more (n - k), back n k l)
+  where
+    zero-more : (m : ℕ) → 0 + m ≡ m
+    zero-more m = omega arith
+
+    back : (n k : ℕ) → k ≤ n → n - (n - k) ≡ k
+    back n k l = omega arith
 
 pub writes : (r : Run) (a : Ask) (cs : Columns) → asked r a cs .answer .number ≡ 0 → Writes r cs (asked r a cs)
 unfolding taken
@@ -96,6 +118,9 @@ writes r a cs h =
       index-kept = i .0;
       index-own = i .1;
       index-beyond = i .2;
+      index-settled = λ w e.
+          settled-as (heldBy r cs) (r .months) p o row (cs .index) (omega (arith, n .2, t .room)) refl (row .decision) w e
+          ∙ ap (settledAll w) (drop-xs (xAt (cs .x1) (cs .x2) (cs .x3)) 0 (r .months) (r .months - r .opens) (omega arith) ∙ last-of (xAt (cs .x1) (cs .x2) (cs .x3)) (r .months) (r .opens) o);
       marks = marks-as (heldBy r cs) (r .months) p o row (cs .mark) (omega (arith, n .3, t .room)) refl (row .decision);
       decides = count-as (row .decision) (r .opens) .0;
       undecided = count-as (row .decision) (r .opens) .1;

@@ -8,7 +8,7 @@ use mathlib.Core.List.{List, [], _∷_, _++_, map}
 use lib.IntN.{ℤ, pos, negsuc}
 use lib.Ieee.{fin}
 use lib.ListN.{replicate}
-use Rattle.exact.specs.Worked.{Row, _gives_}
+use Rattle.exact.specs.Worked.{Row, _gives_, minus}
 use Rattle.door.specs.declared.Reading.{Reading}
 use Rattle.door.specs.declared.Reading.the-variants.{Whole, Missing}
 use Rattle.starts.specs.Start.{startOf}
@@ -23,7 +23,7 @@ use Rattle.adding.specs.declared.WaterFigures.{WaterFigures}
 use Rattle.drought.specs.Calls.{addWater, addInches, addZ, rowOfRun}
 use Rattle.drought.specs.declared.Shown.{Shown}
 use Rattle.season.specs.Season.{SeasonResult, addSeason}
-use Rattle.demands.specs.Pinned.{minus, lent}
+use Rattle.demands.specs.Pinned.{lent}
 
 -- ---- the months
 -- a month's five: W1's (document 01) in March, and 10 more for each month later. All sixty differ

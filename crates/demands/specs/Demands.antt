@@ -20,8 +20,12 @@ use Rattle.water.specs.Layers.{surfaceHolds, underlyingHolds, SoilFits}
 use Rattle.water.specs.Expected.{monthOf}
 use Rattle.water.specs.declared.Soil.{Soil}
 use Rattle.water.specs.declared.Constants.{Constants}
+use Rattle.spells.specs.Spells.{stepOf}
+use Rattle.spells.specs.declared.With.{With}
+use Rattle.spells.specs.declared.Decision.the-variants.{Decides}
 use Rattle.hindsight.specs.Rule.{X, Row, forward}
-use Rattle.hindsight.specs.Columns.{xAt}
+use Rattle.hindsight.specs.Adding.{settledAll}
+use Rattle.hindsight.specs.Columns.{xAt, xsFrom}
 use Rattle.hindsight_laws.specs.Counts.{NoneFrom, count}
 use Rattle.calendar.specs.Calendar.{constantsAt, ZeroK}
 use Rattle.starts.specs.Start.{startRefusal, startOf, freshRun, zeroRun}
@@ -39,11 +43,7 @@ use Rattle.demands.specs.Given.{ReadingGives, AddGives, RowGives, Series
 
 -- ---- a fresh run whose columns nobody else writes
 
--- what a start gives that is not refused, beside the columns that are lent
-abbrev pub begun : List ℤ → ℤ → ℤ → ℤ → ℤ → Columns → State
-begun constants c ss su m cs = record { run = freshRun constants c ss su m; columns = cs }
-
--- "a fresh run whose columns nobody else writes": a start that was not refused, and columns of any content
+-- a start that was not refused, and columns of any content
 pub record Fresh : Type 0 where
   pub constants : List ℤ
   pub capacity : ℤ
@@ -53,8 +53,9 @@ pub record Fresh : Type 0 where
   pub columns : Columns
   pub started : startRefusal constants capacity surface underlying month ≡ 0
 
+-- the run that it gave (`Demand1.starts`), and the columns
 abbrev pub first : Fresh → State
-first f = begun (f .constants) (f .capacity) (f .surface) (f .underlying) (f .month) (f .columns)
+first f = record { run = freshRun (f .constants) (f .capacity) (f .surface) (f .underlying) (f .month); columns = f .columns }
 
 -- the run and the columns after months have been added to it, one by one
 abbrev pub now : Fresh → List Ask → State
@@ -205,6 +206,10 @@ marks s = heldBy (s .run) (s .columns) .mark
 abbrev pub marksWith : ℕ → ℕ → List ℕ → List ℕ
 marksWith k at mark = take (suc at - k) (set mark at 1) ++ (replicate k 2 ++ drop (suc at) mark)
 
+-- X1, X2 and X3 of the run's last open months, as the columns hold them
+abbrev pub openMonths : Run → Columns → List X
+openMonths r cs = xsFrom (xAt (cs .x1) (cs .x2) (cs .x3)) (r .months - r .opens) (r .opens)
+
 -- "An add writes the new month's place in the five columns, and index and mark of the open months it settles, and nothing else": r and cs are
 -- what an accepted add was given, b what it left
 pub record Writes (r : Run) (cs : Columns) (b : Result) : Type 0 where
@@ -217,6 +222,10 @@ pub record Writes (r : Run) (cs : Columns) (b : Result) : Type 0 where
       take n (b .columns .index) ≡ take n (set (cs .index) (r .months) (b .answer .figures .index))
   pub index-own : getD (b .columns .index) (r .months) (pos 0) ≡ b .answer .figures .index
   pub index-beyond : drop (suc (r .months)) (b .columns .index) ≡ drop (suc (r .months)) (cs .index)
+  -- "An add settles the run's last open months by the rule above from whatever the columns hold"
+  pub index-settled :
+      (w : With) → stepOf (r .values) (b .answer .figures .z) .decision ≡ Decides w
+      → take (r .opens) (drop (r .months - r .opens) (b .columns .index)) ≡ settledAll w (openMonths r cs)
   -- the settled count "equals the marks the call writes as 2"
   pub marks : b .columns .mark ≡ marksWith (b .answer .settled) (r .months) (cs .mark)
   -- "its own included: the open months before it plus one if it decides, else 0"

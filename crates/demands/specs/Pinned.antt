@@ -4,11 +4,11 @@
 use Prim.Native.Nat.{ℕ, _+_, _*_}
 use mathlib.Core.Bool.{true, false}
 use mathlib.Core.List.{List, [], _∷_, _++_}
-use lib.IntN.{ℤ, pos, negsuc, negℤ}
+use lib.IntN.{ℤ, pos, negsuc}
 use lib.Ieee.{Float, nan, inf, fin}
 use lib.ListN.{replicate, set}
 use Rattle.outline.specs.Refusals.{notANumber}
-use Rattle.exact.specs.Worked.{Row, _gives_}
+use Rattle.exact.specs.Worked.{Row, _gives_, minus}
 use Rattle.door.specs.Outcome.{Outcome}
 use Rattle.door.specs.Readings.{reading}
 use Rattle.door.specs.declared.Reading.the-variants.{Whole, Inches, Millimetres, Missing}
@@ -20,9 +20,6 @@ use Rattle.runs.specs.declared.Run.{Run}
 use Rattle.series.specs.Series.{seriesRefusal}
 use Rattle.refusals.specs.Columns.{Columns, columns}
 use Rattle.drought.specs.Calls.{addZ}
-
-abbrev pub minus : ℕ → ℤ
-minus n = negℤ (pos n)
 
 -- columns of so many places, which hold another number each; and all of one length
 abbrev lentOf : ℕ → ℕ → ℕ → ℕ → ℕ → Columns
@@ -77,7 +74,7 @@ readingTable =
 abbrev run : ℕ → ℕ → ℕ → Soil → Running → Run
 run n opens calendar soil values = record { months = n; opens = opens; calendar = calendar; soil = soil; values = values; constants = ones }
 
-abbrev soil : ℕ → ℕ → ℕ → Soil
+abbrev pub soil : ℕ → ℕ → ℕ → Soil
 soil c ss su = record { capacity = c; surface = ss; underlying = su }
 
 -- the number of an add of Z 0 to a run, on columns of three places

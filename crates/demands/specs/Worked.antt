@@ -5,9 +5,9 @@
 -- `worked` of proofs/WorkedMonths.antt. Assumes nothing.
 use Prim.Native.Nat.{ℕ}
 use mathlib.Core.List.{List, [], _∷_, _++_}
-use lib.IntN.{ℤ, pos, negℤ}
+use lib.IntN.{ℤ, pos}
 use lib.ListN.{getD}
-use Rattle.exact.specs.Worked.{_gives_, Row as Line}
+use Rattle.exact.specs.Worked.{_gives_, minus, Row as Line}
 use Rattle.water.specs.Worked.{waterTable, thinTable}
 use Rattle.calendar.specs.Worked.{placeTable}
 use Rattle.starts.specs.Worked.{soilTable, kTable, rangeTable}
@@ -18,9 +18,6 @@ use Rattle.hindsight.specs.Adding.{addAll}
 use Rattle.hindsight.specs.Months.{nextValues, rowOfZ}
 use Rattle.demands.specs.Pinned.{numbersTable}
 use Rattle.demands.specs.Answered.{answerTable}
-
-abbrev minus : ℕ → ℤ
-minus n = negℤ (pos n)
 
 -- "S4: X3 -4,070, others 0; Z 3,590, -1,460, -1,600", and then one month more
 unfoldable pub months : ℤ → List Row

@@ -18,7 +18,7 @@ pub length-xs : (f : ℕ → X) (i n : ℕ) → length (xsFrom f i n) ≡ n
 length-xs f i zero = refl
 length-xs f i (suc n) = ap suc (length-xs f (suc i) n)
 
-drop-xs : (f : ℕ → X) (i n k : ℕ) → k ≤ n → drop k (xsFrom f i n) ≡ xsFrom f (i + k) (n - k)
+pub drop-xs : (f : ℕ → X) (i n k : ℕ) → k ≤ n → drop k (xsFrom f i n) ≡ xsFrom f (i + k) (n - k)
 drop-xs f i n zero h =
     let a : i + 0 ≡ i = omega arith in
     let b : n - 0 ≡ n = omega arith in

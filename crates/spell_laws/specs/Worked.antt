@@ -1,17 +1,13 @@
 -- Document 01, "Worked months", S1 to S6: the spells of single months and the running values, as rows. The crate
 -- `demands` joins them with the water's rows to one table, and its one claim is that every row agrees. Assumes nothing.
-use Prim.Native.Nat.{ℕ}
 use mathlib.Core.List.{List, [], _∷_}
-use lib.IntN.{ℤ, pos, negℤ}
-use Rattle.exact.specs.Worked.{Row, _gives_}
+use lib.IntN.{ℤ, pos}
+use Rattle.exact.specs.Worked.{Row, _gives_, minus}
 use Rattle.spells.specs.declared.Running.{Running}
 use Rattle.spells.specs.declared.SpellMonth.{SpellMonth}
 use Rattle.spells.specs.Decisions.{decisionNumber}
 use Rattle.spells.specs.Values.{fresh}
 use Rattle.spells.specs.Spells.{stepOf}
-
-abbrev minus : ℕ → ℤ
-minus n = negℤ (pos n)
 
 -- nothing is decided, and the month is open
 abbrev nothing : ℤ
