@@ -17,6 +17,7 @@ use Rattle.demands.proofs.Honest.{never-refused-7, rows-honest}
 use Rattle.demands.proofs.ZeroK.{starts-exactly, zero-k, nothing-counts, counts}
 use Rattle.demands.proofs.Seasons.{here-more}
 use Rattle.demands.proofs.SeasonGiven.{seasons-exactly, seasons-refused, honest-seasons}
+use Rattle.demands.proofs.Table.{table}
 use Rattle.demands.proofs.Singly.{series-as-singly, singly-accepted}
 
 -- a whole series answers with its number, and a refused one leaves both lists as they were
@@ -44,6 +45,7 @@ demand-1 =
       rows-exactly = rows-exactly;
       series = refused-series;
       series-exactly = series-exactly;
+      table = table;
       honest = never-refused-7;
       honest-rows = rows-honest;
       honest-seasons = honest-seasons;

@@ -20,6 +20,7 @@ pub mod WorkedMonths
 pub mod Helpers
 pub mod Seasons
 pub mod SeasonGiven
+pub mod Table
 pub mod Rejected
 pub mod SeasonRejected
 pub mod Tempting

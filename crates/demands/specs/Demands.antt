@@ -2,8 +2,9 @@
 -- each call with, for every input: a call of the code does what is said here, because its promise is that equation and has no `requires`.
 -- `demand-1`, `demand-2` and `demand-3` of proofs/Demands.antt prove them. Months that are added one by one (`Ask`, `asked`, `afterAll`,
 -- `Accepted`) and what the rules make of them (`Station`, `figuresOfMonths`, `rowsOfMonths`) are in Months.antt beside this file; when a call
--- gives a number (`AddGives` and the others) in Given.antt; `forward`, the rule that looks forward from a month, in the crate `hindsight`,
--- specs/Rule.antt. A season has its own words, document 02's, in Seasons.antt. Assumes nothing.
+-- gives a number (`AddGives` and the others) in Given.antt, and number by number (`Table`) in Table.antt; `forward`, the rule that looks
+-- forward from a month, in the crate `hindsight`, specs/Rule.antt. A season has its own words, document 02's, in Seasons.antt. Assumes
+-- nothing.
 use mathlib.Core.Path.{_≡_}
 use mathlib.Core.Bool.{true, cond}
 use mathlib.Core.Logic.{_↔_, _⊎_}
@@ -40,6 +41,7 @@ use Rattle.drought.specs.Calls.{shown, notShown, rowOfRun}
 use Rattle.season.specs.Season.{seasonResult, nothing, addSeason}
 use Rattle.demands.specs.Months.{Ask, water, inches, anomaly, asked, State, after, afterAll, Accepted, figuresAnswered, monthsOf, leftOf, stationOf, figuresFor, figuresOfMonths, noRow, rowsOfMonths}
 use Rattle.demands.specs.Given.{ReadingGives, AddGives, RowGives, SeriesGives, SeasonGives}
+use Rattle.demands.specs.Table.{Table}
 
 -- ---- a fresh run whose columns nobody else writes
 
@@ -116,6 +118,8 @@ pub record Demand1 : Type 0 where
       → (wholeSeries z index mark .number ≡ seriesRefusal z (length index) (length mark))
       × ((seriesRefusal z (length index) (length mark) ≡ 0 → ⊥) → (wholeSeries z index mark .index ≡ index) × (wholeSeries z index mark .mark ≡ mark))
   pub series-exactly : (z index : List ℤ) (mark : List ℕ) (n : ℕ) → (wholeSeries z index mark .number ≡ n) ↔ SeriesGives z index mark n
+  -- and of every call each of its numbers by itself, in the order of the outline's table
+  pub table : Table
   -- what a start gives and each add keeps is a run: on columns that nobody else writes no add, row or season (of two lists of one length) is
   -- ever refused 1 or 7, whatever was asked before, accepted or refused
   pub honest : (f : Fresh) → columnsFit (f .columns) ≡ true → (asks : List Ask) (a : Ask) → Honest (asked (now f asks .run) a (now f asks .columns) .answer .number)

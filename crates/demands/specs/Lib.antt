@@ -1,8 +1,9 @@
--- What must be believed: the words in which the demands are said (Months), which number each call gives and exactly when (Given), the demands,
+-- What must be believed: the words in which the demands are said (Months), which number each call gives and exactly when (Given, Table), the demands,
 -- the programs that they reject (Rejected), the requests said in the same words (Seasons, Mirror), and the worked months with the outline's
 -- numbers (Pinned) and whole answers (Answered) beside them (Worked).
 pub mod Months
 pub mod Given
+pub mod Table
 pub mod Demands
 pub mod Rejected
 pub mod Seasons

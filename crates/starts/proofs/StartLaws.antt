@@ -1,6 +1,6 @@
 -- What the numbers of a start that is not refused say, its refusals one by one and in their order, that no other start is refused, and
 -- so each number exactly when. A chain of tests, each taken apart once. Assumes nothing.
-use mathlib.Core.Path.{_≡_, refl, sym, _∙_, subst}
+use mathlib.Core.Path.{_≡_, refl, sym, subst}
 use mathlib.Core.Bool.{Bool, true, false, not, _&&_, cond}
 use mathlib.Core.Logic.{_↔_}
 use mathlib.Core.List.{List}
@@ -119,35 +119,40 @@ module _ (cs : List ℤ) (c ss su m : ℤ) where
   abbrev Given : Type 0
   Given = StartGives cs c ss su m (startRefusal cs c ss su m)
 
+  told : {n : ℕ} → startRefusal cs c ss su m ≡ n → StartGives cs c ss su m n → Given
+  told e g = subst (StartGives cs c ss su m) (sym e) g
+
   soil-given : ConstantsTaken cs → capacityFits c ≡ true → Given
   soil-given t k =
       if-so (storagesFit c ss su)
-      (λ s. if-so (monthFits m) (λ h. let f : StartFits cs c ss su m = record { constants = t; capacity = k; storages = s; month = h } in gives-0 (not-refused f) f) (λ h. gives-6 (refused-6 t k s h) t k s h))
-      (λ s. gives-5 (refused-5 t k s) t k s)
+      (λ s. if-so (monthFits m)
+      (λ h. let f : StartFits cs c ss su m = record { constants = t; capacity = k; storages = s; month = h } in told (not-refused f) (gives-0 f))
+      (λ h. told (refused-6 t k s h) (gives-6 t k s h)))
+      (λ s. told (refused-5 t k s) (gives-5 t k s))
 
   constants-given : length cs ≡ manyConstants → constantsFit cs ≡ true → Given
   constants-given l f =
       if-so (someZeroK cs)
-      (λ z. gives-21 (refused-21 l f z) l f (zero-k-exactly cs .0 z))
-      (λ z. let t = constants-taken l f z in if-so (capacityFits c) (soil-given t) (λ k. gives-4 (refused-4 t k) t k))
+      (λ z. told (refused-21 l f z) (gives-21 l f (zero-k-exactly cs .0 z)))
+      (λ z. let t = constants-taken l f z in if-so (capacityFits c) (soil-given t) (λ k. told (refused-4 t k) (gives-4 t k)))
 
   given : Given
   given =
       if-so (eqb (length cs) manyConstants)
-      (λ a. let l = eqb-true (length cs) manyConstants a in if-so (constantsFit cs) (constants-given l) (λ f. gives-3 (refused-3 l f) l f))
-      (λ a. let n = eqb-false (length cs) manyConstants a in gives-2 (refused-2 n) n)
+      (λ a. let l = eqb-true (length cs) manyConstants a in if-so (constantsFit cs) (constants-given l) (λ f. told (refused-3 l f) (gives-3 l f)))
+      (λ a. let n = eqb-false (length cs) manyConstants a in told (refused-2 n) (gives-2 n))
+
+  back : (n : ℕ) → StartGives cs c ss su m n → startRefusal cs c ss su m ≡ n
+  back n (gives-2 h) = refused-2 h
+  back n (gives-3 l h) = refused-3 l h
+  back n (gives-21 l f z) = refused-21 l f (zero-k-exactly cs .1 z)
+  back n (gives-4 t h) = refused-4 t h
+  back n (gives-5 t k h) = refused-5 t k h
+  back n (gives-6 t k s h) = refused-6 t k s h
+  back n (gives-0 f) = not-refused f
 
   pub given-exactly : (n : ℕ) → (startRefusal cs c ss su m ≡ n) ↔ StartGives cs c ss su m n
-  given-exactly n = (λ e. subst (StartGives cs c ss su m) e given, back)
-    where
-      back : StartGives cs c ss su m n → startRefusal cs c ss su m ≡ n
-      back (gives-2 e h) = refused-2 h ∙ sym e
-      back (gives-3 e l h) = refused-3 l h ∙ sym e
-      back (gives-21 e l f z) = refused-21 l f (zero-k-exactly cs .1 z) ∙ sym e
-      back (gives-4 e t h) = refused-4 t h ∙ sym e
-      back (gives-5 e t k h) = refused-5 t k h ∙ sym e
-      back (gives-6 e t k s h) = refused-6 t k s h ∙ sym e
-      back (gives-0 e f) = not-refused f ∙ sym e
+  given-exactly n = (λ e. subst (StartGives cs c ss su m) e given, back n)
 
   -- a refused start answers with its number and a run of all zeros
   pub refused-start : (n : ℕ) → n ≡ startRefusal cs c ss su m → (n ≡ 0 → ⊥) → startOf cs c ss su m ≡ record { number = n; run = zeroRun }

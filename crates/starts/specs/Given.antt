@@ -25,18 +25,18 @@ pub record StartFits (cs : List ℤ) (c ss su m : ℤ) : Type 0 where
   pub storages : storagesFit c ss su ≡ true
   pub month : monthFits m ≡ true
 
-pub data StartGives (cs : List ℤ) (c ss su m : ℤ) (n : ℕ) : Type 0 where
+pub data StartGives (cs : List ℤ) (c ss su m : ℤ) : ℕ → Type 0 where
   -- 0: done
-  gives-0 : n ≡ 0 → StartFits cs c ss su m → StartGives cs c ss su m n
+  gives-0 : StartFits cs c ss su m → StartGives cs c ss su m 0
   -- 2: "constants not sixty numbers"
-  gives-2 : n ≡ notSixty → (length cs ≡ manyConstants → ⊥) → StartGives cs c ss su m n
+  gives-2 : (length cs ≡ manyConstants → ⊥) → StartGives cs c ss su m notSixty
   -- 3: "a constant outside its range"
-  gives-3 : n ≡ badConstant → length cs ≡ manyConstants → constantsFit cs ≡ false → StartGives cs c ss su m n
+  gives-3 : length cs ≡ manyConstants → constantsFit cs ≡ false → StartGives cs c ss su m badConstant
   -- 21: "zero K": 3 looks at all sixty first, and lets a 0 through
-  gives-21 : n ≡ zeroK → length cs ≡ manyConstants → constantsFit cs ≡ true → ZeroK cs → StartGives cs c ss su m n
+  gives-21 : length cs ≡ manyConstants → constantsFit cs ≡ true → ZeroK cs → StartGives cs c ss su m zeroK
   -- 4: "capacity outside its range"
-  gives-4 : n ≡ badCapacity → ConstantsTaken cs → capacityFits c ≡ false → StartGives cs c ss su m n
+  gives-4 : ConstantsTaken cs → capacityFits c ≡ false → StartGives cs c ss su m badCapacity
   -- 5: "a start storage negative or above its layer"
-  gives-5 : n ≡ badStorage → ConstantsTaken cs → capacityFits c ≡ true → storagesFit c ss su ≡ false → StartGives cs c ss su m n
+  gives-5 : ConstantsTaken cs → capacityFits c ≡ true → storagesFit c ss su ≡ false → StartGives cs c ss su m badStorage
   -- 6: "start month not 1 to 12"
-  gives-6 : n ≡ badMonth → ConstantsTaken cs → capacityFits c ≡ true → storagesFit c ss su ≡ true → monthFits m ≡ false → StartGives cs c ss su m n
+  gives-6 : ConstantsTaken cs → capacityFits c ≡ true → storagesFit c ss su ≡ true → monthFits m ≡ false → StartGives cs c ss su m badMonth
