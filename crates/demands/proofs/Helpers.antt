@@ -26,7 +26,7 @@ use Rattle.refusals.specs.Columns.{Columns, columns}
 use Rattle.adding.specs.Figures.{noFigures}
 use Rattle.adding.specs.Taken.{Result, result, refusal}
 use Rattle.adding.specs.declared.Figures.{Figures}
-use Rattle.demands.specs.Months.{Ask, asked, State, after, afterAll, Accepted, figuresAnswered, Station, stationNext, figuresFor, figuresOfMonths, noRow}
+use Rattle.demands.specs.Months.{Ask, asked, State, standing, after, afterAll, Accepted, figuresAnswered, Station, stationNext, figuresFor, figuresOfMonths, noRow}
 use Rattle.demands.specs.Demands.{Answers, Honest, calendarAfter, Balances, Existing, by-add, marksWith}
 use Rattle.demands.specs.Seasons.{SameFrom}
 use Rattle.demands.specs.Mirror.{Excepted, TurnsAbout}
@@ -162,7 +162,7 @@ pub marks-written :
 marks-written = (refl, refl, refl)
 
 -- ---- `Existing`: every run that a call hands back, the given one too
-pub exists-on : (r : Run) (asks : List Ask) (cs : Columns) → Existing r → Existing (afterAll (record { run = r; columns = cs }) asks .run)
+pub exists-on : (r : Run) (asks : List Ask) (cs : Columns) → Existing r → Existing (afterAll (standing r cs) asks .run)
 exists-on r [] cs e = e
 exists-on r (a ∷ later) cs e = let b = asked r a cs in exists-on (b .answer .run) later (b .columns) (by-add r a cs e)
 

@@ -21,7 +21,7 @@ use Rattle.refusals.specs.Refusals.{runRefusal}
 use Rattle.refusals.proofs.Refused.{good-passes, run-passes}
 use Rattle.season.specs.Season.{SeasonResult, seasonResult, nothing, joined, stopped, single, addEach, seasonRefusal, addSeason}
 use Rattle.season_month.specs.Listed.{listed}
-use Rattle.demands.specs.Months.{Ask, water, asked, State, after, Accepted, monthsOf, leftOf}
+use Rattle.demands.specs.Months.{Ask, water, asked, State, standing, after, Accepted, monthsOf, leftOf}
 use Rattle.demands.specs.Given.{AddGives, add-0, add-1, add-7, add-8, add-9, add-10, add-12, StopsWith, Begins, SeasonGives, season-0, season-1-lists, season-1, season-7, season-8, season-9, season-10}
 use Rattle.demands.specs.Demands.{Honest, Fresh, now}
 use Rattle.demands.proofs.Given.{zero-or, exactly, run-1, run-7, by-run, add-given, add-gives, month-which, not-both-ways}
@@ -90,9 +90,6 @@ stops-which (p ∷ ps) (pe ∷ pes) n s g (inl w) = add-which (s .run) (s .colum
 stops-which (p ∷ ps) (pe ∷ pes) n s g (inr w) = stops-which ps pes n (after s (water (listed p) (listed pe))) (good-after s (water (listed p) (listed pe)) g) (w .1)
 
 module _ (r : Run) (ps pes : List ℤ) (cs : Columns) where
-  abbrev here : State
-  here = record { run = r; columns = cs }
-
   abbrev months : List Ask
   months = monthsOf ps pes
 
@@ -120,31 +117,31 @@ module _ (r : Run) (ps pes : List ℤ) (cs : Columns) where
   run-none e f h = told-refused notARun (rw (eq-eqb (length ps) (length pes) e) (run-7 r cs f h)) (λ e. omega arith)
 
   -- and from it on
-  told-first : Begins r ps pes cs → told ≡ first-of here months
+  told-first : Begins r ps pes cs → told ≡ first-of (standing r cs) months
   unfolding seasonRefusal
   told-first b =
       let z : seasonRefusal r ps pes cs ≡ 0 = rw (eq-eqb (length ps) (length pes) (b .one-length)) (good-passes r cs (b .good)) in
       ap (λ (t : SeasonResult). t .answer .number) (begins r ps pes cs z) ∙ each-number ps pes (seasonResult (nothing 0 r) cs) refl
 
   season-given : (n : ℕ) → SeasonGives r ps pes cs n → told ≡ n
-  season-given n (season-0 b h) = told-first b ∙ first-accepted here months h
+  season-given n (season-0 b h) = told-first b ∙ first-accepted (standing r cs) months h
   season-given n (season-1-lists h) = lists-1 h
   season-given n (season-1 f) = columns-1 f
   season-given n (season-7 e f h) = run-none e f h
-  season-given n (season-8 b w) = told-first b ∙ first-stops missing here months w
-  season-given n (season-9 b w) = told-first b ∙ first-stops notAcceptable here months w
-  season-given n (season-10 b w) = told-first b ∙ first-stops full here months w
+  season-given n (season-8 b w) = told-first b ∙ first-stops missing (standing r cs) months w
+  season-given n (season-9 b w) = told-first b ∙ first-stops notAcceptable (standing r cs) months w
+  season-given n (season-10 b w) = told-first b ∙ first-stops full (standing r cs) months w
 
-  season-stops : (n : ℕ) → Begins r ps pes cs → StopsWith n here months → SeasonGives r ps pes cs n
+  season-stops : (n : ℕ) → Begins r ps pes cs → StopsWith n (standing r cs) months → SeasonGives r ps pes cs n
   season-stops n b w =
-      ⊎-elim (λ e. subst (SeasonGives r ps pes cs) (sym e) (season-8 b (subst (λ (k : ℕ). StopsWith k here months) e w)))
+      ⊎-elim (λ e. subst (SeasonGives r ps pes cs) (sym e) (season-8 b (subst (λ (k : ℕ). StopsWith k (standing r cs) months) e w)))
       (⊎-elim
-      (λ e. subst (SeasonGives r ps pes cs) (sym e) (season-9 b (subst (λ (k : ℕ). StopsWith k here months) e w)))
-      (λ e. subst (SeasonGives r ps pes cs) (sym e) (season-10 b (subst (λ (k : ℕ). StopsWith k here months) e w))))
-      (stops-which ps pes n here (b .good) w)
+      (λ e. subst (SeasonGives r ps pes cs) (sym e) (season-9 b (subst (λ (k : ℕ). StopsWith k (standing r cs) months) e w)))
+      (λ e. subst (SeasonGives r ps pes cs) (sym e) (season-10 b (subst (λ (k : ℕ). StopsWith k (standing r cs) months) e w))))
+      (stops-which ps pes n (standing r cs) (b .good) w)
 
-  season-begun : (b : Begins r ps pes cs) → SeasonGives r ps pes cs (first-of here months)
-  season-begun b = ⊎-elim (λ p. subst (SeasonGives r ps pes cs) (sym (p .0)) (season-0 b (p .1))) (λ w. season-stops (first-of here months) b w) (first-gives here months)
+  season-begun : (b : Begins r ps pes cs) → SeasonGives r ps pes cs (first-of (standing r cs) months)
+  season-begun b = ⊎-elim (λ p. subst (SeasonGives r ps pes cs) (sym (p .0)) (season-0 b (p .1))) (λ w. season-stops (first-of (standing r cs) months) b w) (first-gives (standing r cs) months)
 
   season-gives : SeasonGives r ps pes cs told
   season-gives =

@@ -23,7 +23,7 @@ use Rattle.season.specs.Season.{SeasonResult, seasonResult, nothing, joined, st
 use Rattle.season_month.specs.Listed.{listed}
 use Rattle.outline.specs.Refusals.{badLists, orElse, unlessRefused}
 use Rattle.outline.proofs.Refusals.{is-done, is-refused}
-use Rattle.demands.specs.Months.{Ask, water, asked, State, after, afterAll, Accepted, monthsOf, leftOf, stationOf, zFor}
+use Rattle.demands.specs.Months.{Ask, water, asked, State, standing, after, afterAll, Accepted, monthsOf, leftOf, stationOf, zFor}
 use Rattle.demands.specs.Seasons.{settledBy, lastOf, Singly, SameFrom, Seasons}
 use Rattle.demands.proofs.Took.{Took, took, months-next, x1-next, x2-next, x3-next}
 use Rattle.demands.proofs.Sequence.{after-append, accepted-append}
@@ -135,9 +135,6 @@ made (p ∷ ps) (pe ∷ pes) t z =
 
 -- ---- from the first month on
 module _ (r : Run) (ps pes : List ℤ) (cs : Columns) where
-  abbrev here : State
-  here = record { run = r; columns = cs }
-
   abbrev first : SeasonResult
   first = seasonResult (nothing 0 r) cs
 
@@ -149,8 +146,8 @@ module _ (r : Run) (ps pes : List ℤ) (cs : Columns) where
   unfolding addSeason
   begins z = is-done (seasonRefusal r ps pes cs) (addEach first ps pes) _ z
 
-  singly : seasonRefusal r ps pes cs ≡ 0 → Singly here (monthsOf ps pes) (addSeason r ps pes cs)
-  singly z = subst (Singly here (monthsOf ps pes)) (sym (begins z)) go
+  singly : seasonRefusal r ps pes cs ≡ 0 → Singly (standing r cs) (monthsOf ps pes) (addSeason r ps pes cs)
+  singly z = subst (Singly (standing r cs) (monthsOf ps pes)) (sym (begins z)) go
     where
       m : Made first (monthsOf ps pes) (addEach first ps pes)
       m = made ps pes first refl
@@ -158,7 +155,7 @@ module _ (r : Run) (ps pes : List ℤ) (cs : Columns) where
       count : addEach first ps pes .answer .added ≡ m .n
       count = omega (arith, m .added)
 
-      go : Singly here (monthsOf ps pes) (addEach first ps pes)
+      go : Singly (standing r cs) (monthsOf ps pes) (addEach first ps pes)
       go =
           record {
             added = omega (arith, m .few, count);
@@ -171,7 +168,7 @@ module _ (r : Run) (ps pes : List ℤ) (cs : Columns) where
           }
 
   -- empty lists, and others: what stands when the call returns is what accepted months leave
-  pub here-more : Accepted here (take (addSeason r ps pes cs .answer .added) (monthsOf ps pes)) × (leftOf (addSeason r ps pes cs) ≡ afterAll here (take (addSeason r ps pes cs .answer .added) (monthsOf ps pes)))
+  pub here-more : Accepted (standing r cs) (take (addSeason r ps pes cs .answer .added) (monthsOf ps pes)) × (leftOf (addSeason r ps pes cs) ≡ afterAll (standing r cs) (take (addSeason r ps pes cs .answer .added) (monthsOf ps pes)))
   here-more =
       ⊎-elim
       (λ z. let g = singly z in (g .accepted, g .state))
@@ -260,8 +257,8 @@ beyond r ps pes cs =
     ⊎-elim
     (λ z. let g = singly r ps pes cs z in
     let n = addSeason r ps pes cs .answer .added in
-    let b = all-beyond (here r ps pes cs) (take n (monthsOf ps pes)) (g .accepted) in
-    let e : SameFrom (r .months + n) cs (afterAll (here r ps pes cs) (take n (monthsOf ps pes)) .columns) = rw (length-take-le n (monthsOf ps pes) (g .added)) at b in
+    let b = all-beyond (standing r cs) (take n (monthsOf ps pes)) (g .accepted) in
+    let e : SameFrom (r .months + n) cs (afterAll (standing r cs) (take n (monthsOf ps pes)) .columns) = rw (length-take-le n (monthsOf ps pes) (g .added)) at b in
     rw (ap (λ (s : State). s .columns) (g .state)) e)
     (λ h. rw (refused r ps pes cs h) (same (r .months + 0) cs))
     (zero-or (seasonRefusal r ps pes cs))

@@ -16,7 +16,7 @@ use Rattle.starts.proofs.Theorems.{fresh-fits}
 use Rattle.runs.specs.declared.Run.{Run}
 use Rattle.refusals.specs.Columns.{Columns}
 use Rattle.season.specs.Season.{addSeason}
-use Rattle.demands.specs.Months.{Ask, asked, State, after, afterAll, monthsOf}
+use Rattle.demands.specs.Months.{Ask, asked, State, standing, after, afterAll, monthsOf}
 use Rattle.demands.specs.Demands.{numberOf, Fresh, first, now, Existing, by-start, by-add, by-season}
 use Rattle.demands.proofs.Took.{took}
 use Rattle.demands.proofs.Shown.{refused-add, refused-start, figures-are, layers-hold}
@@ -63,10 +63,10 @@ layers-started constants c ss su m =
 
 pub layers-exist : (r : Run) → Existing r → Layers (r .soil)
 layers-exist r (by-start constants c ss su m) = layers-started constants c ss su m
-layers-exist r (by-add q a cs e) = kept-after Layers layers-of (record { run = q; columns = cs }) a (layers-exist q e)
+layers-exist r (by-add q a cs e) = kept-after Layers layers-of (standing q cs) a (layers-exist q e)
 layers-exist r (by-season q ps pes cs e) =
     let n = addSeason q ps pes cs .answer .added in
-    subst (λ (s : State). Layers (s .run .soil)) (sym (here-more q ps pes cs .1)) (kept-all Layers layers-of (record { run = q; columns = cs }) (take n (monthsOf ps pes)) (layers-exist q e))
+    subst (λ (s : State). Layers (s .run .soil)) (sym (here-more q ps pes cs .1)) (kept-all Layers layers-of (standing q cs) (take n (monthsOf ps pes)) (layers-exist q e))
 
 -- the Z of a month that was taken
 pub z-given : (r : Run) (a : Ask) (cs : Columns) → asked r a cs .answer .number ≡ 0 → natAbs (asked r a cs .answer .figures .z) ≤ mostZ

@@ -20,7 +20,7 @@ use Rattle.starts.specs.Given.{ConstantsTaken, StartFits, StartGives, gives-0, 
 use Rattle.series.specs.Series.{allZFit, listsFit}
 use Rattle.refusals.specs.Columns.{Columns, long, columnsFit}
 use Rattle.refusals.specs.Good.{Good}
-use Rattle.demands.specs.Months.{Ask, water, inches, anomaly, State, Accepted, monthsOf}
+use Rattle.demands.specs.Months.{Ask, water, inches, anomaly, standing, Accepted, monthsOf}
 use Rattle.demands.specs.Given.{Acceptable, ReadingGives, reading-0, reading-8, reading-9, MonthGives, by-precipitation, by-pe, ZGives, z-0, z-12, ItselfGives, AddGives, add-0, add-1, add-7, add-8, add-9, add-10, add-12, RowGives, row-0, row-1, row-7, row-11, SeriesGives, series-0, series-1, series-12, Begins, StopsWith, SeasonGives, season-0, season-1-lists, season-1, season-7, season-8, season-9, season-10}
 use Rattle.demands.specs.Table.{NotAcceptable, WaterTable, Table}
 use Rattle.demands.proofs.Given.{readings-exactly, adds-exactly, rows-exactly, series-exactly}
@@ -157,10 +157,7 @@ module _ (z index : List ℤ) (mark : List ℕ) where
   from-series-12 (series-12 f h) = (f, h)
 
 module _ (r : Run) (ps pes : List ℤ) (cs : Columns) where
-  abbrev here : State
-  here = record { run = r; columns = cs }
-
-  from-season-0 : SeasonGives r ps pes cs 0 → Begins r ps pes cs × Accepted here (monthsOf ps pes)
+  from-season-0 : SeasonGives r ps pes cs 0 → Begins r ps pes cs × Accepted (standing r cs) (monthsOf ps pes)
   from-season-0 (season-0 b h) = (b, h)
 
   from-season-1 : SeasonGives r ps pes cs 1 → (length ps ≡ length pes → ⊥) ⊎ (columnsFit cs ≡ false)
@@ -170,13 +167,13 @@ module _ (r : Run) (ps pes : List ℤ) (cs : Columns) where
   from-season-7 : SeasonGives r ps pes cs 7 → (length ps ≡ length pes) × (columnsFit cs ≡ true) × (isRun (long cs) r ≡ false)
   from-season-7 (season-7 e f h) = (e, f, h)
 
-  from-season-8 : SeasonGives r ps pes cs 8 → Begins r ps pes cs × StopsWith 8 here (monthsOf ps pes)
+  from-season-8 : SeasonGives r ps pes cs 8 → Begins r ps pes cs × StopsWith 8 (standing r cs) (monthsOf ps pes)
   from-season-8 (season-8 b w) = (b, w)
 
-  from-season-9 : SeasonGives r ps pes cs 9 → Begins r ps pes cs × StopsWith 9 here (monthsOf ps pes)
+  from-season-9 : SeasonGives r ps pes cs 9 → Begins r ps pes cs × StopsWith 9 (standing r cs) (monthsOf ps pes)
   from-season-9 (season-9 b w) = (b, w)
 
-  from-season-10 : SeasonGives r ps pes cs 10 → Begins r ps pes cs × StopsWith 10 here (monthsOf ps pes)
+  from-season-10 : SeasonGives r ps pes cs 10 → Begins r ps pes cs × StopsWith 10 (standing r cs) (monthsOf ps pes)
   from-season-10 (season-10 b w) = (b, w)
 
 -- ---- the table

@@ -27,8 +27,7 @@ use Rattle.hindsight.specs.Months.{nextValues}
 use Rattle.ranges.specs.Ranges.{limitOf, constantFits, constantsFitTo, calendarFits}
 use Rattle.calendar.specs.Calendar.{constantsAt, zeroKWithin, nextCalendar}
 use Rattle.starts.specs.Start.{ones, capacityFits, storagesFit, monthFits, startRefusal, runForZ}
-use Rattle.starts.proofs.Theorems.{for-z}
-use Rattle.starts.specs.declared.Started.{Started}
+use Rattle.starts.proofs.Theorems.{z-starts}
 use Rattle.runs.specs.Runs.{soilFits, sizesFit, signsFit, vFits, isRun}
 use Rattle.runs.specs.declared.Run.{Run}
 use Rattle.refusals.specs.Columns.{Columns, lengthsFit}
@@ -37,7 +36,6 @@ use Rattle.adding.specs.Taken.{taken}
 use Rattle.drought.specs.Calls.{addZ}
 use Rattle.demands.specs.Mirror.{turned, mirrorRun, Given, shownAt}
 use Rattle.demands.specs.Demands.{Fresh}
-use Rattle.demands.proofs.Shown.{refused-start}
 use Rattle.demands.proofs.Rejected.{blank}
 
 -- the running values after a list of Z from a fresh run
@@ -70,11 +68,8 @@ under = holding (record { x1 = pos 0; x2 = minus 5000; x3 = minus 1000; v = pos 
 abbrev tie : List ℤ
 tie = pos 1500 ∷ minus 673 ∷ []
 
-z-started : startRefusal ones (pos leastCapacity) (pos 0) (pos 0) (pos 1) ≡ 0
-z-started = sym (refused-start ones (pos leastCapacity) (pos 0) (pos 0) (pos 1) .0) ∙ ap (λ (s : Started). s .number) for-z
-
 abbrev forZ : Fresh
-forZ = record { constants = ones; capacity = pos leastCapacity; surface = pos 0; underlying = pos 0; month = pos 1; columns = blank 2; started = z-started }
+forZ = record { constants = ones; capacity = pos leastCapacity; surface = pos 0; underlying = pos 0; month = pos 1; columns = blank 2; started = z-starts }
 
 abbrev second : List ℤ → Shown
 second zs = shownAt forZ zs 1

@@ -39,7 +39,7 @@ use Rattle.adding.specs.Figures.{noFigures}
 use Rattle.adding.specs.Taken.{Result, heldBy}
 use Rattle.drought.specs.Calls.{shown, notShown, rowOfRun}
 use Rattle.season.specs.Season.{seasonResult, nothing, addSeason}
-use Rattle.demands.specs.Months.{Ask, water, inches, anomaly, asked, State, after, afterAll, Accepted, figuresAnswered, monthsOf, leftOf, stationOf, figuresFor, figuresOfMonths, noRow, rowsOfMonths}
+use Rattle.demands.specs.Months.{Ask, water, inches, anomaly, asked, State, standing, after, afterAll, Accepted, figuresAnswered, monthsOf, leftOf, stationOf, figuresFor, figuresOfMonths, noRow, rowsOfMonths}
 use Rattle.demands.specs.Given.{ReadingGives, AddGives, RowGives, SeriesGives, SeasonGives}
 use Rattle.demands.specs.Table.{Table}
 
@@ -57,7 +57,7 @@ pub record Fresh : Type 0 where
 
 -- the run that it gave (`Demand1.starts`), and the columns
 abbrev pub first : Fresh → State
-first f = record { run = freshRun (f .constants) (f .capacity) (f .surface) (f .underlying) (f .month); columns = f .columns }
+first f = standing (freshRun (f .constants) (f .capacity) (f .surface) (f .underlying) (f .month)) (f .columns)
 
 -- the run and the columns after months have been added to it, one by one
 abbrev pub now : Fresh → List Ask → State
@@ -101,7 +101,7 @@ pub record Demand1 : Type 0 where
   pub seasons :
       (r : Run) (ps pes : List ℤ) (cs : Columns)
       → let t = addSeason r ps pes cs in
-      let s : State = record { run = r; columns = cs } in
+      let s = standing r cs in
       Accepted s (take (t .answer .added) (monthsOf ps pes)) × (leftOf t ≡ afterAll s (take (t .answer .added) (monthsOf ps pes)))
   pub seasons-refused :
       (r : Run) (ps pes : List ℤ) (cs : Columns) → let t = addSeason r ps pes cs in (t .answer .number ≡ badLists) ⊎ (t .answer .number ≡ notARun) → t ≡ seasonResult (nothing (t .answer .number) r) cs

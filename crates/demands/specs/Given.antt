@@ -21,7 +21,7 @@ use Rattle.runs.specs.declared.Run.{Run}
 use Rattle.series.specs.Series.{allZFit, listsFit}
 use Rattle.refusals.specs.Columns.{Columns, long, columnsFit}
 use Rattle.refusals.specs.Good.{Good}
-use Rattle.demands.specs.Months.{Ask, water, inches, anomaly, State, after, Accepted, monthsOf}
+use Rattle.demands.specs.Months.{Ask, water, inches, anomaly, State, standing, after, Accepted, monthsOf}
 
 -- ---- a reading by itself: 8 or 9
 
@@ -109,18 +109,15 @@ pub record Begins (r : Run) (ps pes : List ℤ) (cs : Columns) : Type 0 where
   pub good : Good r cs
 
 module _ (r : Run) (ps pes : List ℤ) (cs : Columns) where
-  abbrev here : State
-  here = record { run = r; columns = cs }
-
   pub data SeasonGives : ℕ → Type 0 where
     -- 0: every month is added
-    season-0 : Begins r ps pes cs → Accepted here (monthsOf ps pes) → SeasonGives 0
+    season-0 : Begins r ps pes cs → Accepted (standing r cs) (monthsOf ps pes) → SeasonGives 0
     -- 1: "two lists of unequal length", or the columns as of an add
     season-1-lists : (length ps ≡ length pes → ⊥) → SeasonGives badLists
     season-1 : columnsFit cs ≡ false → SeasonGives badLists
     -- 7: "not a run"
     season-7 : length ps ≡ length pes → columnsFit cs ≡ true → isRun (long cs) r ≡ false → SeasonGives notARun
     -- 8, 9 and 10: of the first month that a single add refuses
-    season-8 : Begins r ps pes cs → StopsWith missing here (monthsOf ps pes) → SeasonGives missing
-    season-9 : Begins r ps pes cs → StopsWith notAcceptable here (monthsOf ps pes) → SeasonGives notAcceptable
-    season-10 : Begins r ps pes cs → StopsWith full here (monthsOf ps pes) → SeasonGives full
+    season-8 : Begins r ps pes cs → StopsWith missing (standing r cs) (monthsOf ps pes) → SeasonGives missing
+    season-9 : Begins r ps pes cs → StopsWith notAcceptable (standing r cs) (monthsOf ps pes) → SeasonGives notAcceptable
+    season-10 : Begins r ps pes cs → StopsWith full (standing r cs) (monthsOf ps pes) → SeasonGives full

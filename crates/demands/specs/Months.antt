@@ -44,8 +44,11 @@ pub record State : Type 0 where
   pub run : Run
   pub columns : Columns
 
+abbrev pub standing : Run → Columns → State
+standing r cs = record { run = r; columns = cs }
+
 abbrev pub stateOf : Result → State
-stateOf a = record { run = a .answer .run; columns = a .columns }
+stateOf a = standing (a .answer .run) (a .columns)
 
 abbrev pub after : State → Ask → State
 after s a = stateOf (asked (s .run) a (s .columns))
@@ -73,7 +76,7 @@ monthsOf (p ∷ ps) (pe ∷ pes) = water (listed p) (listed pe) ∷ monthsOf ps 
 
 -- where a season stands when its call returns
 abbrev pub leftOf : SeasonResult → State
-leftOf t = record { run = t .answer .run; columns = t .columns }
+leftOf t = standing (t .answer .run) (t .columns)
 
 -- ---- the figures and the rows of months, by the rules of water and of spells alone
 pub record Station : Type 0 where

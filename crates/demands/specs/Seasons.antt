@@ -15,7 +15,7 @@ use Rattle.refusals.specs.Columns.{Columns, columnsFit}
 use Rattle.adding.specs.Figures.{noFigures}
 use Rattle.adding.specs.declared.Figures.{Figures}
 use Rattle.season.specs.Season.{SeasonResult, seasonResult, nothing, seasonRefusal, addSeason}
-use Rattle.demands.specs.Months.{Ask, asked, State, after, afterAll, Accepted, monthsOf, leftOf}
+use Rattle.demands.specs.Months.{Ask, asked, State, standing, after, afterAll, Accepted, monthsOf, leftOf}
 
 -- what months added one by one settle, all together
 abbrev pub settledBy : State → List Ask → ℕ
@@ -59,7 +59,7 @@ pub record Seasons : Type 0 where
       (r : Run) (ps pes : List ℤ) (cs : Columns) → ZeroK (r .constants)
       → addSeason r ps pes cs .answer .number ≡ cond (eqb (length ps) (length pes) && columnsFit cs) notARun badLists
   -- otherwise it is what the single adds make of it
-  pub singly : (r : Run) (ps pes : List ℤ) (cs : Columns) → seasonRefusal r ps pes cs ≡ 0 → Singly (record { run = r; columns = cs }) (monthsOf ps pes) (addSeason r ps pes cs)
+  pub singly : (r : Run) (ps pes : List ℤ) (cs : Columns) → seasonRefusal r ps pes cs ≡ 0 → Singly (standing r cs) (monthsOf ps pes) (addSeason r ps pes cs)
   -- "Empty lists add nothing."
   pub empty : (r : Run) (cs : Columns) → addSeason r [] [] cs ≡ seasonResult (nothing (seasonRefusal r [] [] cs) r) cs
   -- demand 1's "writes nothing": no place of the refused month or of those after it is written, nor any beyond the last month added

@@ -24,7 +24,7 @@ use Rattle.refusals.specs.Columns.{Columns, long, columnsFit}
 use Rattle.refusals.specs.Good.{Good}
 use Rattle.drought.specs.Calls.{rowOfRun}
 use Rattle.season.specs.Season.{addSeason}
-use Rattle.demands.specs.Months.{water, inches, anomaly, asked, State, Accepted, monthsOf}
+use Rattle.demands.specs.Months.{water, inches, anomaly, asked, standing, Accepted, monthsOf}
 use Rattle.demands.specs.Given.{Acceptable, Begins, StopsWith}
 
 -- what 9 says of a reading
@@ -79,16 +79,13 @@ pub record SeriesTable (z index : List ℤ) (mark : List ℕ) (k : ℕ) : Type 0
 
 -- a season
 module _ (r : Run) (ps pes : List ℤ) (cs : Columns) where
-  abbrev here : State
-  here = record { run = r; columns = cs }
-
   pub record SeasonTable (k : ℕ) : Type 0 where
-    pub gives-0 : (k ≡ 0) ↔ (Begins r ps pes cs × Accepted here (monthsOf ps pes))
+    pub gives-0 : (k ≡ 0) ↔ (Begins r ps pes cs × Accepted (standing r cs) (monthsOf ps pes))
     pub gives-1 : (k ≡ 1) ↔ ((length ps ≡ length pes → ⊥) ⊎ (columnsFit cs ≡ false))
     pub gives-7 : (k ≡ 7) ↔ ((length ps ≡ length pes) × (columnsFit cs ≡ true) × (isRun (long cs) r ≡ false))
-    pub gives-8 : (k ≡ 8) ↔ (Begins r ps pes cs × StopsWith 8 here (monthsOf ps pes))
-    pub gives-9 : (k ≡ 9) ↔ (Begins r ps pes cs × StopsWith 9 here (monthsOf ps pes))
-    pub gives-10 : (k ≡ 10) ↔ (Begins r ps pes cs × StopsWith 10 here (monthsOf ps pes))
+    pub gives-8 : (k ≡ 8) ↔ (Begins r ps pes cs × StopsWith 8 (standing r cs) (monthsOf ps pes))
+    pub gives-9 : (k ≡ 9) ↔ (Begins r ps pes cs × StopsWith 9 (standing r cs) (monthsOf ps pes))
+    pub gives-10 : (k ≡ 10) ↔ (Begins r ps pes cs × StopsWith 10 (standing r cs) (monthsOf ps pes))
 
 -- every call
 pub record Table : Type 0 where

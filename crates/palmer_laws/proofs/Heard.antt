@@ -8,12 +8,10 @@ use native.Mathlib.Omega.{arith}
 use lib.IntN.{ℤ, pos}
 use Rattle.outline.specs.Numbers.{mostMonths, lengthFits, zFits}
 use Rattle.outline.specs.Refusals.{badZ, notANumber, orElse}
-use Rattle.water.specs.Layers.{leastCapacity, surfaceHolds, underlyingHolds}
-use Rattle.ranges.specs.Ranges.{limitOf, constantFits, constantsFitTo}
-use Rattle.calendar.specs.Calendar.{constantsAt, zeroKWithin}
+use Rattle.water.specs.Layers.{leastCapacity}
 use Rattle.runs.specs.declared.Run.{Run}
-use Rattle.starts.specs.Start.{ones, startRefusal, capacityFits, storagesFit, monthFits}
-use Rattle.starts.proofs.Theorems.{start-is-run}
+use Rattle.starts.specs.Start.{ones}
+use Rattle.starts.proofs.Theorems.{start-is-run, z-starts}
 use Rattle.lines.specs.Line.{wellFormed, value, ranged, judged}
 use Rattle.refusals.specs.Columns.{Columns, long, lengthsFit, columnsFit}
 use Rattle.refusals.specs.Good.{Good}
@@ -39,10 +37,6 @@ pub at-most : (n : ℕ) (t : State) → Sound n t → n ≤ mostMonths
 at-most n t s = omega (arith, s .months, s .columns-long, run-is (t .session .run) (t .columns) (s .good) .months)
 
 -- before the first line
-fresh-starts : startRefusal ones (pos leastCapacity) (pos 0) (pos 0) (pos 1) ≡ 0
-unfolding startRefusal capacityFits storagesFit monthFits limitOf constantFits constantsFitTo constantsAt zeroKWithin surfaceHolds underlyingHolds
-fresh-starts = refl
-
 blank-fits : columnsFit (start .columns) ≡ true
 unfolding lengthsFit lengthFits
 blank-fits = refl
@@ -53,7 +47,7 @@ begins =
       none-refused = refl;
       months = refl;
       columns-long = refl;
-      good = record { fit = blank-fits; run = start-is-run ones (pos leastCapacity) (pos 0) (pos 0) (pos 1) fresh-starts (long (start .columns)) };
+      good = record { fit = blank-fits; run = start-is-run ones (pos leastCapacity) (pos 0) (pos 0) (pos 1) z-starts (long (start .columns)) };
     }
 
 -- ---- what a heard line leaves, by its refusal

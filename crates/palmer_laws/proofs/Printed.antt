@@ -80,3 +80,31 @@ prints pieces rest printed p =
     let t : p .read ≡ foldl byteFed start (flatten pieces) = in-pieces _ _ pieces (p .takes) ∙ ap (λ (s : Session). foldl byteFed (state s (start .columns) (start .percents)) (flatten pieces)) (p .begins) in
     let u : p .read ≡ foldl byteFed start (flatten pieces ++ rest) = sym (unread (p .read) rest _ refl (p .stops)) ∙ ap (λ (w : State). foldl byteFed w rest) t ∙ in-parts start (flatten pieces) rest in
     p .writes ∙ laid-first (laidOut (p .ended)) (p .before) (p .after) (p .end) (p .ends-at) (p .lays) ∙ ap laidOut (p .ends ∙ ap inputEnded u) ∙ at-once (flatten pieces ++ rest)
+
+-- and there is such a program: every input is printed of, in whatever pieces it comes
+abbrev pub taken-by : State → List (List ℕ) → State
+taken-by t [] = t
+taken-by t (piece ∷ pieces) = taken-by (foldl byteFed t piece) pieces
+
+takes-all : (t : State) (pieces : List (List ℕ)) → Takes t pieces (taken-by t pieces)
+takes-all t [] = none
+takes-all t (piece ∷ pieces) = one-more refl (takes-all (foldl byteFed t piece) pieces)
+
+pub some-prints : (pieces : List (List ℕ)) → let text = laidOut (inputEnded (taken-by start pieces)) in Prints pieces [] (take (length text) (laid text 0 []))
+some-prints pieces =
+    let ended = inputEnded (taken-by start pieces) in
+    record {
+      begun = start .session;
+      begins = refl;
+      read = taken-by start pieces;
+      takes = takes-all start pieces;
+      stops = λ _. refl;
+      ended = ended;
+      ends = refl;
+      before = [];
+      after = laid (laidOut ended) 0 [];
+      end = length (laidOut ended);
+      ends-at = refl;
+      lays = refl;
+      writes = refl;
+    }

@@ -1,6 +1,6 @@
 -- The theorems about the whole series: its promise allows one outcome, a refusal writes nothing lent, what is filled is what adding the
--- months singly fills, and each number is given exactly when the paper says. They are of `wholeSeries`, which the promise of `whole_series`
--- cites, and go by its refusal's number. Assumes nothing.
+-- months singly fills, and it is done exactly when the lists fit and each Z does, as facts. They are of `wholeSeries`, which the promise of
+-- `whole_series` cites, and go by its refusal's number. Assumes nothing.
 use mathlib.Core.Path.{_≡_, refl, sym, ap, _∙_}
 use mathlib.Core.Bool.{Bool, true, false, _&&_, cond}
 use mathlib.Core.Logic.{_↔_}
@@ -68,7 +68,7 @@ module _ (z index : List ℤ) (mark : List ℕ) (r : ℕ) (i : List ℤ) (m : Li
   pub done-as-added : r ≡ 0 → (i ≡ addAll (rowsOfZ z) .index) × (m ≡ addAll (rowsOfZ z) .mark)
   done-as-added f = let e = series-is-adding (rowsOfZ z) in (done-fills f .0 ∙ e .0, done-fills f .1 ∙ e .1)
 
--- ---- each number "given exactly when"
+-- ---- 0 "given exactly when", as the code's proof takes it
 
 -- the three lists are of one length, from 1 to 2,400
 pub record ListsFit (z index mark : ℕ) : Type 0 where
@@ -95,28 +95,10 @@ unfolding listsFit lengthFits
 true-lists z index mark f =
     simp (eq-eqb index z (f .index-long), eq-eqb mark z (f .mark-long), le-leb 1 z (f .some), le-leb z mostMonths (f .within))
 
--- the three cases of the order 1, 12
 at-0 : (a b : Bool) → _≡_ {A = ℕ} (cond a (cond b 0 12) 1) 0 → (a ≡ true) × (b ≡ true)
 at-0 true true e = (refl, refl)
 at-0 true false e = absurd (omega arith)
 at-0 false b e = absurd (omega arith)
-
-at-1 : (a b : Bool) → _≡_ {A = ℕ} (cond a (cond b 0 12) 1) 1 → a ≡ false
-at-1 true true e = absurd (omega arith)
-at-1 true false e = absurd (omega arith)
-at-1 false b e = refl
-
-at-12 : (a b : Bool) → _≡_ {A = ℕ} (cond a (cond b 0 12) 1) 12 → (a ≡ true) × (b ≡ false)
-at-12 true true e = absurd (omega arith)
-at-12 true false e = (refl, refl)
-at-12 false b e = absurd (omega arith)
-
-never : (a : Bool) → a ≡ true → a ≡ false → ⊥
-never a e f = let no : _≡_ {A = ℕ} 0 1 = cc in omega arith
-
-unless : (a : Bool) → (a ≡ true → ⊥) → a ≡ false
-unless true f = absurd (f refl)
-unless false f = refl
 
 module _ (z : List ℤ) (index mark : ℕ) where
   -- 0: "done"
@@ -125,22 +107,4 @@ module _ (z : List ℤ) (index mark : ℕ) where
   done-exactly = (
     λ e. let p = at-0 (listsFit (length z) index mark) (allZFit z) e in (lists-true (length z) index mark (p .0), each-fits z (p .1)),
     λ f. rw (true-lists (length z) index mark (f .0), all-fit z (f .1)) refl,
-  )
-
-  -- 1: "the three lists of a whole series, not all of one length, or length 0 or above 2,400"
-  pub lists-refused-exactly : (seriesRefusal z index mark ≡ 1) ↔ (ListsFit (length z) index mark → ⊥)
-  unfolding seriesRefusal
-  lists-refused-exactly = (
-    λ e f. never (listsFit (length z) index mark) (true-lists (length z) index mark f) (at-1 (listsFit (length z) index mark) (allZFit z) e),
-    λ f. rw (unless (listsFit (length z) index mark) (λ e. f (lists-true (length z) index mark e))) refl,
-  )
-
-  -- 12: "Z outside its range", where the lists fit
-  pub z-refused-exactly : (seriesRefusal z index mark ≡ 12) ↔ (ListsFit (length z) index mark × (EachFits z → ⊥))
-  unfolding seriesRefusal
-  z-refused-exactly = (
-    λ e.
-        let p = at-12 (listsFit (length z) index mark) (allZFit z) e in
-        (lists-true (length z) index mark (p .0), λ f. never (allZFit z) (all-fit z f) (p .1)),
-    λ f. rw (true-lists (length z) index mark (f .0), unless (allZFit z) (λ e. f .1 (each-fits z e))) refl,
   )

@@ -60,7 +60,11 @@ module _ (cs : List ℤ) (c ss su m : ℤ) where
   pub one-start : (a b : Started) → a ≡ startOf cs c ss su m → b ≡ startOf cs c ss su m → a ≡ b
   one-start a b p q = p ∙ sym q
 
--- a run for Z alone is what its start gives
+-- a run for Z alone: its start is not refused, and gives it
+pub z-starts : startRefusal ones (pos leastCapacity) (pos 0) (pos 0) (pos 1) ≡ 0
+unfolding startRefusal capacityFits storagesFit monthFits limitOf constantFits constantsFitTo constantsAt zeroKWithin surfaceHolds underlyingHolds
+z-starts = refl
+
 pub for-z : startOf ones (pos leastCapacity) (pos 0) (pos 0) (pos 1) ≡ started 0 runForZ
 unfolding startOf startRefusal capacityFits storagesFit monthFits limitOf constantFits constantsFitTo constantsAt zeroKWithin surfaceHolds underlyingHolds
 for-z = refl
