@@ -1,26 +1,27 @@
 // The month's work, once nothing is refused: its water, its spells, and what they leave of the run and in the columns.
 //
-// For the crates that make the calls, `drought` and `season`, which ask for every refusal first: `add_measured` and
-// `add_month` have a `requires`, and the rest only takes runs and answers apart and puts them together.
+// For the crates that make the calls, `drought` and `season`, which ask for every refusal first: what has a `requires` is
+// for them alone. A run goes through here without its sixty constants, and an answer is put together once, where a call
+// hands it back.
 use outline::MANY_CONSTANTS;
 use runs::Progress;
 use runs::Run;
 use spells::Running;
-use spells::SpellMonth;
 use water::Month;
 use water::Soil;
 ghost use mathlib.Core.Path.{_≡_};
-ghost use Prim.Native.Nat.{_≤_};
+ghost use mathlib.Core.Bool.{true};
+ghost use Prim.Native.Nat.{_≤_, _<_};
 ghost use lib.IntN.{natAbs};
-ghost use Rattle.outline.specs.Numbers.{mostZ};
+ghost use Rattle.outline.specs.Numbers.{mostZ, mostMonths};
 ghost use Rattle.door.specs.Readings.{mostReading};
-ghost use Rattle.hindsight.specs.Months.{markFor};
+ghost use Rattle.ranges.specs.Ranges.{calendarFits};
 ghost use Rattle.runs.specs.Progress.{runOf};
 ghost use Rattle.refusals.specs.Columns.{columns};
-ghost use Rattle.adding.specs.Figures.{waterFigures, noWater, figuresOf};
-ghost use Rattle.adding.specs.Taken.{result, refusal, takenWater};
+ghost use Rattle.adding.specs.Figures.{waterFigures, noWater};
+ghost use Rattle.adding.specs.Taken.{result, soilAfter, takenWater};
 ghost use Rattle.adding.specs.Ready.{Ready, Watered};
-ghost use Rattle.adding.specs.Progress.{addedOf, Takes};
+ghost use Rattle.adding.specs.Progress.{addedOf, monthAdded, notAdded, Takes};
 ghost use Rattle.adding.specs.Spelled.{Spells};
 
 // The water of a month: all 0 for an added Z.
@@ -61,8 +62,9 @@ pub struct Added {
     pub run: Run,
 }
 
-// What an added month leaves beside the columns, without the run's constants.
+// What an add answers, without the run's constants.
 pub struct MonthAdded {
+    pub number: u8,
     pub settled: u32,
     pub figures: Figures,
     pub progress: Progress,
@@ -88,40 +90,16 @@ pub fn add_measured(
     ensures { λ t. ⌜ result (addedOf t (now (constants .entry))) (columns (now (x1 .exit)) (now (x2 .exit)) (now (x3 .exit)) (now (index .exit)) (now (mark .exit))) ≡ takenWater (runOf at (now (constants .entry))) p pe (columns (now (x1 .entry)) (now (x2 .entry)) (now (x3 .entry)) (now (index .entry)) (now (mark .entry))) ⌝ }
 {
     let soil = at.soil;
+    let values = at.values;
     let k = calendar::constants_at(constants, at.calendar);
     let m = water::month_of(soil, p, pe, k);
-    let water = water_figures(p, pe, m);
-    let left = Soil {
-        capacity: soil.capacity,
-        surface: m.surface,
-        underlying: m.underlying,
-    };
-    add_month(at, left, water, m.z, x1, x2, x3, index, mark)
+    let s = add_spells(at.months, at.opens, values, m.z, x1, x2, x3, index, mark);
+    watered(at, p, pe, m, s)
 }
 
-fn water_figures(p: u32, pe: u32, m: Month) -> WaterFigures
-    ensures { λ w. ⌜ w ≡ waterFigures p pe m ⌝ }
-{
-    WaterFigures {
-        p,
-        pe,
-        ls: m.ls,
-        lu: m.lu,
-        et: m.et,
-        r: m.r,
-        ro: m.ro,
-        pr: m.pr,
-        pro: m.pro,
-        pl: m.pl,
-        cafec: m.cafec,
-    }
-}
-
-// A month of spells, and the run with it added, whatever its constants.
-pub fn add_month(
+// An added Z: no water, and the storages stay.
+pub fn add_z(
     at: Progress,
-    soil: Soil,
-    water: WaterFigures,
     z: i32,
     x1: &mut [i32],
     x2: &mut [i32],
@@ -130,52 +108,31 @@ pub fn add_month(
     mark: &mut [u8],
 ) -> MonthAdded
     requires { ⌜ Ready (at .months) (at .opens) (at .values) (columns (now x1) (now x2) (now x3) (now index) (now mark)) ⌝ }
-    requires { ⌜ natAbs z ≤ mostZ ⌝ }
-    ensures { λ t. ⌜ Takes at soil water z (columns (now (x1 .entry)) (now (x2 .entry)) (now (x3 .entry)) (now (index .entry)) (now (mark .entry))) t (columns (now (x1 .exit)) (now (x2 .exit)) (now (x3 .exit)) (now (index .exit)) (now (mark .exit))) ⌝ }
+    requires { ⌜ (natAbs z ≤ mostZ) × (calendarFits (at .calendar) ≡ true) ⌝ }
+    ensures { λ t. ⌜ Takes at (at .soil) noWater z (columns (now (x1 .entry)) (now (x2 .entry)) (now (x3 .entry)) (now (index .entry)) (now (mark .entry))) t (columns (now (x1 .exit)) (now (x2 .exit)) (now (x3 .exit)) (now (index .exit)) (now (mark .exit))) ⌝ }
 {
+    let soil = at.soil;
     let values = at.values;
-    let s = add_spells(
-        at.months,
-        at.opens,
-        values,
-        water,
-        z,
-        x1,
-        x2,
-        x3,
-        index,
-        mark,
-    );
-    let figures = s.figures;
-    let moved = s.values;
-    let progress = Progress {
-        months: at.months + 1,
-        opens: s.opens,
-        calendar: calendar::next_calendar(at.calendar),
-        soil,
-        values: moved,
-    };
-    MonthAdded {
-        settled: s.settled,
-        figures,
-        progress,
-    }
+    let water = no_water();
+    let s = add_spells(at.months, at.opens, values, z, x1, x2, x3, index, mark);
+    month_added(at, soil, water, z, s)
 }
 
 // What a month of spells leaves beside the columns.
-struct Spelled {
-    settled: u32,
-    opens: u32,
-    figures: Figures,
-    values: Running,
+pub struct Spelled {
+    pub settled: u32,
+    pub opens: u32,
+    pub percent: u32,
+    pub index: i32,
+    pub mark: u8,
+    pub values: Running,
 }
 
 // A month of spells, written to the columns. Of the run it takes what spells need.
-fn add_spells(
+pub fn add_spells(
     months: u32,
     opens: u32,
     values: Running,
-    water: WaterFigures,
     z: i32,
     x1: &mut [i32],
     x2: &mut [i32],
@@ -185,7 +142,7 @@ fn add_spells(
 ) -> Spelled
     requires { ⌜ Ready months opens values (columns (now x1) (now x2) (now x3) (now index) (now mark)) ⌝ }
     requires { ⌜ natAbs z ≤ mostZ ⌝ }
-    ensures { λ t. ⌜ Spells months opens values water z (columns (now (x1 .entry)) (now (x2 .entry)) (now (x3 .entry)) (now (index .entry)) (now (mark .entry))) t (columns (now (x1 .exit)) (now (x2 .exit)) (now (x3 .exit)) (now (index .exit)) (now (mark .exit))) ⌝ }
+    ensures { λ t. ⌜ Spells months opens values z (columns (now (x1 .entry)) (now (x2 .entry)) (now (x3 .entry)) (now (index .entry)) (now (mark .entry))) t (columns (now (x1 .exit)) (now (x2 .exit)) (now (x3 .exit)) (now (index .exit)) (now (mark .exit))) ⌝ }
 {
     let s = spells::step(values, z);
     let after = s.after;
@@ -209,53 +166,85 @@ fn add_spells(
         by,
         shown,
     );
-    let figures = figures_of(water, z, s, t.mark);
     Spelled {
         settled: t.settled as u32,
         opens: t.opens as u32,
-        figures,
-        values: after,
-    }
-}
-
-// The month's figures, with the mark that its place was given.
-fn figures_of(water: WaterFigures, z: i32, s: SpellMonth, mark: u8) -> Figures
-    requires { ⌜ mark ≡ markFor (s .decision) ⌝ }
-    ensures { λ f. ⌜ f ≡ figuresOf water z s ⌝ }
-{
-    let after = s.after;
-    Figures {
-        water,
-        z,
         percent: s.percent,
-        x1: after.x1,
-        x2: after.x2,
-        x3: after.x3,
-        index: s.index,
-        mark,
+        index: shown,
+        mark: t.mark,
+        values: after,
     }
 }
 
 // ---- the answer
 
-// A month added to a run with these constants.
-pub fn added_of(t: MonthAdded, constants: [i32; MANY_CONSTANTS]) -> Added
-    ensures { λ a. ⌜ a ≡ addedOf t constants ⌝ }
+// A month of water whose spells are written, put together.
+pub fn watered(at: Progress, p: u32, pe: u32, m: Month, s: Spelled) -> MonthAdded
+    requires { ⌜ (at .months < mostMonths) × (calendarFits (at .calendar) ≡ true) ⌝ }
+    ensures { λ t. ⌜ t ≡ monthAdded at (soilAfter (at .soil) m) (waterFigures p pe m) (m .z) s ⌝ }
 {
-    let figures = t.figures;
-    let progress = t.progress;
-    let next = runs::run_of(progress, constants);
-    Added {
+    let soil = at.soil;
+    let left = Soil {
+        capacity: soil.capacity,
+        surface: m.surface,
+        underlying: m.underlying,
+    };
+    let water = water_figures(p, pe, m);
+    month_added(at, left, water, m.z, s)
+}
+
+fn water_figures(p: u32, pe: u32, m: Month) -> WaterFigures
+    ensures { λ w. ⌜ w ≡ waterFigures p pe m ⌝ }
+{
+    WaterFigures {
+        p,
+        pe,
+        ls: m.ls,
+        lu: m.lu,
+        et: m.et,
+        r: m.r,
+        ro: m.ro,
+        pr: m.pr,
+        pro: m.pro,
+        pl: m.pl,
+        cafec: m.cafec,
+    }
+}
+
+// The figures of a month and the run with it added.
+fn month_added(at: Progress, soil: Soil, water: WaterFigures, z: i32, s: Spelled) -> MonthAdded
+    requires { ⌜ (at .months < mostMonths) × (calendarFits (at .calendar) ≡ true) ⌝ }
+    ensures { λ t. ⌜ t ≡ monthAdded at soil water z s ⌝ }
+{
+    let values = s.values;
+    let figures = Figures {
+        water,
+        z,
+        percent: s.percent,
+        x1: values.x1,
+        x2: values.x2,
+        x3: values.x3,
+        index: s.index,
+        mark: s.mark,
+    };
+    let progress = Progress {
+        months: at.months + 1,
+        opens: s.opens,
+        calendar: calendar::next_calendar(at.calendar),
+        soil,
+        values,
+    };
+    MonthAdded {
         number: 0,
-        settled: t.settled,
+        settled: s.settled,
         figures,
-        run: next,
+        progress,
     }
 }
 
 // A refusal: its number, all figures 0, and the run given.
-pub fn refuse(number: u8, run: Run) -> Added
-    ensures { λ a. ⌜ a ≡ refusal number run ⌝ }
+pub fn refuse(number: u8, at: Progress) -> MonthAdded
+    ensures { λ t. ⌜ t ≡ notAdded number at ⌝ }
 {
     let water = no_water();
     let figures = Figures {
@@ -268,15 +257,30 @@ pub fn refuse(number: u8, run: Run) -> Added
         index: 0,
         mark: 0,
     };
-    Added {
+    MonthAdded {
         number,
         settled: 0,
         figures,
-        run,
+        progress: at,
     }
 }
 
-pub fn no_water() -> WaterFigures
+// The answer to a run with these constants.
+pub fn answer_of(t: MonthAdded, constants: [i32; MANY_CONSTANTS]) -> Added
+    ensures { λ a. ⌜ a ≡ addedOf t constants ⌝ }
+{
+    let figures = t.figures;
+    let progress = t.progress;
+    let next = runs::run_of(progress, constants);
+    Added {
+        number: t.number,
+        settled: t.settled,
+        figures,
+        run: next,
+    }
+}
+
+fn no_water() -> WaterFigures
     ensures { λ w. ⌜ w ≡ noWater ⌝ }
 {
     WaterFigures {

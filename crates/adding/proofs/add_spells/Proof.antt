@@ -1,6 +1,4 @@
 -- `adding::add_spells` meets its contract: the step and what hindsight writes. Assumes nothing.
-use mathlib.Core.Path.{ap, _∙_}
-use Prim.Native.Nat.{ℕ}
 use native.Mathlib.Omega.{arith}
 use borrow.Author.Needs.{needs}
 use mir.Syntax.{w32}
@@ -8,9 +6,7 @@ use mir.Val.{SFits}
 use mir.Facts.{toZ-ofZ}
 use denote.Ref.{now}
 use Rattle.exact.proofs.Held.{held}
-use Rattle.hindsight.specs.Coded.{rowOf, decisionOf}
-use Rattle.hindsight.specs.Months.{markFor}
-use Rattle.hindsight.proofs.Numbers.{mark-of}
+use Rattle.hindsight.specs.Coded.{rowOf}
 use Rattle.adding.specs.Taken.{heldIn}
 use Rattle.refusals.specs.Columns.{Columns, columns}
 use Rattle.adding.proofs.Taken.{spelled-is, opens-most, settled-most, Wrote}
@@ -48,6 +44,9 @@ before c =
     let a = entered c .args in
     columns (now (a .x1)) (now (a .x2)) (now (a .x3)) (now (a .index)) (now (a .mark))
 
+index-fits : (c : tie.After-add) → SFits w32 (stepped c .step .result .index)
+index-fits c = let s = stepped c .step .result in search held
+
 -- what hindsight wrote, with the signed numbers read back
 wrote : (c : tie.After-add) → Wrote (entered c .args .months) (entered c .args .opens) (before c) (stepped c .step .result) (numbered c .decision-number .result) (c .add .last .0) (c .add .last .1 .0) (c .add .last .1 .1 .0) (c .add .last .1 .1 .1 .0) (c .add .last .1 .1 .1 .1 .0) (c .add .result .opens) (c .add .result .settled)
 wrote c =
@@ -55,27 +54,21 @@ wrote c =
     let f1 : SFits w32 (s .after .x1) = search held in
     let f2 : SFits w32 (s .after .x2) = search held in
     let f3 : SFits w32 (s .after .x3) = search held in
-    let f4 : SFits w32 (s .index) = search held in
+    let f4 = index-fits c in
     let e = c .add .ensures in
     (rw (toZ-ofZ f1) at (e .0), rw (toZ-ofZ f2) at (e .1 .0), rw (toZ-ofZ f3) at (e .1 .1 .0), rw (toZ-ofZ f1, toZ-ofZ f2, toZ-ofZ f3, toZ-ofZ f4) at (e .1 .1 .1 .0))
 
--- the mark that it wrote is the decision's
-figures-of-requires : tie.Need-figures-of-requires
-figures-of-requires c κs =
-    let d = c .before .before .before .before .before .before in
-    d .add .ensures .1 .1 .1 .1 ∙ ap (λ (n : ℕ). markFor (decisionOf n)) (numbered d .decision-number .ensures) ∙ mark-of (stepped d .step .result .decision)
-
-cast-t33 : tie.Need-cast-t33
-cast-t33 c =
-    let d = c .before .before .before .before .before .before .before .before in
+cast-t31 : tie.Need-cast-t31
+cast-t31 c =
+    let d = c .before .before .before .before .before .before .before in
     let p = entered d .pre .0 in
     let a = wrote d .3 in
     let m = settled-most (heldIn (entered d .args .months) (entered d .args .opens) (before d)) (rowOf (stepped d .step .result .after .x1) (stepped d .step .result .after .x2) (stepped d .step .result .after .x3) (numbered d .decision-number .result) (stepped d .step .result .index)) in
     record { fits = rw (a .settled-is) (omega arith) }
 
-cast-t34 : tie.Need-cast-t34
-cast-t34 c =
-    let d = c .before .before .before .before .before .before .before .before .before in
+cast-t32 : tie.Need-cast-t32
+cast-t32 c =
+    let d = c .before .before .before .before .before .before .before .before in
     let p = entered d .pre .0 in
     let a = wrote d .3 in
     let m = opens-most (heldIn (entered d .args .months) (entered d .args .opens) (before d)) (rowOf (stepped d .step .result .after .x1) (stepped d .step .result .after .x2) (stepped d .step .result .after .x3) (numbered d .decision-number .result) (stepped d .step .result .index)) in
@@ -98,15 +91,15 @@ same-length-5 c = search needs
 
 returns : tie.Need-returns
 returns c =
-    let f = c .before .before in
-    let d = f .before .before .before .before .before .before .before in
+    let d = c .before .before .before .before .before .before .before .before in
     let a = entered d .args in
     let fz = entered d .fits .z in
-    spelled-is (a .months) (a .opens) (before d) (stepped d .step .result) (numbered d .decision-number .result) (a .values) (a .water) (a .z) (d .add .last .0) (d .add .last .1 .0) (d .add .last .1 .1 .0) (d .add .last .1 .1 .1 .0) (d .add .last .1 .1 .1 .1 .0) (d .add .result .opens) (d .add .result .settled) (f .figures-of .result)
+    rw (toZ-ofZ (index-fits d))
+    (spelled-is (a .months) (a .opens) (before d) (stepped d .step .result) (numbered d .decision-number .result) (a .values) (a .z) (d .add .last .0) (d .add .last .1 .0) (d .add .last .1 .1 .0) (d .add .last .1 .1 .1 .0) (d .add .last .1 .1 .1 .1 .0) (d .add .result .opens) (d .add .result .settled) (d .add .result .mark)
     (rw (toZ-ofZ fz) at (stepped d .step .ensures))
     (numbered d .decision-number .ensures)
     (wrote d)
-    (rw (toZ-ofZ fz) at (f .figures-of .ensures))
+    (d .add .ensures .1 .1 .1 .1))
 
 pub add-spells-spec : {M : Type 1} → statement M
 add-spells-spec =
@@ -115,9 +108,8 @@ add-spells-spec =
     step-requires
     decision-number-requires
     add-requires
-    figures-of-requires
-    cast-t33
-    cast-t34
+    cast-t31
+    cast-t32
     same-length
     same-length-2
     same-length-3
