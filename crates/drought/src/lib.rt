@@ -2,11 +2,15 @@
 //
 // Every call has its promise: its answer, the run that it hands back and the whole content of every lent list
 // equal a definition of what was handed in (specs/Calls.antt), for every input, refused or not. No call has a
-// `requires`. A call asks `refusals` for its number first; where that is 0, `adding` does the month's work.
+// `requires`. An add takes the run apart once and puts it together once: within, a run goes without its sixty constants.
+// A call asks `refusals` for its number first; where that is 0, `adding` does the month's work.
 use adding::Added;
+use adding::MonthAdded;
 use door::Answer;
 use door::MonthInches;
 use door::Reading;
+use outline::MANY_CONSTANTS;
+use runs::Progress;
 use runs::Run;
 use starts::Started;
 ghost use mathlib.Core.Path.{_≡_};
@@ -16,7 +20,9 @@ ghost use Rattle.door.specs.Readings.{reading, mostReading};
 ghost use Rattle.starts.specs.Start.{startOf};
 ghost use Rattle.series.specs.Series.{filled, wholeSeries};
 ghost use Rattle.refusals.specs.Columns.{columns};
+ghost use Rattle.runs.specs.Progress.{runOf};
 ghost use Rattle.adding.specs.Taken.{result};
+ghost use Rattle.adding.specs.Progress.{addedOf};
 ghost use Rattle.drought.specs.Calls.{addOutcomes, addWater, addInches, addZ, rowOfRun};
 
 // What the five columns hold of a month.
@@ -59,7 +65,10 @@ pub fn add_water(
 {
     let a = door::read(p);
     let b = door::read(pe);
-    add_answers(run, a, b, x1, x2, x3, index, mark)
+    let at = runs::progress_of(run);
+    let constants = run.constants;
+    let t = try_answers(at, &constants, a, b, x1, x2, x3, index, mark);
+    adding::answer_of(t, constants)
 }
 
 // Adds a month of water, from two binary32 inches: 1, 7, 9, 10.
@@ -77,12 +86,16 @@ pub fn add_inches(
     let both = door::read_month(q);
     let a = both.p;
     let b = both.pe;
-    add_answers(run, a, b, x1, x2, x3, index, mark)
+    let at = runs::progress_of(run);
+    let constants = run.constants;
+    let t = try_answers(at, &constants, a, b, x1, x2, x3, index, mark);
+    adding::answer_of(t, constants)
 }
 
-// Adds a month of water by what its two readings answer.
-fn add_answers(
-    run: Run,
+// A month of water by what its two readings answer, added or refused.
+fn try_answers(
+    at: Progress,
+    constants: &[i32; MANY_CONSTANTS],
     p: Answer,
     pe: Answer,
     x1: &mut [i32],
@@ -90,32 +103,19 @@ fn add_answers(
     x3: &mut [i32],
     index: &mut [i32],
     mark: &mut [u8],
-) -> Added
+) -> MonthAdded
     requires { ⌜ (outcome p .water ≤ mostReading) × (outcome pe .water ≤ mostReading) ⌝ }
-    ensures { λ a. ⌜ result a (columns (now (x1 .exit)) (now (x2 .exit)) (now (x3 .exit)) (now (index .exit)) (now (mark .exit))) ≡ addOutcomes run (outcome p) (outcome pe) (columns (now (x1 .entry)) (now (x2 .entry)) (now (x3 .entry)) (now (index .entry)) (now (mark .entry))) ⌝ }
+    ensures { λ t. ⌜ result (addedOf t (now (constants .entry))) (columns (now (x1 .exit)) (now (x2 .exit)) (now (x3 .exit)) (now (index .exit)) (now (mark .exit))) ≡ addOutcomes (runOf at (now (constants .entry))) (outcome p) (outcome pe) (columns (now (x1 .entry)) (now (x2 .entry)) (now (x3 .entry)) (now (index .entry)) (now (mark .entry))) ⌝ }
 {
-    let at = runs::progress_of(run);
-    let constants = run.constants;
-    let p_number = door::number(p);
-    let pe_number = door::number(pe);
+    let first = door::number(p);
+    let second = door::number(pe);
+    let number = refusals::water_refusal(at, constants, first, second, x1, x2, x3, index, mark);
+    if number != 0 {
+        return adding::refuse(number, at);
+    }
     let measured = door::water(p);
     let potential = door::water(pe);
-    let number = refusals::water_refusal(
-        at,
-        &constants,
-        p_number,
-        pe_number,
-        x1,
-        x2,
-        x3,
-        index,
-        mark,
-    );
-    if number != 0 {
-        return adding::refuse(number, runs::run_of(at, constants));
-    }
-    let t = adding::add_measured(at, &constants, measured, potential, x1, x2, x3, index, mark);
-    adding::added_of(t, constants)
+    adding::add_measured(at, constants, measured, potential, x1, x2, x3, index, mark)
 }
 
 // Adds a Z: the storages stay, the calendar moves on. 1, 7, 12, 10.
@@ -132,14 +132,28 @@ pub fn add_z(
 {
     let at = runs::progress_of(run);
     let constants = run.constants;
-    let number = refusals::z_refusal(at, &constants, z, x1, x2, x3, index, mark);
+    let t = try_z(at, &constants, z, x1, x2, x3, index, mark);
+    adding::answer_of(t, constants)
+}
+
+// A Z, added or refused.
+fn try_z(
+    at: Progress,
+    constants: &[i32; MANY_CONSTANTS],
+    z: i32,
+    x1: &mut [i32],
+    x2: &mut [i32],
+    x3: &mut [i32],
+    index: &mut [i32],
+    mark: &mut [u8],
+) -> MonthAdded
+    ensures { λ t. ⌜ result (addedOf t (now (constants .entry))) (columns (now (x1 .exit)) (now (x2 .exit)) (now (x3 .exit)) (now (index .exit)) (now (mark .exit))) ≡ addZ (runOf at (now (constants .entry))) z (columns (now (x1 .entry)) (now (x2 .entry)) (now (x3 .entry)) (now (index .entry)) (now (mark .entry))) ⌝ }
+{
+    let number = refusals::z_refusal(at, constants, z, x1, x2, x3, index, mark);
     if number != 0 {
-        return adding::refuse(number, runs::run_of(at, constants));
+        return adding::refuse(number, at);
     }
-    let soil = at.soil;
-    let water = adding::no_water();
-    let t = adding::add_month(at, soil, water, z, x1, x2, x3, index, mark);
-    adding::added_of(t, constants)
+    adding::add_z(at, z, x1, x2, x3, index, mark)
 }
 
 // Shows a month's row, from 0 on: 1, 7, 11.
@@ -155,7 +169,8 @@ pub fn row(
     ensures { λ r. ⌜ r ≡ rowOfRun run i (columns (now (x1 .entry)) (now (x2 .entry)) (now (x3 .entry)) (now (index .entry)) (now (mark .entry))) ⌝ }
 {
     let at = runs::progress_of(run);
-    let number = refusals::row_refusal(at, &run.constants, i, x1, x2, x3, index, mark);
+    let constants = run.constants;
+    let number = refusals::row_refusal(at, &constants, i, x1, x2, x3, index, mark);
     if number != 0 {
         return Shown {
             number,

@@ -1,4 +1,4 @@
--- `drought::add_inches` meets its contract: the month's two answers, and then `add_answers`. Assumes nothing.
+-- `drought::add_inches` meets its contract: the month's two answers, and then `try_answers`. Assumes nothing.
 use mathlib.Core.Path.{_≡_, ap}
 use borrow.Author.Needs.{needs}
 use Rattle.door.specs.Outcome.{MonthOutcomes, outcome}
@@ -18,12 +18,18 @@ first c = ap (λ (m : MonthOutcomes). m .p) (c .read-month .ensures)
 second : (c : tie.After-read-month) → outcome (c .read-month .result .pe) ≡ month (c .before .before .args .q) .pe
 second c = ap (λ (m : MonthOutcomes). m .pe) (c .read-month .ensures)
 
-add-answers-requires : tie.Need-add-answers-requires
+progress-of-requires : tie.Need-progress-of-requires
+progress-of-requires c κs = search needs
+
+try-answers-requires : tie.Need-try-answers-requires
 unfolding month
-add-answers-requires c κs =
-    let d = c .before .before .before .before .before in
+try-answers-requires c κs =
+    let d = c .before .before .before .before .before .before .before .before in
     let q = d .before .before .args .q in
     rw (first d, second d) (inches-most (q .p), inches-most (q .pe))
+
+answer-of-requires : tie.Need-answer-of-requires
+answer-of-requires c κs = search needs
 
 same-length : tie.Need-same-length
 same-length c = search needs
@@ -43,16 +49,19 @@ same-length-5 c = search needs
 returns : tie.Need-returns
 unfolding addInches
 returns c =
-    let t = c .before .before .before .before .before .before in
-    let d = t .before .before .before .before .before .before in
-    rw (first d, second d) at (t .add-answers .ensures)
+    let t = c .before .before .before .before .before .before .before in
+    let o = t .before .before .before .before .before .before .before .before in
+    let d = o .before in
+    rw (c .answer-of .ensures) (rw (o .progress-of .ensures, first d, second d) at (t .try-answers .ensures))
 
 pub add-inches-spec : {M : Type 1} → statement M
 add-inches-spec =
     tie.close
     (tie.spec
     read-month-requires
-    add-answers-requires
+    progress-of-requires
+    try-answers-requires
+    answer-of-requires
     same-length
     same-length-2
     same-length-3

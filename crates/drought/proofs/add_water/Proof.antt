@@ -1,4 +1,4 @@
--- `drought::add_water` meets its contract: the two readings' answers, and then `add_answers`. Assumes nothing.
+-- `drought::add_water` meets its contract: the two readings' answers, and then `try_answers`. Assumes nothing.
 use borrow.Author.Needs.{needs}
 use Rattle.door.proofs.Bounds.{reading-most}
 use Rattle.drought.specs.Calls.{addWater}
@@ -11,11 +11,17 @@ read-requires c κs = search needs
 read-requires-2 : tie.Need-read-requires-2
 read-requires-2 c κs = search needs
 
-add-answers-requires : tie.Need-add-answers-requires
-add-answers-requires c κs =
-    let d = c .before .before .before .before .before in
+progress-of-requires : tie.Need-progress-of-requires
+progress-of-requires c κs = search needs
+
+try-answers-requires : tie.Need-try-answers-requires
+try-answers-requires c κs =
+    let d = c .before .before .before .before .before .before .before .before in
     let a = d .before .before .before .args in
     rw (d .before .read .ensures, d .read2 .ensures) (reading-most (a .p), reading-most (a .pe))
+
+answer-of-requires : tie.Need-answer-of-requires
+answer-of-requires c κs = search needs
 
 same-length : tie.Need-same-length
 same-length c = search needs
@@ -35,9 +41,10 @@ same-length-5 c = search needs
 returns : tie.Need-returns
 unfolding addWater
 returns c =
-    let t = c .before .before .before .before .before .before in
-    let d = t .before .before .before .before .before .before in
-    rw (d .before .read .ensures, d .read2 .ensures) at (t .add-answers .ensures)
+    let t = c .before .before .before .before .before .before .before in
+    let o = t .before .before .before .before .before .before .before .before in
+    let d = o .before in
+    rw (c .answer-of .ensures) (rw (o .progress-of .ensures, d .before .read .ensures, d .read2 .ensures) at (t .try-answers .ensures))
 
 pub add-water-spec : {M : Type 1} → statement M
 add-water-spec =
@@ -45,7 +52,9 @@ add-water-spec =
     (tie.spec
     read-requires
     read-requires-2
-    add-answers-requires
+    progress-of-requires
+    try-answers-requires
+    answer-of-requires
     same-length
     same-length-2
     same-length-3

@@ -35,10 +35,10 @@ progress-of-requires c κs = search needs
 abbrev entered : tie.After-row-refusal → tie.Start
 entered c = c .before .before .before .before .before
 
-number-is : (c : tie.After-row-refusal) → c .row-refusal .result ≡ rowRefusal (entered c .args .t1) (entered c .args .i) (lent (entered c))
+number-is : (c : tie.After-row-refusal) → c .row-refusal .result ≡ rowRefusal (entered c .args .run) (entered c .args .i) (lent (entered c))
 number-is c =
     let s = entered c in
-    c .row-refusal .ensures ∙ ap (λ (p : Progress). rowRefusal (runOf p (s .args .t1 .constants)) (s .args .i) (lent s)) (c .before .before .before .progress-of .ensures)
+    c .row-refusal .ensures ∙ ap (λ (p : Progress). rowRefusal (runOf p (s .args .run .constants)) (s .args .i) (lent s)) (c .before .before .before .progress-of .ensures)
 
 -- what is shown by a number
 abbrev by : tie.Start → ℕ → Shown
@@ -64,37 +64,37 @@ inside : (c : tie.Else1) → Inside (entered (c .before))
 inside c =
     let s = entered (c .before) in
     let cs = lent s in
-    let p = row-passes (s .args .t1) cs (s .args .i) (sym (number-is (c .before)) ∙ c .if1 .left) in
+    let p = row-passes (s .args .run) cs (s .args .i) (sym (number-is (c .before)) ∙ c .if1 .left) in
     let l = columns-are cs (p .0 .fit) in
-    let m = run-is (s .args .t1) cs (p .0) .months in
+    let m = run-is (s .args .run) cs (p .0) .months in
     omega arith
 
-mul-t14 : tie.Need-mul-t14
-mul-t14 c = let h = inside c in omega arith
+mul-t13 : tie.Need-mul-t13
+mul-t13 c = let h = inside c in omega arith
 
-shared-slice-copy-out-t16 : tie.Need-shared-slice-copy-out-t16
-shared-slice-copy-out-t16 c = let h = inside c in omega arith
+shared-slice-copy-out-t15 : tie.Need-shared-slice-copy-out-t15
+shared-slice-copy-out-t15 c = let h = inside c in omega arith
 
-mul-t17 : tie.Need-mul-t17
-mul-t17 c = let h = inside (c .before) in omega arith
+mul-t16 : tie.Need-mul-t16
+mul-t16 c = let h = inside (c .before) in omega arith
 
-shared-slice-copy-out-t19 : tie.Need-shared-slice-copy-out-t19
-shared-slice-copy-out-t19 c = let h = inside (c .before) in omega arith
+shared-slice-copy-out-t18 : tie.Need-shared-slice-copy-out-t18
+shared-slice-copy-out-t18 c = let h = inside (c .before) in omega arith
 
-mul-t20 : tie.Need-mul-t20
-mul-t20 c = let h = inside (c .before .before) in omega arith
+mul-t19 : tie.Need-mul-t19
+mul-t19 c = let h = inside (c .before .before) in omega arith
 
-shared-slice-copy-out-t22 : tie.Need-shared-slice-copy-out-t22
-shared-slice-copy-out-t22 c = let h = inside (c .before .before) in omega arith
+shared-slice-copy-out-t21 : tie.Need-shared-slice-copy-out-t21
+shared-slice-copy-out-t21 c = let h = inside (c .before .before) in omega arith
 
-mul-t23 : tie.Need-mul-t23
-mul-t23 c = let h = inside (c .before .before .before) in omega arith
+mul-t22 : tie.Need-mul-t22
+mul-t22 c = let h = inside (c .before .before .before) in omega arith
 
-shared-slice-copy-out-t25 : tie.Need-shared-slice-copy-out-t25
-shared-slice-copy-out-t25 c = let h = inside (c .before .before .before) in omega arith
+shared-slice-copy-out-t24 : tie.Need-shared-slice-copy-out-t24
+shared-slice-copy-out-t24 c = let h = inside (c .before .before .before) in omega arith
 
-shared-slice-read-t27 : tie.Need-shared-slice-read-t27
-shared-slice-read-t27 c = let h = inside (c .before .before .before .before .before) in omega arith
+shared-slice-read-t26 : tie.Need-shared-slice-read-t26
+shared-slice-read-t26 c = let h = inside (c .before .before .before .before .before) in omega arith
 
 returns-2 : tie.Need-returns-2
 unfolding rowOfRun
@@ -102,10 +102,10 @@ returns-2 c =
     let e = c .before .before .before .before .before in
     let s = entered (e .before) in
     let i = s .args .i in
-    let f1 : SFits w32 (getD (now (s .args .x1)) i (pos 0)) = record { sfits = c .before .before .before .before .t16 .given } in
-    let f2 : SFits w32 (getD (now (s .args .x2)) i (pos 0)) = record { sfits = c .before .before .before .t19 .given } in
-    let f3 : SFits w32 (getD (now (s .args .x3)) i (pos 0)) = record { sfits = c .before .before .t22 .given } in
-    let f4 : SFits w32 (getD (now (s .args .index)) i (pos 0)) = record { sfits = c .before .t25 .given } in
+    let f1 : SFits w32 (getD (now (s .args .x1)) i (pos 0)) = record { sfits = c .before .before .before .before .t15 .given } in
+    let f2 : SFits w32 (getD (now (s .args .x2)) i (pos 0)) = record { sfits = c .before .before .before .t18 .given } in
+    let f3 : SFits w32 (getD (now (s .args .x3)) i (pos 0)) = record { sfits = c .before .before .t21 .given } in
+    let f4 : SFits w32 (getD (now (s .args .index)) i (pos 0)) = record { sfits = c .before .t24 .given } in
     rw (toZ-ofZ f1, toZ-ofZ f2, toZ-ofZ f3, toZ-ofZ f4) (ap (by s) (sym (e .if1 .left) ∙ number-is (e .before)))
 
 pub row-spec : {M : Type 1} → statement M
@@ -115,13 +115,13 @@ row-spec =
     progress-of-requires
     row-refusal-requires
     returns
-    mul-t14
-    shared-slice-copy-out-t16
-    mul-t17
-    shared-slice-copy-out-t19
-    mul-t20
-    shared-slice-copy-out-t22
-    mul-t23
-    shared-slice-copy-out-t25
-    shared-slice-read-t27
+    mul-t13
+    shared-slice-copy-out-t15
+    mul-t16
+    shared-slice-copy-out-t18
+    mul-t19
+    shared-slice-copy-out-t21
+    mul-t22
+    shared-slice-copy-out-t24
+    shared-slice-read-t26
     returns-2)
