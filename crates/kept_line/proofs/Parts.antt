@@ -1,8 +1,8 @@
--- What is left of a part at a place: its first byte and those after it, or nothing; and that a byte is kept within the line lent. Assumes
--- nothing.
+-- What is left of a part at a place: its first byte and those after it, or nothing; where a line ends that goes on there; and that a byte is
+-- kept within the line lent. Assumes nothing.
 use mathlib.Core.Path.{_≡_, refl}
 use mathlib.Core.Bool.{Bool, true, false}
-use mathlib.Core.List.{List, [], _∷_}
+use mathlib.Core.List.{List}
 use Prim.Native.Nat.{ℕ, _+_, _≤_, _<_}
 use native.Mathlib.Omega.{arith}
 use lib.Dec.{leb}
@@ -12,7 +12,7 @@ use Rattle.text.specs.Bytes.{lineFeed}
 use Rattle.text.proofs.Digits.{apart}
 use Rattle.fields.specs.Columns.{lastColumn}
 use Rattle.fields.proofs.Parts.{left}
-use Rattle.kept_line.specs.Kept.{untilFeed, mostKept, isKept, Kept, byteInto, partKept}
+use Rattle.kept_line.specs.Kept.{untilFeed, endFrom, mostKept, isKept, Kept, byteInto, partKept}
 
 -- ---- what is left at a place: its first byte and those after it, or nothing
 module _ (s : List ℕ) (i : ℕ) (h : i < length s) where
@@ -20,22 +20,22 @@ module _ (s : List ℕ) (i : ℕ) (h : i < length s) where
   unfolding partKept
   part-on k = rw (left s i h)
 
-  pub feed-here : getD s i 0 ≡ lineFeed → untilFeed (drop i s) ≡ []
+  pub end-here : getD s i 0 ≡ lineFeed → endFrom s i ≡ i
   unfolding untilFeed
-  feed-here e = rw (left s i h, eq-eqb (getD s i 0) lineFeed e)
+  end-here e = rw (left s i h, eq-eqb (getD s i 0) lineFeed e) (omega arith)
 
-  pub feed-later : (getD s i 0 ≡ lineFeed → ⊥) → untilFeed (drop i s) ≡ getD s i 0 ∷ untilFeed (drop (i + 1) s)
+  pub end-later : (getD s i 0 ≡ lineFeed → ⊥) → endFrom s (i + 1) ≡ endFrom s i
   unfolding untilFeed
-  feed-later e = rw (left s i h, ne-eqb (getD s i 0) lineFeed e)
+  end-later e = rw (left s i h, ne-eqb (getD s i 0) lineFeed e) (omega arith)
 
 module _ (s : List ℕ) (i : ℕ) (h : length s ≤ i) where
   pub part-end : (k : Kept) → partKept k (drop i s) ≡ k
   unfolding partKept
   part-end k = rw (drop-of-length-le s h)
 
-  pub feed-none : untilFeed (drop i s) ≡ []
+  pub end-none : endFrom s i ≡ i
   unfolding untilFeed
-  feed-none = rw (drop-of-length-le s h)
+  end-none = rw (drop-of-length-le s h) (omega arith)
 
 -- ---- a byte is kept within the line
 within-by : (kept b : ℕ) (t : Bool) → leb kept lastColumn ≡ t → isKept kept b ≡ true → kept < mostKept

@@ -4,7 +4,7 @@ use Prim.Native.Nat.{ℕ, _+_}
 use mathlib.Core.Bool.{Bool, cond, not, _&&_, _||_}
 use mathlib.Core.List.{List, [], _∷_, foldl}
 use lib.Dec.{ltb, eqb}
-use lib.ListN.{set}
+use lib.ListN.{length, drop, set}
 use Rattle.text.specs.Bytes.{lineFeed, space}
 use Rattle.fields.specs.Columns.{lastColumn}
 
@@ -12,6 +12,14 @@ use Rattle.fields.specs.Columns.{lastColumn}
 unfoldable pub untilFeed : List ℕ → List ℕ
 untilFeed [] = []
 untilFeed (b ∷ bs) = cond (eqb b lineFeed) [] (b ∷ untilFeed bs)
+
+-- where in the piece the line ends that goes on at a place
+abbrev pub endFrom : List ℕ → ℕ → ℕ
+endFrom piece i = i + length (untilFeed (drop i piece))
+
+-- the bytes that are looked at together for its end
+abbrev pub block : ℕ
+block = 32
 
 -- ---- the bytes that a line is told by
 abbrev pub mostKept : ℕ

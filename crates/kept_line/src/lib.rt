@@ -5,20 +5,59 @@
 // Everything here is for the crate `division_input`, whose program lends the line.
 use fields::LAST_COLUMN;
 ghost use mathlib.Core.Path.{_≡_};
+ghost use mathlib.Core.Bool.{false};
 ghost use Prim.Native.Nat.{_+_, _-_, _≤_, min};
 ghost use lib.ListN.{length, drop};
 ghost use Rattle.fields.specs.Columns.{lastColumn};
-ghost use Rattle.kept_line.specs.Kept.{untilFeed, mostKept, isKept, keptCount, keptLine, keptOf, partKept};
+ghost use Rattle.kept_line.specs.Kept.{untilFeed, endFrom, block, mostKept, isKept, keptCount, keptLine, keptOf, partKept};
 
 // The bytes that a line is told by.
 pub const KEPT: usize = LAST_COLUMN + 1;
+
+// ---- where a line ends
+
+// The bytes of a block.
+const BLOCK: usize = 32;
+
+// Whether a line feed is in the block at `from`. No byte ends the loop, so it is compiled to comparisons of sixteen
+// bytes at a time.
+fn has_feed(piece: &[u8], from: usize) -> bool
+    requires { ⌜ from + block ≤ length (now piece) ⌝ }
+    ensures { λ r. ⌜ (r ≡ false → endFrom (now (piece .entry)) (from + block) ≡ endFrom (now (piece .entry)) from) ⌝ }
+{
+    let mut has = false;
+    let mut k = 0;
+    while k < BLOCK {
+        if piece[from + k] == b'\n' {
+            has = true;
+        }
+        k += 1;
+    }
+    has
+}
+
+// Past the blocks from `from` on that have no line feed.
+fn past_blocks(piece: &[u8], from: usize) -> usize
+    requires { ⌜ from ≤ length (now piece) ⌝ }
+    ensures { λ r. ⌜ r ≤ length (now (piece .entry)) ⌝ }
+    ensures { λ r. ⌜ endFrom (now (piece .entry)) r ≡ endFrom (now (piece .entry)) from ⌝ }
+{
+    let mut i = from;
+    while piece.len() - i >= BLOCK {
+        if has_feed(piece, i) {
+            return i;
+        }
+        i += BLOCK;
+    }
+    i
+}
 
 // Where the line ends that goes on at `from`: at its line feed, or where the piece ends.
 pub fn line_end(piece: &[u8], from: usize) -> usize
     requires { ⌜ from ≤ length (now piece) ⌝ }
     ensures { λ r. ⌜ r ≡ from + length (untilFeed (drop from (now (piece .entry)))) ⌝ }
 {
-    let mut i = from;
+    let mut i = past_blocks(piece, from);
     while i < piece.len() {
         if piece[i] == b'\n' {
             return i;
