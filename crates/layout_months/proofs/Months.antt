@@ -1,21 +1,26 @@
--- The twelve months of a line, and what is found of them one after another. Assumes nothing.
+-- A number in its range, the twelve months of a line, and what is found of them one after another. Assumes nothing.
 use mathlib.Core.Path.{_≡_, refl, sym, ap}
-use mathlib.Core.Bool.{Bool, true, false}
+use mathlib.Core.Bool.{Bool, true, false, and-eq-true-iff}
 use mathlib.Core.List.{List, [], _∷_, _++_, map, map-append}
 use Prim.Native.Nat.{ℕ, zero, suc, _+_, _*_, _^_, _≤_, _<_}
 use native.Mathlib.Omega.{arith}
 use lib.Count.{trailingZeros}
 use lib.Dec.{eqb}
 use lib.ListN.{length, take, drop, getD, length-map}
-use borrow.Author.Tests.{eqb-true, eqb-false}
+use borrow.Author.Tests.{leb-true, eqb-true, eqb-false}
 use Rattle.fields.specs.Columns.{values, headingColumns, firstValue, monthsOfYear, width}
-use Rattle.layout_months.specs.Months.{monthOf, monthsOf, isPresent, setOf, monthAtFault, firstBad}
+use Rattle.layout_months.specs.Months.{mostHundredths, inRange, monthOf, monthsOf, isPresent, setOf, monthAtFault, firstBad}
 use Rattle.layout_months.specs.Steps.{foundIn, andMonth, columnOf}
 use Rattle.layout_months.specs.declared.Found.{Found}
 use Rattle.layout_months.specs.declared.Month.{Month}
 use Rattle.layout_months.specs.declared.Month.the-variants.{Amount, Missing, Outside, Malformed}
 use Rattle.layout_months.proofs.Sets.{set-below, set-more, set-same, first-rest}
 
+pub range-most : (minus : Bool) (n : ℕ) → inRange minus n ≡ true → n ≤ mostHundredths
+unfolding inRange
+range-most minus n h = leb-true n mostHundredths (and-eq-true-iff _ _ .0 h .0)
+
+-- ---- the months of a line
 pub months-twelve : (line : List ℕ) → length (monthsOf line) ≡ monthsOfYear
 unfolding monthsOf values
 months-twelve line = refl

@@ -11,8 +11,8 @@ ghost use mathlib.Core.Path.{_≡_};
 ghost use mathlib.Core.List.{map};
 ghost use Prim.Native.Nat.{_+_, _≤_, _<_, _^_};
 ghost use lib.ListN.{length};
-ghost use Rattle.fields.specs.Columns.{width, monthsOfYear, lastColumn};
-ghost use Rattle.layout_months.specs.Months.{rainOf, monthOf, monthsOf, amountOf};
+ghost use Rattle.fields.specs.Columns.{monthsOfYear, lastColumn};
+ghost use Rattle.layout_months.specs.Months.{isMark, inRange, monthSaid, monthsOf, amountOf};
 ghost use Rattle.layout_months.specs.Steps.{andMonth, foundIn, allMonths, lowestMissing, columnOf};
 
 // What a value says as a month's precipitation.
@@ -50,46 +50,54 @@ const ALL: u32 = 4_095;
 
 // ---- a month
 
-// A number as a month's precipitation: the missing mark, 0 to 100 inches, or neither.
-fn rain(minus: bool, hundredths: u32) -> Month
-    ensures { λ r. ⌜ r ≡ rainOf minus hundredths ⌝ }
+// Whether a number is the missing mark.
+fn is_mark(minus: bool, hundredths: u32) -> bool
+    ensures { λ r. ⌜ r ≡ isMark minus hundredths ⌝ }
 {
-    if hundredths > MOST {
-        return Month::Outside;
+    if minus {
+        return hundredths == MARK;
     }
-    if !minus {
-        return Month::Amount(10 * hundredths);
+    false
+}
+
+// Whether a number is 0 to 100 inches; a minus before 0 says 0.
+fn in_range(minus: bool, hundredths: u32) -> bool
+    ensures { λ r. ⌜ r ≡ inRange minus hundredths ⌝ }
+{
+    if minus {
+        return hundredths == 0;
     }
-    if hundredths == MARK {
+    hundredths <= MOST
+}
+
+// What a value says of its month.
+fn month_said(said: Field) -> Month
+    ensures { λ r. ⌜ r ≡ monthSaid said ⌝ }
+{
+    let Field::Number(minus, hundredths) = said else {
+        return Month::Malformed;
+    };
+    if is_mark(minus, hundredths) {
         return Month::Missing;
     }
-    if hundredths == 0 {
-        return Month::Amount(0);
+    if in_range(minus, hundredths) {
+        return Month::Amount(10 * hundredths);
     }
     Month::Outside
 }
 
-fn read_month(field: &[u8]) -> Month
-    requires { ⌜ length (now field) ≡ width ⌝ }
-    ensures { λ r. ⌜ r ≡ monthOf (now (field .entry)) ⌝ }
+// The thousandths that a value says, 0 where it says no amount. They are told by the value and not by its month: a
+// month taken apart twice is compiled to a jump by a table.
+fn amount(said: Field) -> u32
+    ensures { λ r. ⌜ r ≡ amountOf (monthSaid said) ⌝ }
 {
-    let said = fields::read_field(field);
     let Field::Number(minus, hundredths) = said else {
-        return Month::Malformed;
+        return 0;
     };
-    rain(minus, hundredths)
-}
-
-// Thousandths, 0 where there is no amount.
-fn amount(month: Month) -> u32
-    ensures { λ r. ⌜ r ≡ amountOf month ⌝ }
-{
-    match month {
-        Month::Amount(n) => n,
-        Month::Missing => 0,
-        Month::Outside => 0,
-        Month::Malformed => 0,
+    if in_range(minus, hundredths) {
+        return 10 * hundredths;
     }
+    0
 }
 
 // ---- the months of a line
@@ -137,9 +145,9 @@ pub fn read_months(line: &[u8], amounts: &mut [u32]) -> Found
     let mut m = 0;
     while m < MONTHS {
         let at = HEADING + WIDTH * m;
-        let month = read_month(&line[at..at + WIDTH]);
-        amounts[m] = amount(month);
-        found = and_month(found, month, bit);
+        let said = fields::read_field(&line[at..at + WIDTH]);
+        amounts[m] = amount(said);
+        found = and_month(found, month_said(said), bit);
         bit = 2 * bit;
         m += 1;
     }

@@ -10,7 +10,7 @@ use lib.ListN.{length, take, drop, set, length-drop, length-set}
 use lib.Pow.{pow-mono}
 use lib.Seq.{take-suc, take-suc-set, take-all, length-take-le}
 use Rattle.fields.specs.Columns.{headingColumns, monthsOfYear, width}
-use Rattle.layout_months.specs.Months.{monthOf, monthsOf, amountOf, setOf}
+use Rattle.layout_months.specs.Months.{monthSaid, monthOf, monthsOf, amountOf, setOf}
 use Rattle.layout_months.specs.Steps.{foundIn, andMonth}
 use Rattle.layout_months.specs.declared.Month.{Month}
 use Rattle.layout_months.specs.declared.Month.the-variants.{Malformed}
@@ -57,10 +57,11 @@ pow-next m = rw (add-one m) (pow-suc 2 m)
 seven : (k : ℕ) → k + width - k ≡ width
 seven k = omega arith
 
-month-is : (c : tie.After-read-month Inv-loop μ-loop) → let a = c .before .before .before in c .read-month .result ≡ monthOf (field (a .before .before .before .args .line .now) (a .loop .m))
+month-is : (c : tie.After-read-field Inv-loop μ-loop) → let a = c .before .before .before in monthSaid (c .read-field .result) ≡ monthOf (field (a .before .before .before .args .line .now) (a .loop .m))
+unfolding monthOf
 month-is c =
     let a = c .before .before .before in
-    c .read-month .ensures ∙ ap (λ (n : ℕ). monthOf (take n (drop (headingColumns + width * a .loop .m) (a .before .before .before .args .line .now)))) (seven (headingColumns + width * a .loop .m))
+    ap monthSaid (c .read-field .ensures) ∙ ap (λ (n : ℕ). monthOf (take n (drop (headingColumns + width * a .loop .m) (a .before .before .before .args .line .now)))) (seven (headingColumns + width * a .loop .m))
 
 loop-holds : tie.Need-loop-holds Inv-loop μ-loop
 unfolding foundIn setOf
@@ -72,20 +73,20 @@ mul-at c = record { fits = omega (arith, c .loop-test .taken) }
 add-at : tie.Need-add-at Inv-loop μ-loop
 add-at c = record { fits = omega (arith, c .loop-test .taken) }
 
-add-read-month : tie.Need-add-read-month Inv-loop μ-loop
-add-read-month c = record { fits = omega (arith, c .loop-test .taken) }
+add-read-field : tie.Need-add-read-field Inv-loop μ-loop
+add-read-field c = record { fits = omega (arith, c .loop-test .taken) }
 
-sub-read-month : tie.Need-sub-read-month Inv-loop μ-loop
-sub-read-month c = omega arith
+sub-read-field : tie.Need-sub-read-field Inv-loop μ-loop
+sub-read-field c = omega arith
 
-part-read-month-start : tie.Need-part-read-month-start Inv-loop μ-loop
-part-read-month-start c = omega arith
+part-read-field-start : tie.Need-part-read-field-start Inv-loop μ-loop
+part-read-field-start c = omega arith
 
-part-read-month-end : tie.Need-part-read-month-end Inv-loop μ-loop
-part-read-month-end c = omega (arith, c .loop-test .taken, c .before .before .before .before .pre .0)
+part-read-field-end : tie.Need-part-read-field-end Inv-loop μ-loop
+part-read-field-end c = omega (arith, c .loop-test .taken, c .before .before .before .before .pre .0)
 
-read-month-requires : tie.Need-read-month-requires Inv-loop μ-loop
-read-month-requires c κs =
+read-field-requires : tie.Need-read-field-requires Inv-loop μ-loop
+read-field-requires c κs =
     let a = c .before .before in
     let l = a .before .before .before .args .line .now in
     let k = headingColumns + width * a .loop .m in
@@ -102,11 +103,14 @@ slice-write-amounts c =
     let a = c .before .before .before .before in
     omega (arith, c .before .before .before .loop-test .taken, a .loop .inv .1, a .before .before .before .pre .1)
 
+month-said-requires : tie.Need-month-said-requires Inv-loop μ-loop
+month-said-requires c κs = search needs
+
 and-month-requires : tie.Need-and-month-requires Inv-loop μ-loop
 and-month-requires c κs =
-    let a = c .before .before .before .before in
+    let a = c .before .before .before .before .before in
     let l = a .before .before .before .args .line .now in
-    let h = c .before .before .before .loop-test .taken in
+    let h = c .before .before .before .before .loop-test .taken in
     let b = found-below (take (a .loop .m) (monthsOf l)) (a .loop .found) (a .loop .inv .3) in
     let n = so-many l (a .loop .m) h in
     let p = bit-below l (a .loop .m) h in
@@ -116,27 +120,27 @@ and-month-requires c κs =
 
 mul-bit : tie.Need-mul-bit Inv-loop μ-loop
 mul-bit c =
-    let a = c .before .before .before .before .before in
-    record { fits = omega (arith, bit-below (a .before .before .before .args .line .now) (a .loop .m) (c .before .before .before .before .loop-test .taken), a .loop .inv .2) }
+    let a = c .before .before .before .before .before .before in
+    record { fits = omega (arith, bit-below (a .before .before .before .args .line .now) (a .loop .m) (c .before .before .before .before .before .loop-test .taken), a .loop .inv .2) }
 
 add-m : tie.Need-add-m Inv-loop μ-loop
-add-m c = record { fits = omega (arith, c .before .before .before .before .loop-test .taken) }
+add-m c = record { fits = omega (arith, c .before .before .before .before .before .loop-test .taken) }
 
 loop-less : tie.Need-loop-less Inv-loop μ-loop
-loop-less c = omega (arith, c .before .before .before .before .loop-test .taken)
+loop-less c = omega (arith, c .before .before .before .before .before .loop-test .taken)
 
 loop-again : tie.Need-loop-again Inv-loop μ-loop
 loop-again c =
-    let a = c .before .before .before .before .before in
+    let a = c .before .before .before .before .before .before in
     let l = a .before .before .before .args .line .now in
     let m = a .loop .m in
-    let h = c .before .before .before .before .loop-test .taken in
-    let x = month-is (c .before .before) in (
+    let h = c .before .before .before .before .before .loop-test .taken in
+    let x = month-is (c .before .before .before) in (
       omega (arith, h),
-      length-set (a .loop .amounts) m (c .before .amount .result) ∙ a .loop .inv .1,
+      length-set (a .loop .amounts) m (c .before .before .amount .result) ∙ a .loop .inv .1,
       omega (arith, a .loop .inv .2, pow-next m),
-      rw (c .and-month .ensures, x, a .loop .inv .3, a .loop .inv .2) (found-next l m h),
-      rw (c .before .amount .ensures, x) (amounts-next l m h (a .loop .amounts) (a .loop .inv .1 ∙ a .before .before .before .pre .1) (a .loop .inv .4)),
+      rw (c .and-month .ensures, c .before .month-said .ensures, x, a .loop .inv .3, a .loop .inv .2) (found-next l m h),
+      rw (c .before .before .amount .ensures, x) (amounts-next l m h (a .loop .amounts) (a .loop .inv .1 ∙ a .before .before .before .pre .1) (a .loop .inv .4)),
     )
 
 same-length : tie.Need-same-length Inv-loop μ-loop
@@ -160,14 +164,15 @@ read-months-spec =
     loop-holds
     mul-at
     add-at
-    add-read-month
-    sub-read-month
-    part-read-month-start
-    part-read-month-end
-    read-month-requires
+    add-read-field
+    sub-read-field
+    part-read-field-start
+    part-read-field-end
+    read-field-requires
     amount-requires
     mul-amounts
     slice-write-amounts
+    month-said-requires
     and-month-requires
     mul-bit
     add-m
