@@ -63,8 +63,8 @@ pub fn decision_number(d: Decision) -> u8
     }
 }
 
-// The larger of 0 and next(x).
-fn raised_next(x: i32, z: i32) -> i32
+// The larger of 0 and next(x). For the crates above, which hold x and Z in range.
+pub fn raised_next(x: i32, z: i32) -> i32
     requires { ⌜ natAbs x ≤ mostX ⌝ }
     requires { ⌜ natAbs z ≤ mostZ ⌝ }
     ensures { λ r. ⌜ r ≡ raised (nextOf x z) ⌝ }
@@ -73,8 +73,8 @@ fn raised_next(x: i32, z: i32) -> i32
     if n >= 0 { n } else { 0 }
 }
 
-// The smaller of 0 and next(x).
-fn lowered_next(x: i32, z: i32) -> i32
+// The smaller of 0 and next(x). For the crates above, which hold x and Z in range.
+pub fn lowered_next(x: i32, z: i32) -> i32
     requires { ⌜ natAbs x ≤ mostX ⌝ }
     requires { ⌜ natAbs z ≤ mostZ ⌝ }
     ensures { λ r. ⌜ r ≡ lowered (nextOf x z) ⌝ }
