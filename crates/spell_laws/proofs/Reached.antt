@@ -13,11 +13,11 @@ use Rattle.exact.proofs.NextLaws.{sum, next-near, next-rises, next-odd}
 use Rattle.exact.proofs.Z.{zs, is-Z, le-yes, ≤ℤ-of-<}
 use Rattle.spells.specs.declared.Running.{Running}
 use Rattle.spells.specs.declared.With.the-variants.{X1, X2, X3}
-use Rattle.spells.specs.declared.Decision.the-variants.{Nothing}
+use Rattle.spells.specs.declared.Decision.the-variants.{Nothing, Decides}
 use Rattle.spells.specs.declared.SpellMonth.{SpellMonth}
 use Rattle.spells.specs.Values.{fresh}
 use Rattle.spells.specs.Spells.{raised, lowered, steadyMonth, abatingValues, abatingMonth, founded, unfounded, tried, noSpell, endingMonth, stepOf}
-use Rattle.spells.proofs.Choices.{same-values, raised-kept, raised-off, lowered-kept, lowered-off}
+use Rattle.spells.proofs.Choices.{same-values, raised-kept, raised-off, lowered-kept, lowered-off, step-none}
 use Rattle.ending.specs.Ending.{Ending, steady, ended, abating, turn, uOf, vOf, eOf, endingOf}
 use Rattle.spell_laws.specs.Months.{x1Of, x2Of}
 use Rattle.spell_laws.specs.Cases.{InForce, endingIn, SpellIs, spell-is, NoSpell, none, just-ended}
@@ -282,3 +282,25 @@ open-values s z = by-month s z Open spell (λ h. tries 0)
     spell wet steady h i e = absurd (decides-some X3 e)
     spell wet ended h i e = tries 100 e
     spell wet abating h i e = (refl, refl)
+
+-- with X3 = 0 a month does not decide with X3, and one that decides nothing leaves X3 = 0
+pub none-stays : (s : Running) (z : ℤ) → s .x3 ≡ pos 0 → (stepOf s z .decision ≡ Decides X3 → ⊥) × (stepOf s z .decision ≡ Nothing → stepOf s z .after .x3 ≡ pos 0)
+unfolding noSpell founded unfounded
+none-stays s z e =
+    subst None (sym (step-none s z (low (s .x3) e) (high (s .x3) e)))
+    (by-tried (x1Of s z) (x2Of s z) 0 None (λ p. (not-x1, λ d. absurd (decides-some X1 d))) (λ p q. (not-x2, λ d. absurd (decides-some X2 d))) (λ p q r. (not-x2, λ d. refl)) (λ p q r t. (not-x1, λ d. refl)) (λ p q r t. (λ d. decides-some X3 (sym d), λ d. refl)))
+  where
+    None : SpellMonth → Type 0
+    None m = (m .decision ≡ Decides X3 → ⊥) × (m .decision ≡ Nothing → m .after .x3 ≡ pos 0)
+
+    not-x1 : Decides X1 ≡ Decides X3 → ⊥
+    not-x1 d = let k : _≡_ {A = ℕ} 0 1 = cc in omega arith
+
+    not-x2 : Decides X2 ≡ Decides X3 → ⊥
+    not-x2 d = let k : _≡_ {A = ℕ} 0 1 = cc in omega arith
+
+    low : (x : ℤ) → x ≡ pos 0 → negsuc 499 ≤ℤ x
+    low x = rw (is-Z x) (simp zs (omega arith))
+
+    high : (x : ℤ) → x ≡ pos 0 → x ≤ℤ pos 500
+    high x = rw (is-Z x) (simp zs (omega arith))
