@@ -12,7 +12,7 @@ use lib.Seq.{take-at, drop-at}
 use Rattle.spells.specs.declared.With.{With}
 use Rattle.spells.specs.declared.Decision.{Decision}
 use Rattle.spells.specs.declared.Decision.the-variants.{Nothing, Decides}
-use Rattle.hindsight.specs.Rule.{X, Row, Deciding, nobody, after, oneEarlier, decidingFor, deciding, Shown, shownBy, settledIndex, forward, forwardAll, indexOf, markOf}
+use Rattle.hindsight.specs.Rule.{X, Row, Deciding, nobody, after, oneEarlier, decidingFor, deciding, Shown, shownBy, settledIndex, forward, forwardAll, forwardIndexes, forwardMarks, indexOf, markOf}
 use Rattle.hindsight.proofs.Forward.{length-forwardAll, getD-forwardAll, getD-map}
 use Rattle.hindsight_laws.specs.Counts.{NoneFrom, count}
 use Rattle.hindsight.specs.Adding.{History, fresh, settledAll, kept, addAs, addMonth, settledCount, settledAs, addTo, addAll}
@@ -43,7 +43,7 @@ runOf s t =
     }
 
 -- lists
-map-append : {A B : Type 0} (f : A → B) (l m : List A) → map f (l ++ m) ≡ map f l ++ map f m
+pub map-append : {A B : Type 0} (f : A → B) (l m : List A) → map f (l ++ m) ≡ map f l ++ map f m
 map-append f [] m = refl
 map-append {B = B} f (x ∷ l) m = ap (λ (r : List B). f x ∷ r) (map-append f l m)
 
@@ -71,7 +71,7 @@ unfolding shows
 forward-settles [] r w rest h e = rw e
 forward-settles (m ∷ t) r w rest h e = rw (settles (m ∷ t) r w rest h e, forward-settles t r w rest (h .1) e)
 
-forward-waits : (t : List Row) → Wait t → map indexOf (forwardAll t) ≡ map shownOf t
+pub forward-waits : (t : List Row) → Wait t → forwardIndexes t ≡ map shownOf t
 forward-waits [] h = refl
 forward-waits (m ∷ t) h = rw (waits-nobody (m ∷ t) h, forward-waits t (h .1))
 
@@ -85,6 +85,14 @@ shows-indexes : (w : With) (l : List X) → map indexOf (shows w l) ≡ settledA
 unfolding shows
 shows-indexes w [] = refl
 shows-indexes w (m ∷ l) = ap (λ (r : List ℤ). settledIndex w m l ∷ r) (shows-indexes w l)
+
+-- so the columns begin with the group's, and then with the month's own
+module _ (t : List Row) (r : Row) (w : With) (rest : List Row) (h : Wait t) (e : r .decision ≡ Decides w) where
+  pub indexes-settle : forwardIndexes (t ++ (r ∷ rest)) ≡ settledAll w (map xOf t) ++ (r .shown ∷ forwardIndexes rest)
+  indexes-settle = rw (forward-settles t r w rest h e) (simp (map-append, shows-indexes))
+
+  pub marks-settle : forwardMarks (t ++ (r ∷ rest)) ≡ replicate (length t) 2 ++ (2 ∷ forwardMarks rest)
+  marks-settle = rw (forward-settles t r w rest h e) (simp (map-append, shows-marks, length-map))
 
 -- the two closings: nothing is closed, and s with the open months and the month that settles them is
 closed-nil : Closed []
@@ -103,7 +111,7 @@ closed-more s t r w c h e rest =
       append-assoc (shows w (map xOf t)) (record { mark = 2; index = r .shown } ∷ []) (forwardAll rest),
     )
 
-wait-more : (t : List Row) (r : Row) → Wait t → r .decision ≡ Nothing → Wait (t ++ (r ∷ []))
+pub wait-more : (t : List Row) (r : Row) → Wait t → r .decision ≡ Nothing → Wait (t ++ (r ∷ []))
 wait-more [] r h e = (e, tt)
 wait-more (m ∷ t) r h e = (h .0, wait-more t r (h .1) e)
 
@@ -135,9 +143,8 @@ module _ (s t : List Row) (r : Row) (w : With) (c : Closed s) (h : Wait t) (e : 
         take-at (map indexOf (forwardAll s)) (map shownOf t) (kept (runOf s t)) (length-map (forwardAll s) indexOf ∙ length-forwardAll s ∙ sym (kept-is s t)),
         drop-at (map xOf s) (map xOf t) (kept (runOf s t)) (length-map s xOf ∙ sym (kept-is s t)),
         c (t ++ (r ∷ [])),
-        forward-settles t r w [] h e,
       )
-      (simp (map-append, shows-indexes, append-nil))
+      (simp (map-append, indexes-settle t r w [] h e, append-nil))
 
   mark-Decides : take (kept (runOf s t)) (replicate {A = ℕ} (length s) 2 ++ replicate {A = ℕ} (length t) 1) ++ (replicate {A = ℕ} (length t) 2 ++ (2 ∷ []))
       ≡ replicate {A = ℕ} (length (s ++ (t ++ (r ∷ [])))) 2 ++ []
@@ -149,7 +156,7 @@ module _ (s t : List Row) (r : Row) (w : With) (c : Closed s) (h : Wait t) (e : 
   add-Decides = λ i. record { past = past-Decides i; index = index-Decides i; mark = mark-Decides i; opens = 0 }
 
   twos-more : map markOf (forwardAll s) ≡ replicate {A = ℕ} (length s) 2 → map markOf (forwardAll (s ++ (t ++ (r ∷ [])))) ≡ replicate {A = ℕ} (length (s ++ (t ++ (r ∷ [])))) 2
-  twos-more p = rw (c (t ++ (r ∷ [])), forward-settles t r w [] h e) (simp (map-append, shows-marks, replicate-append, length-map, p))
+  twos-more p = rw (c (t ++ (r ∷ []))) (simp (map-append, marks-settle t r w [] h e, replicate-append, p))
 
 -- THE INVARIANT of adding one by one
 pub record Inv (rows : List Row) (run : History) : Type 0 where
@@ -199,7 +206,7 @@ inv rows = inv-all [] fresh rows inv-fresh
 
 -- ═══ WHAT FOLLOWS ═══
 
-ones : (t : List Row) → Wait t → map markOf (forwardAll t) ≡ replicate (length t) 1
+pub ones : (t : List Row) → Wait t → forwardMarks t ≡ replicate (length t) 1
 ones [] h = refl
 ones (m ∷ t) h = rw (waits-nobody (m ∷ t) h, ones t (h .1))
 
