@@ -36,7 +36,8 @@ use Rattle.adding.proofs.Readiness.{run-is}
 use Rattle.demands.specs.Months.{Ask, water, inches, anomaly, asked, State, after, afterAll, Accepted, stationOf, watered, zFor, soilFor, waterFor, stationNext, stationRow, noRow}
 use Rattle.demands.proofs.Took.{Took, took, settled-is, held-next}
 use Rattle.demands.specs.Demands.{Fresh, first, numberOf, Answers, valuesAt, Balances, rowsSoFar}
-use Rattle.demands.proofs.Rows.{rows-long, rows-append, getD-xs}
+use Rattle.hindsight_laws.proofs.Steps.{rows-long, rows-append}
+use Rattle.demands.proofs.Rows.{getD-xs}
 use Rattle.demands.proofs.Sequence.{held-all, months-all, values-stay, after-append, accepted-append}
 
 -- ---- 1. "Every reading, constant, month and list gets its answer or a numbered refusal. Nobody has to check beforehand. A refused call

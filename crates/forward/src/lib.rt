@@ -1,72 +1,88 @@
-// Hindsight over a whole series: index and mark of every month, by scans that look forward.
+// Hindsight over a whole series: index and mark of every month, by scans that look forward. No column is held besides
+// those that are lent.
 //
-// `look_forward` is for the crates above, which hold the lengths that it requires. A decision comes as its number,
-// a side as 1 for X1's and 2 for X2's, as in the crate `hindsight`.
+// `look_forward` is for the crates above, which hold what it requires. A decision comes as its number, a side as 1
+// for X1's and 2 for X2's, as in the crate `hindsight`.
+use spells::Running;
 ghost use mathlib.Core.Path.{_≡_};
-ghost use Prim.Native.Nat.{_+_, _-_};
-ghost use lib.ListN.{length};
+ghost use mathlib.Core.List.{_++_};
+ghost use Prim.Native.Nat.{_-_, _≤_};
+ghost use lib.IntN.{natAbs};
+ghost use lib.ListN.{length, take, drop, replicate};
+ghost use Rattle.outline.specs.Numbers.{mostX, mostMonths};
 ghost use Rattle.hindsight.specs.Rule.{forwardIndexes, forwardMarks};
-ghost use Rattle.hindsight.specs.Coded.{rowAt, rowsFrom};
+ghost use Rattle.hindsight.specs.Months.{markFor, rowsOfZ};
+ghost use Rattle.hindsight.specs.Coded.{decisionOf};
+ghost use Rattle.sides.specs.Sides.{sidesOf, codes};
+ghost use Rattle.forward.specs.Groups.{EachFits, groupIndexes};
 
-// The later of two places: b - a is 0 where b is not after a.
-fn later(a: usize, b: usize) -> usize
-    ensures { λ r. ⌜ r ≡ a + (b - a) ⌝ }
-{
-    if a < b { b } else { a }
-}
-
-// The whole series: index and mark of every month. For each month a scan goes forward for its deciding month,
-// and from there another, from the month itself, for the side; both are left by the label. Neither goes back: of the
-// months from the next one up to where a scan stands none decides, or none gives a side, so for the next month it
-// goes on from there, or from that month if it is later. All the scans together are linear in the months.
-pub fn look_forward(
-    x1: &[i32],
-    x2: &[i32],
-    x3: &[i32],
-    by: &[u8],
-    shown: &[i32],
+// Settles the open months from .. at by the month at `at`, which decides with `by`: 0 where the series ends there and
+// they stay open. Before them X1 and X2 were x1 and x2. By X3 the index of each stands already.
+fn settle(
+    z: &[i32],
     index: &mut [i32],
     mark: &mut [u8],
+    from: usize,
+    at: usize,
+    by: u8,
+    x1: i32,
+    x2: i32,
 )
-    requires { ⌜ (length (now x1) ≡ length (now by)) × (length (now x2) ≡ length (now by)) × (length (now x3) ≡ length (now by)) × (length (now shown) ≡ length (now by)) × (length (now index) ≡ length (now by)) × (length (now mark) ≡ length (now by)) ⌝ }
-    ensures indexes { λ _. ⌜ now (index .exit) ≡ forwardIndexes (rowsFrom (rowAt (now (x1 .entry)) (now (x2 .entry)) (now (x3 .entry)) (now (by .entry)) (now (shown .entry))) 0 (length (now (by .entry)))) ⌝ }
-    ensures marks { λ _. ⌜ now (mark .exit) ≡ forwardMarks (rowsFrom (rowAt (now (x1 .entry)) (now (x2 .entry)) (now (x3 .entry)) (now (by .entry)) (now (shown .entry))) 0 (length (now (by .entry)))) ⌝ }
+    requires { ⌜ (from ≤ at) × (at ≤ length (now z)) × (at ≤ length (now index)) × (at ≤ length (now mark)) ⌝ }
+    requires { ⌜ (natAbs x1 ≤ mostX) × (natAbs x2 ≤ mostX) × EachFits (now z) ⌝ }
+    requires { ⌜ take (at - from) (drop from (now mark)) ≡ codes (sidesOf x1 x2 (take (at - from) (drop from (now z)))) ⌝ }
+    ensures indexes { λ _. ⌜ now (index .exit) ≡ take from (now (index .entry)) ++ (groupIndexes (decisionOf by) (take (at - from) (drop from (now (index .entry)))) (sidesOf x1 x2 (take (at - from) (drop from (now (z .entry))))) ++ drop at (now (index .entry))) ⌝ }
+    ensures marks { λ _. ⌜ now (mark .exit) ≡ take from (now (mark .entry)) ++ (replicate (at - from) (markFor (decisionOf by)) ++ drop at (now (mark .entry))) ⌝ }
 {
-    let mut ahead = 0;
-    let mut sided = 0;
-    let mut i = 0;
-    'months: while i < by.len() {
-        let mut v = shown[i];
-        let mut m: u8 = 1;
-        ahead = later(ahead, i);
-        sided = later(sided, i);
-        'deciding: while ahead < by.len() {
-            let d = by[ahead];
-            if d != 0 {
-                m = 2;
-                if ahead == i {
-                    break 'deciding;
-                }
-                let a = x1[i];
-                let b = x2[i];
-                let c = x3[i];
-                while sided < ahead {
-                    let e = x1[sided];
-                    let f = x2[sided];
-                    let s = hindsight::told(e, f, 0);
-                    if s != 0 {
-                        v = hindsight::value(a, b, c, d, s);
-                        break 'deciding;
-                    }
-                    sided += 1;
-                }
-                v = hindsight::value(a, b, c, d, d);
+    if by == 0 {
+        sides::mark_all(mark, from, at, 1);
+    } else {
+        if by < 3 {
+            sides::settle_sides(z, index, mark, from, at, by, x1, x2);
+        } else {
+            sides::mark_all(mark, from, at, 2);
+        }
+    }
+}
+
+// The whole series: index and mark of every month. From the first month that is not settled a scan goes forward for
+// the deciding month, and is left by its label. It writes the index that each month shows itself and, of an open
+// month, the side that it gives alone. The group up to there is then settled, and the next one begins behind it: all is
+// linear in the months.
+pub fn look_forward(z: &[i32], index: &mut [i32], mark: &mut [u8])
+    requires { ⌜ (length (now z) ≤ mostMonths) × (length (now index) ≡ length (now z)) × (length (now mark) ≡ length (now z)) ⌝ }
+    requires { ⌜ EachFits (now z) ⌝ }
+    ensures indexes { λ _. ⌜ now (index .exit) ≡ forwardIndexes (rowsOfZ (now (z .entry))) ⌝ }
+    ensures marks { λ _. ⌜ now (mark .exit) ≡ forwardMarks (rowsOfZ (now (z .entry))) ⌝ }
+{
+    let n = z.len();
+    let mut v = Running {
+        x1: 0,
+        x2: 0,
+        x3: 0,
+        v: 0,
+    };
+    let mut from = 0;
+    'months: while from < n {
+        let a = v.x1;
+        let b = v.x2;
+        let mut by: u8 = 0;
+        let mut at = from;
+        'deciding: while at < n {
+            let s = spells::step(v, z[at]);
+            v = s.after;
+            let d = s.decision;
+            let e = s.index;
+            index[at] = e;
+            by = spells::decision_number(d);
+            if by != 0 {
+                mark[at] = 2;
                 break 'deciding;
             }
-            ahead += 1;
+            mark[at] = hindsight::told(v.x1, v.x2, 0);
+            at += 1;
         }
-        index[i] = v;
-        mark[i] = m;
-        i += 1;
+        settle(z, index, mark, from, at, by, a, b);
+        from = at + 1;
     }
 }

@@ -1,5 +1,5 @@
 -- Adding months one by one shows what the forward rule says (Hindsight); so do the columns that `add` leaves (Adds). A step with a state in
--- front of the adding (Promises), and columns that such a step fills (Steps).
+-- front of the adding (Promises), and the rows that it gives (Steps).
 pub mod Hindsight
 pub mod Adds
 pub mod Promises

@@ -7,11 +7,12 @@ use mathlib.Core.List.{List, [], _∷_}
 use Prim.Native.Nat.{ℕ, zero, suc, _+_, _≤_, _<_}
 use native.Mathlib.Numerals.{add-one}
 use native.Mathlib.Omega.{arith}
-use lib.IntN.{ℤ, pos, natAbs}
+use lib.IntN.{ℤ, pos}
 use lib.ListN.{length, getD, drop}
 use lib.Seq.{drop-cons}
-use Rattle.outline.specs.Numbers.{mostZ, zFits}
+use Rattle.outline.specs.Numbers.{zFits}
 use Rattle.outline.proofs.Tests.{each, z-within, within-z}
+use Rattle.forward.specs.Groups.{EachFits}
 use Rattle.series.specs.Series.{allZFit}
 
 -- ---- the scan
@@ -33,10 +34,6 @@ scan-all z i true l h = ap allZFit (sym (drop-out z i l)) ∙ h
 scan-all z i false l h = h
 
 -- ---- each Z
-
--- every Z of the list is in its range
-abbrev pub EachFits : List ℤ → Type 0
-EachFits z = (i : ℕ) → i < length z → natAbs (getD z i (pos 0)) ≤ mostZ
 
 pub each-fits : (z : List ℤ) → allZFit z ≡ true → EachFits z
 each-fits [] e i h = absurd (omega arith)

@@ -1,5 +1,3 @@
--- The theorems about the whole series (SeriesLaws), and what the functions' proofs cite: the test of each Z (EachZ), and the columns that
--- the steps fill (Filling).
+-- The theorems about the whole series (SeriesLaws), and the test of each Z, which the functions' proofs cite (EachZ).
 pub mod EachZ
-pub mod Filling
 pub mod SeriesLaws

@@ -1,268 +1,184 @@
--- `forward::look_forward` meets its contract. Invariants: `Scanning` of both scans, `Filling` and `Passed` of the loop over the months. Assumes nothing.
+-- `forward::look_forward` meets its contract. Invariants: `Months` of the loop over the groups, `Scanning` of the scan. Assumes nothing.
 use mathlib.Core.Path.{_≡_, refl, sym, _∙_}
 use mathlib.Core.Logic.{⊎-elim}
-use Prim.Native.Nat.{ℕ, _+_, _-_, _<_}
+use Prim.Native.Nat.{_-_}
 use native.Mathlib.Omega.{arith}
 use borrow.Author.Needs.{needs}
 use lib.IntN.{pos}
-use mir.Syntax.{w32}
-use mir.Val.{SFits, toZ}
-use mir.Facts.{toZ-ofZ}
 use lib.ListN.{length, getD}
 use denote.Ref.{now}
-use Rattle.hindsight.specs.Rule.{Row, forward}
-use Rattle.hindsight.specs.Coded.{rowAt, rowsFrom, sideOf, withOf, valueBy}
-use Rattle.forward.proofs.Scan.{side, Says, Passed, Scanning, passed-first, passed-next, scan-first, scan-next, side-next, side-found, side-out}
-use Rattle.hindsight.proofs.Numbers.{decision-zero}
-use Rattle.forward.proofs.Series.{Filling, filling-first, filling-next, filling-all, says-open, says-own, says-settled}
+use mir.Syntax.{w32}
+use mir.Val.{SFits}
+use mir.Facts.{toZ-ofZ}
+use Rattle.forward.proofs.Scans.{Months, months-first, months-out, Scanning, scan-first, scan-fits, scan-next, Left, left-out, left-decides, months-next}
 use Rattle.forward.proofs.look_forward.Statement.{statement}
 use Rattle.forward.proofs.look_forward.Tie as tie
 
-abbrev Inv-loop : tie.InvT-loop
-Inv-loop x1 x2 x3 by shown index mark ahead sided₀ i v₀ m d a b c sided v = Scanning (rowAt x1 x2 x3 by shown) (length by) i ahead sided
-
-abbrev μ-loop : tie.MeasureT-loop
-μ-loop x1 x2 x3 by shown index mark ahead sided₀ i v₀ m d a b c sided v = ahead - sided
-
 abbrev Inv-deciding : tie.InvT-deciding
-Inv-deciding x1 x2 x3 by shown index mark ahead₀ sided₀ i v₀ m₀ ahead sided v m = Scanning (rowAt x1 x2 x3 by shown) (length by) i ahead sided × (v ≡ v₀) × (m ≡ m₀)
+Inv-deciding z index₀ mark₀ n v₀ from a b by₀ at₀ index mark v by at = (n ≡ length z) × Scanning z index₀ mark₀ v₀ from index mark v by at
 
 abbrev μ-deciding : tie.MeasureT-deciding
-μ-deciding x1 x2 x3 by shown index mark ahead₀ sided₀ i v₀ m₀ ahead sided v m = length by - ahead
+μ-deciding z index₀ mark₀ n v₀ from a b by₀ at₀ index mark v by at = n - at
 
 abbrev Inv-months : tie.InvT-months
-Inv-months x1 x2 x3 by shown index₀ mark₀ ahead₀ sided₀ i₀ index mark ahead sided i = Filling (rowsFrom (rowAt x1 x2 x3 by shown) 0 (length by)) index₀ mark₀ index mark (length by) i × Passed (rowAt x1 x2 x3 by shown) (length by) i ahead sided
+Inv-months z index₀ mark₀ n v₀ from₀ index mark v from = (n ≡ length z) × Months z index mark v from
 
 abbrev μ-months : tie.MeasureT-months
-μ-months x1 x2 x3 by shown index₀ mark₀ ahead₀ sided₀ i₀ index mark ahead sided i = length by - i
+μ-months z index₀ mark₀ n v₀ from₀ index mark v from = n - from
 
--- the months that the columns hold, and how many they are
-abbrev row : tie.Start Inv-loop μ-loop Inv-deciding μ-deciding Inv-months μ-months → ℕ → Row
-row s = rowAt (now (s .args .x1)) (now (s .args .x2)) (now (s .args .x3)) (now (s .args .by)) (now (s .args .shown))
-
-abbrev many : tie.Start Inv-loop μ-loop Inv-deciding μ-deciding Inv-months μ-months → ℕ
-many s = length (now (s .args .by))
-
-months-holds : tie.Need-months-holds Inv-loop μ-loop Inv-deciding μ-deciding Inv-months μ-months
+months-holds : tie.Need-months-holds Inv-deciding μ-deciding Inv-months μ-months
 months-holds c =
-    let s = c .before .before in
-    (filling-first (row s) (many s) (now (s .args .index)) (now (s .args .mark)) (s .pre .4) (s .pre .5), passed-first (row s) (many s))
+    let s = c .before in
+    (refl, months-first (s .pre .0 .1) (s .pre .0 .2))
 
-mul-v : tie.Need-mul-v Inv-loop μ-loop Inv-deciding μ-deciding Inv-months μ-months
-mul-v c = omega arith
-
-shared-slice-copy-out-v : tie.Need-shared-slice-copy-out-v Inv-loop μ-loop Inv-deciding μ-deciding Inv-months μ-months
-shared-slice-copy-out-v c = omega arith
-
-later-requires : tie.Need-later-requires Inv-loop μ-loop Inv-deciding μ-deciding Inv-months μ-months
-later-requires c κs = search needs
-
-later-requires-2 : tie.Need-later-requires-2 Inv-loop μ-loop Inv-deciding μ-deciding Inv-months μ-months
-later-requires-2 c κs = search needs
-
-deciding-holds : tie.Need-deciding-holds Inv-loop μ-loop Inv-deciding μ-deciding Inv-months μ-months
+deciding-holds : tie.Need-deciding-holds Inv-deciding μ-deciding Inv-months μ-months
 deciding-holds c =
-    let mo = c .before .before .before .before in
-    let s = mo .before .before .before in
-    (scan-first (row s) (many s) (mo .months .i) (mo .months .ahead) (mo .months .sided) (c .before .later .result) (c .later2 .result) (mo .months .inv .1) (c .before .before .before .months-test .taken) (omega arith) (omega arith), refl, refl)
+    let mo = c .before .before .before in
+    (refl, scan-first (mo .months .inv .1) (c .before .before .months-test .taken))
 
-shared-slice-read-d : tie.Need-shared-slice-read-d Inv-loop μ-loop Inv-deciding μ-deciding Inv-months μ-months
-shared-slice-read-d c = omega arith
+mul-step : tie.Need-mul-step Inv-deciding μ-deciding Inv-months μ-months
+mul-step c = omega arith
 
-mul-a : tie.Need-mul-a Inv-loop μ-loop Inv-deciding μ-deciding Inv-months μ-months
-mul-a c = omega arith
+shared-slice-copy-out-step :
+    tie.Need-shared-slice-copy-out-step Inv-deciding μ-deciding Inv-months μ-months
+shared-slice-copy-out-step c = omega arith
 
-shared-slice-copy-out-a : tie.Need-shared-slice-copy-out-a Inv-loop μ-loop Inv-deciding μ-deciding Inv-months μ-months
-shared-slice-copy-out-a c = omega arith
+step-requires : tie.Need-step-requires Inv-deciding μ-deciding Inv-months μ-months
+step-requires c κs =
+    let ad = c .before .before in
+    let mo = ad .before .before .before .before in
+    let s = mo .before .before in
+    let z = now (s .args .z) in
+    let zt : SFits w32 (getD z (ad .deciding .at) (pos 0)) = record { sfits = c .step-arg .given } in (
+      scan-fits (mo .months .inv .1) (ad .deciding .inv .1) (s .pre .0 .0),
+      rw (toZ-ofZ zt) (s .pre .1 (ad .deciding .at) (omega arith)),
+    )
 
-mul-b : tie.Need-mul-b Inv-loop μ-loop Inv-deciding μ-deciding Inv-months μ-months
-mul-b c = omega arith
-
-shared-slice-copy-out-b : tie.Need-shared-slice-copy-out-b Inv-loop μ-loop Inv-deciding μ-deciding Inv-months μ-months
-shared-slice-copy-out-b c = omega arith
-
-mul-c : tie.Need-mul-c Inv-loop μ-loop Inv-deciding μ-deciding Inv-months μ-months
-mul-c c = omega arith
-
-shared-slice-copy-out-c : tie.Need-shared-slice-copy-out-c Inv-loop μ-loop Inv-deciding μ-deciding Inv-months μ-months
-shared-slice-copy-out-c c = omega arith
-
-loop-holds : tie.Need-loop-holds Inv-loop μ-loop Inv-deciding μ-deciding Inv-months μ-months
-loop-holds c =
-    c .before .before .before .before .before .before .before .deciding .inv .0
-
-mul-e : tie.Need-mul-e Inv-loop μ-loop Inv-deciding μ-deciding Inv-months μ-months
+mul-e : tie.Need-mul-e Inv-deciding μ-deciding Inv-months μ-months
 mul-e c = omega arith
 
-shared-slice-copy-out-e : tie.Need-shared-slice-copy-out-e Inv-loop μ-loop Inv-deciding μ-deciding Inv-months μ-months
-shared-slice-copy-out-e c = omega arith
+slice-set-from-e : tie.Need-slice-set-from-e Inv-deciding μ-deciding Inv-months μ-months
+slice-set-from-e c = omega arith
 
-mul-f : tie.Need-mul-f Inv-loop μ-loop Inv-deciding μ-deciding Inv-months μ-months
-mul-f c = omega arith
+decision-number-requires :
+    tie.Need-decision-number-requires Inv-deciding μ-deciding Inv-months μ-months
+decision-number-requires c κs = search needs
 
-shared-slice-copy-out-f : tie.Need-shared-slice-copy-out-f Inv-loop μ-loop Inv-deciding μ-deciding Inv-months μ-months
-shared-slice-copy-out-f c = omega arith
-
-told-requires : tie.Need-told-requires Inv-loop μ-loop Inv-deciding μ-deciding Inv-months μ-months
-told-requires c κs = search needs
-
-value-requires : tie.Need-value-requires Inv-loop μ-loop Inv-deciding μ-deciding Inv-months μ-months
-value-requires c κs = search needs
-
-add-sided : tie.Need-add-sided Inv-loop μ-loop Inv-deciding μ-deciding Inv-months μ-months
-add-sided c = omega arith
-
-loop-less : tie.Need-loop-less Inv-loop μ-loop Inv-deciding μ-deciding Inv-months μ-months
-loop-less c = omega arith
-
-loop-again : tie.Need-loop-again Inv-loop μ-loop Inv-deciding μ-deciding Inv-months μ-months
-loop-again c =
-    let lp = c .before .before .before .before .before in
-    let ad = lp .before .before .before .before .before .before .before .before in
-    let mo = ad .before .before .before .before .before in
-    let s = mo .before .before .before in
-    let ze : SFits w32 (getD (now (s .args .x1)) (lp .loop .sided) (pos 0)) = record { sfits = c .before .before .before .e .given } in
-    let zf : SFits w32 (getD (now (s .args .x2)) (lp .loop .sided) (pos 0)) = record { sfits = c .before .before .f .given } in
-    let t : c .before .told .result ≡ side (row s) (lp .loop .sided) = rw (toZ-ofZ ze, toZ-ofZ zf) at (c .before .told .ensures) in
-    side-next (row s) (many s) (mo .months .i) (ad .deciding .ahead) (lp .loop .sided) (lp .loop .inv) (sym t ∙ c .if3 .left)
-
-value-requires-2 : tie.Need-value-requires-2 Inv-loop μ-loop Inv-deciding μ-deciding Inv-months μ-months
-value-requires-2 c κs = search needs
-
-add-ahead : tie.Need-add-ahead Inv-loop μ-loop Inv-deciding μ-deciding Inv-months μ-months
-add-ahead c = omega arith
-
-deciding-less : tie.Need-deciding-less Inv-loop μ-loop Inv-deciding μ-deciding Inv-months μ-months
-deciding-less c = omega arith
-
-deciding-again : tie.Need-deciding-again Inv-loop μ-loop Inv-deciding μ-deciding Inv-months μ-months
-deciding-again c =
-    let ad = c .before .before .before in
-    let mo = ad .before .before .before .before .before in
-    let s = mo .before .before .before in
-    (scan-next (row s) (many s) (mo .months .i) (ad .deciding .ahead) (ad .deciding .sided) (ad .deciding .inv .0) (c .before .before .deciding-test .taken) (decision-zero (getD (now (s .args .by)) (ad .deciding .ahead) 0) (c .if1 .left)), ad .deciding .inv .1, ad .deciding .inv .2)
-
-mul-v-2 : tie.Need-mul-v-2 Inv-loop μ-loop Inv-deciding μ-deciding Inv-months μ-months
-mul-v-2 c = omega arith
-
-slice-set-from-v : tie.Need-slice-set-from-v Inv-loop μ-loop Inv-deciding μ-deciding Inv-months μ-months
-slice-set-from-v c = omega arith
-
-slice-write-mark : tie.Need-slice-write-mark Inv-loop μ-loop Inv-deciding μ-deciding Inv-months μ-months
+slice-write-mark : tie.Need-slice-write-mark Inv-deciding μ-deciding Inv-months μ-months
 slice-write-mark c = omega arith
 
-add-i : tie.Need-add-i Inv-loop μ-loop Inv-deciding μ-deciding Inv-months μ-months
-add-i c = omega arith
+told-requires : tie.Need-told-requires Inv-deciding μ-deciding Inv-months μ-months
+told-requires c κs = search needs
 
-months-less : tie.Need-months-less Inv-loop μ-loop Inv-deciding μ-deciding Inv-months μ-months
-months-less c = omega arith
+slice-write-mark-2 : tie.Need-slice-write-mark-2 Inv-deciding μ-deciding Inv-months μ-months
+slice-write-mark-2 c = omega arith
 
--- where the four ways out of the scans meet: what stands in v and m is what the forward rule says of month i, and the scans have passed what they left
-leaves : (c : tie.Left-deciding Inv-loop μ-loop Inv-deciding μ-deciding Inv-months μ-months)
-    → Says (forward (rowsFrom (row (c .before .before .before .before .before .before .before .before .before)) 0 (many (c .before .before .before .before .before .before .before .before .before))) (c .before .before .before .before .before .before .months .i)) (c .deciding-test .m) (toZ w32 (c .deciding-test .v))
-    × Passed (row (c .before .before .before .before .before .before .before .before .before)) (many (c .before .before .before .before .before .before .before .before .before)) (c .before .before .before .before .before .before .months .i + 1) (c .before .deciding .ahead) (c .deciding-test .sided)
+add-at : tie.Need-add-at Inv-deciding μ-deciding Inv-months μ-months
+add-at c = omega (arith, c .before .before .before .before .before .before .before .before .before .before .before .before .before .before .before .before .pre .0)
+
+deciding-less : tie.Need-deciding-less Inv-deciding μ-deciding Inv-months μ-months
+deciding-less c = omega arith
+
+deciding-again : tie.Need-deciding-again Inv-deciding μ-deciding Inv-months μ-months
+deciding-again c =
+    let dn = c .before .before .before .before in
+    let st = dn .before .before .before in
+    let ad = st .before .before .before in
+    let mo = ad .before .before .before .before in
+    let s = mo .before .before in
+    let z = now (s .args .z) in
+    let m = st .step .result in
+    let zt : SFits w32 (getD z (ad .deciding .at) (pos 0)) = record { sfits = st .before .step-arg .given } in
+    let za : SFits w32 (m .after .x1) = record { sfits = search (needs, c .before .before .struct-told4 .given) } in
+    let zb : SFits w32 (m .after .x2) = record { sfits = search (needs, c .before .struct-told5 .given) } in
+    let ze : SFits w32 (m .index) = record { sfits = search (needs, dn .before .struct-told3 .given) } in (
+      refl,
+      rw (toZ-ofZ ze)
+          (scan-next (mo .months .inv .1) (ad .deciding .inv .1) (s .pre .1) (st .before .before .deciding-test .taken) m (dn .decision-number .result) (c .told .result)
+          (rw (toZ-ofZ zt) at (st .step .ensures)) (dn .decision-number .ensures) (c .before .before .before .if1 .left) (rw (toZ-ofZ za, toZ-ofZ zb) at (c .told .ensures))),
+    )
+
+-- where the two ways out of the scan meet
+leaves : (c : tie.Left-deciding Inv-deciding μ-deciding Inv-months μ-months)
+    → Left (now (c .before .before .before .before .before .before .before .args .z)) (c .deciding-test .index) (c .deciding-test .mark)
+    (c .before .before .before .before .before .months .v .x1) (c .before .before .before .before .before .months .v .x2)
+    (c .deciding-test .v) (c .before .before .before .before .before .months .from) (c .deciding-test .by) (c .before .deciding .at)
 leaves c =
     let ad = c .before in
-    let mo = ad .before .before .before .before .before in
-    let s = mo .before .before .before in
-    let i = mo .months .i in
-    let ahead = ad .deciding .ahead in
-    let sided = ad .deciding .sided in
-    let d = getD (now (s .args .by)) ahead 0 in
-    let g = ad .deciding .inv .0 in
-    let h : i < many s = ad .before .before .before .before .months-test .taken in
-    let z : SFits w32 (getD (now (s .args .shown)) i (pos 0)) = record { sfits = ad .before .before .before .v .given } in
-    ⊎-elim (λ w.
-    rw (w .1, w .2 ∙ ad .deciding .inv .1, w .3 ∙ ad .deciding .inv .2, toZ-ofZ z)
-    (says-open (row s) (many s) i ahead sided g h (w .0 .left), passed-next (row s) (many s) i ahead sided g))
-    (⊎-elim (λ w.
-    rw (w .4, w .5 ∙ ad .deciding .inv .1, w .6, toZ-ofZ z)
-    (says-own (row s) (many s) i ahead sided g h d (w .0 .taken) refl (w .2 .taken) (w .3 .taken), passed-next (row s) (many s) i ahead sided g))
-    (⊎-elim (λ w.
-    let za : SFits w32 (getD (now (s .args .x1)) i (pos 0)) = record { sfits = w .4 .given } in
-    let zb : SFits w32 (getD (now (s .args .x2)) i (pos 0)) = record { sfits = w .5 .given } in
-    let zc : SFits w32 (getD (now (s .args .x3)) i (pos 0)) = record { sfits = w .6 .given } in
-    let k = w .7 .sided in
-    let ze : SFits w32 (getD (now (s .args .x1)) k (pos 0)) = record { sfits = w .9 .given } in
-    let zf : SFits w32 (getD (now (s .args .x2)) k (pos 0)) = record { sfits = w .10 .given } in
-    let t : w .11 .result ≡ side (row s) k = rw (toZ-ofZ ze, toZ-ofZ zf) at (w .11 .ensures) in
-    let u : w .13 .result ≡ valueBy (withOf d) (sideOf (w .11 .result)) (row s i .x) = rw (toZ-ofZ za, toZ-ofZ zb, toZ-ofZ zc) at (w .13 .ensures) in
-    rw (w .14, w .15, w .16, toZ-ofZ (record { sfits = w .13 .ok })) (
-      says-settled (row s) (many s) i ahead k (w .7 .inv) h d (w .0 .taken) refl (w .2 .taken) (w .3 .left) (w .11 .result)
-          (rw t (side-found (row s) (many s) i ahead k (w .7 .inv) (w .8 .taken) (λ q. w .12 .taken (t ∙ q)) (sideOf d))) (w .13 .result) u,
-      passed-next (row s) (many s) i ahead k (w .7 .inv),
-    )) (λ w.
-    let za : SFits w32 (getD (now (s .args .x1)) i (pos 0)) = record { sfits = w .4 .given } in
-    let zb : SFits w32 (getD (now (s .args .x2)) i (pos 0)) = record { sfits = w .5 .given } in
-    let zc : SFits w32 (getD (now (s .args .x3)) i (pos 0)) = record { sfits = w .6 .given } in
-    let k = w .7 .sided in
-    let u : w .9 .result ≡ valueBy (withOf d) (sideOf d) (row s i .x) = rw (toZ-ofZ za, toZ-ofZ zb, toZ-ofZ zc) at (w .9 .ensures) in
-    rw (w .10, w .11, w .12, toZ-ofZ (record { sfits = w .9 .ok })) (
-      says-settled (row s) (many s) i ahead k (w .7 .inv) h d (w .0 .taken) refl (w .2 .taken) (w .3 .left) d
-          (side-out (row s) (many s) i ahead k (w .7 .inv) (w .8 .left) (sideOf d)) (w .9 .result) u,
-      passed-next (row s) (many s) i ahead k (w .7 .inv),
-    ))))
+    let mo = ad .before .before .before .before in
+    let s = mo .before .before in
+    let z = now (s .args .z) in
+    ⊎-elim
+    (λ w. rw (w .1, w .2, w .3, w .4) (left-out (mo .months .inv .1) (ad .deciding .inv .1) (w .0 .left)))
+    (λ w.
+    let m = w .2 .result in
+    let zt : SFits w32 (getD z (ad .deciding .at) (pos 0)) = record { sfits = w .1 .given } in
+    let ze : SFits w32 (m .index) = record { sfits = search (needs, w .4 .given) } in
+    rw (w .7, w .8, w .9, w .10, toZ-ofZ ze)
+    (left-decides (mo .months .inv .1) (ad .deciding .inv .1) (s .pre .1) (w .0 .taken) m (w .5 .result) (rw (toZ-ofZ zt) at (w .2 .ensures)) (w .5 .ensures) (w .6 .taken)))
     (c .deciding-test .came)
 
-months-again : tie.Need-months-again Inv-loop μ-loop Inv-deciding μ-deciding Inv-months μ-months
+settle-requires : tie.Need-settle-requires Inv-deciding μ-deciding Inv-months μ-months
+settle-requires c κs =
+    let g = leaves (c .before .before) in
+    let tl = c .before .before .before .before .before in
+    let mo = tl .before .before in
+    let s = mo .before .before in
+    let za : SFits w32 (mo .months .v .x1) = record { sfits = search (needs, tl .struct-told .given) } in
+    let zb : SFits w32 (mo .months .v .x2) = record { sfits = search (needs, c .before .before .before .before .struct-told2 .given) } in
+    rw (toZ-ofZ za, toZ-ofZ zb) (
+      (g .low, g .high, omega (arith, g .high, g .index-long), omega (arith, g .high, g .mark-long)),
+      ((mo .months .inv .1 .fits .x1-size, mo .months .inv .1 .fits .x2-size, s .pre .1), g .codes-are),
+    )
+
+add-from : tie.Need-add-from Inv-deciding μ-deciding Inv-months μ-months
+add-from c = omega (arith, leaves (c .before .before .before .before .before .before) .high, c .before .before .before .before .before .before .before .before .before .before .before .before .before .pre .0)
+
+months-less : tie.Need-months-less Inv-deciding μ-deciding Inv-months μ-months
+months-less c = omega (arith, leaves (c .before .before .before .before .before .before) .low)
+
+months-again : tie.Need-months-again Inv-deciding μ-deciding Inv-months μ-months
 months-again c =
-    let mo = c .before .before .before .before .before .before in
-    let s = mo .before .before .before in
-    (filling-next (row s) (many s) (now (s .args .index)) (now (s .args .mark)) (s .pre .4) (s .pre .5) (mo .months .index) (mo .months .mark) (mo .months .i) _ (c .deciding-test .m) (toZ w32 (c .deciding-test .v)) (mo .months .inv .0) (omega arith) (c .before .before .before .before .before .months-test .taken) (leaves c .0), leaves c .1)
+    let st = c .before .before .before in
+    let tl = st .before .before .before .before .before .before in
+    let mo = tl .before .before in
+    let za : SFits w32 (mo .months .v .x1) = record { sfits = search (needs, tl .struct-told .given) } in
+    let zb : SFits w32 (mo .months .v .x2) = record { sfits = search (needs, st .before .before .before .before .before .struct-told2 .given) } in
+    (refl, months-next (leaves (st .before .before .before)) (st .settle .kept .1 .0) (st .settle .kept .1 .1 .0) (rw (toZ-ofZ za, toZ-ofZ zb) at (st .settle .ensures .0)) (st .settle .ensures .1))
 
-same-length : tie.Need-same-length Inv-loop μ-loop Inv-deciding μ-deciding Inv-months μ-months
-same-length c = omega arith
+same-length : tie.Need-same-length Inv-deciding μ-deciding Inv-months μ-months
+same-length c = c .before .months .inv .1 .index-long ∙ sym (c .before .before .before .pre .0 .1)
 
-same-length-2 : tie.Need-same-length-2 Inv-loop μ-loop Inv-deciding μ-deciding Inv-months μ-months
-same-length-2 c = omega arith
+same-length-2 : tie.Need-same-length-2 Inv-deciding μ-deciding Inv-months μ-months
+same-length-2 c = c .before .months .inv .1 .mark-long ∙ sym (c .before .before .before .pre .0 .2)
 
-returns : tie.Need-returns Inv-loop μ-loop Inv-deciding μ-deciding Inv-months μ-months
-returns c =
-    let mo = c .before in
-    let s = mo .before .before .before in
-    filling-all (row s) (many s) (now (s .args .index)) (now (s .args .mark)) (s .pre .4) (s .pre .5) (mo .months .index) (mo .months .mark) (mo .months .i) (mo .months .inv .0) (c .months-test .left)
+returns : tie.Need-returns Inv-deciding μ-deciding Inv-months μ-months
+returns c = months-out (c .before .months .inv .1) (c .months-test .left)
 
 pub look-forward-spec : {M : Type 1} → statement M
 look-forward-spec =
     tie.close
     (tie.spec
-    Inv-loop
-    μ-loop
     Inv-deciding
     μ-deciding
     Inv-months
     μ-months
     months-holds
-    mul-v
-    shared-slice-copy-out-v
-    later-requires
-    later-requires-2
     deciding-holds
-    shared-slice-read-d
-    mul-a
-    shared-slice-copy-out-a
-    mul-b
-    shared-slice-copy-out-b
-    mul-c
-    shared-slice-copy-out-c
-    loop-holds
+    mul-step
+    shared-slice-copy-out-step
+    step-requires
     mul-e
-    shared-slice-copy-out-e
-    mul-f
-    shared-slice-copy-out-f
+    slice-set-from-e
+    decision-number-requires
+    slice-write-mark
     told-requires
-    value-requires
-    add-sided
-    loop-less
-    loop-again
-    value-requires-2
-    add-ahead
+    slice-write-mark-2
+    add-at
     deciding-less
     deciding-again
-    mul-v-2
-    slice-set-from-v
-    slice-write-mark
-    add-i
+    settle-requires
+    add-from
     months-less
     months-again
     same-length
