@@ -29,7 +29,7 @@ pub record Going (f : ℕ → X) (by : ℕ) (index₀ : List ℤ) (mark₀ : Lis
   pub mark-long : length mark ≡ length mark₀
 
 -- what the code picks is the rule's index
-pub valued : (n : ℕ) (m : X) (later : List X) → valueBy (withOf n) (sideFrom (m ∷ later) (sideOf n)) m ≡ settledIndex (withOf n) m later
+valued : (n : ℕ) (m : X) (later : List X) → valueBy (withOf n) (sideFrom (m ∷ later) (sideOf n)) m ≡ settledIndex (withOf n) m later
 valued zero m later = refl
 valued (suc zero) m later = refl
 valued (suc (suc zero)) m later = refl

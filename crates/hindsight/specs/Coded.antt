@@ -1,18 +1,17 @@
--- A proof's vocabulary, which contracts cite: decisions and sides stand in the code as numbers, and rows in lists; what an add leaves and
--- answers, fact by fact; and the state after a list of Z. Assumes nothing.
+-- A proof's vocabulary, which contracts cite: decisions and sides stand in the code as numbers; what an add leaves and answers, fact by
+-- fact; and the state after a list of Z. Assumes nothing.
 use mathlib.Core.List.{List, [], _∷_, _++_}
 use mathlib.Core.Bool.{Bool, true, false}
 use mathlib.Core.Path.{_≡_}
 use Prim.Native.Nat.{ℕ, zero, suc}
-use lib.IntN.{ℤ, pos}
-use lib.ListN.{getD, drop}
+use lib.IntN.{ℤ}
+use lib.ListN.{drop}
 use Rattle.hindsight.specs.Adding.{History, addMonth, settledCount}
 use Rattle.spells.specs.declared.With.{With}
 use Rattle.spells.specs.declared.With.the-variants.{X1, X2, X3}
 use Rattle.spells.specs.declared.Decision.{Decision}
 use Rattle.spells.specs.declared.Decision.the-variants.{Nothing, Decides}
 use Rattle.hindsight.specs.Rule.{X, Row, Side, first, second, valueOn}
-use Rattle.hindsight.specs.Columns.{xAt}
 
 -- ---- the numbers of decisions and of sides
 
@@ -47,20 +46,11 @@ valueBy X1 s m = valueOn s m
 valueBy X2 s m = valueOn s m
 valueBy X3 s m = m .x3
 
--- ---- rows that lists hold
+-- ---- a row as the code has it
 
 -- a month's row from its three values, its decision's number and the index that it shows when it is added
 abbrev pub rowOf : ℤ → ℤ → ℤ → ℕ → ℤ → Row
 rowOf a b c by shown = record { x = record { x1 = a; x2 = b; x3 = c }; decision = decisionOf by; shown = shown }
-
--- the row of the month at place i, where two more lists hold the decisions' numbers and the indexes shown
-abbrev pub rowAt : List ℤ → List ℤ → List ℤ → List ℕ → List ℤ → ℕ → Row
-rowAt x1 x2 x3 by shown i = record { x = xAt x1 x2 x3 i; decision = decisionOf (getD by i 0); shown = getD shown i (pos 0) }
-
--- those of the k months from place i on
-abbrev pub rowsFrom : (ℕ → Row) → ℕ → ℕ → List Row
-rowsFrom f i zero = []
-rowsFrom f i (suc k) = f i ∷ rowsFrom f (suc i) k
 
 -- ---- what an add leaves and answers
 

@@ -23,7 +23,7 @@ pub fn told(a: i32, b: i32, side: u8) -> u8
 }
 
 // A month's X3, or its value on the side.
-pub fn value(a: i32, b: i32, c: i32, by: u8, side: u8) -> i32
+fn value(a: i32, b: i32, c: i32, by: u8, side: u8) -> i32
     ensures { λ r. ⌜ r ≡ valueBy (withOf by) (sideOf side) (record { x1 = a; x2 = b; x3 = c }) ⌝ }
 {
     if by == 1 {
