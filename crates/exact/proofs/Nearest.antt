@@ -23,6 +23,16 @@ near-down n d q r e h = near-is n d q (omega arith) (omega arith)
 pub near-up : (n d q r : ℕ) → d * q + r ≡ n → r < d → d ≤ r + r → nearestℕ n d ≡ q + 1
 near-up n d q r e l h = near-is n d (q + 1) (omega arith) (omega arith)
 
+-- by one division
+pub near-half-added : (n d : ℕ) → 0 < d → nearestℕ n d ≡ (n + d / 2) / d
+near-half-added n d p = near-is n d _ (lo ((n + d / 2) / d) (div-mul-le-self (n + d / 2) d)) (hi ((n + d / 2) / d) (div-lt-iff-lt-mul {k = d} {x = n + d / 2} {y = suc ((n + d / 2) / d)} p .0 (le-refl _)))
+  where
+    lo : (k : ℕ) → k * d ≤ n + d / 2 → k * (2 * d) ≤ 2 * n + d
+    lo k h = omega arith
+
+    hi : (k : ℕ) → n + d / 2 < suc k * d → 2 * n + d < (k + 1) * (2 * d)
+    hi k h = omega arith
+
 pub near-zero : (d : ℕ) → nearestℕ 0 d ≡ 0
 unfolding nearestℕ
 near-zero zero = refl

@@ -2,3 +2,5 @@
 pub mod Nearest
 pub mod Next
 pub mod Worked
+-- What only a proof wants: the room of a number that is to be rounded (Bounds).
+pub mod Bounds

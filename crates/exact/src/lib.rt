@@ -8,6 +8,7 @@ use outline::WEIGHT_OF_Z;
 ghost use mathlib.Core.Path.{_≡_};
 ghost use Prim.Native.Nat.{_≤_};
 ghost use lib.IntN.{natAbs};
+ghost use Rattle.exact.specs.Bounds.{mostRounded};
 ghost use Rattle.exact.specs.Nearest.{nearestℕ, nearest, clip};
 ghost use Rattle.exact.specs.Next.{nextOf};
 ghost use Rattle.outline.specs.Numbers.{mostX, mostZ};
@@ -24,20 +25,18 @@ pub fn nearest_unsigned(n: u64, d: u64) -> u64
     if r >= d - r { q + 1 } else { q }
 }
 
-// The whole number nearest to n / d, halves away from zero, and 0 where d is not above 0.
+// The whole number nearest to n / d, halves away from zero, and 0 where d is not above 0. For the crates above, which
+// hold n within the bound, so that half of any d is added to it without wrapping.
 pub fn nearest_signed(n: i64, d: i64) -> i64
+    requires { ⌜ natAbs n ≤ mostRounded ⌝ }
     ensures { λ r. ⌜ r ≡ nearest n (clip d) ⌝ }
 {
     if d <= 0 {
         return 0;
     }
-    let q = n / d;
-    let r = n % d;
-    if r < 0 {
-        if d + r <= 0 - r { q - 1 } else { q }
-    } else {
-        if d - r <= r { q + 1 } else { q }
-    }
+    let half = d / 2;
+    let m = if n < 0 { n - half } else { n + half };
+    m / d
 }
 
 // next(x) = nearest to (2691 x + 1000 Z) / 3000. For the crates above, which hold x and Z in range.

@@ -3,14 +3,15 @@
 use mathlib.Core.Path.{_≡_, _∙_}
 use Prim.Native.Nat.{_≤_}
 use native.Mathlib.Omega.{arith}
-use lib.IntN.{ℤ, pos, natAbs, _+ℤ_, _*ℤ_}
+use lib.IntN.{ℤ, pos, natAbs, _*ℤ_}
 use mir.Syntax.{w64}
 use mir.Val.{SFits}
+use Rattle.exact.specs.Bounds.{mostRounded}
 use Rattle.exact.specs.Next.{nextOf}
 use Rattle.outline.specs.Numbers.{weight, mostX, mostZ}
-use Rattle.exact.proofs.Z.{zs, is-Z}
+use Rattle.exact.proofs.Z.{zs, is-Z, fits-within}
 use Rattle.exact.proofs.Held.{held}
-use Rattle.exact.proofs.NextLaws.{next-within}
+use Rattle.exact.proofs.NextLaws.{sum, next-within}
 use Rattle.exact.proofs.next.Statement.{statement}
 use Rattle.exact.proofs.next.Tie as tie
 
@@ -20,10 +21,13 @@ fit-x x = rw (is-Z x) (simp zs (omega arith))
 fit-z : (z : ℤ) → natAbs z ≤ mostZ → SFits w64 (pos 1000 *ℤ z)
 fit-z z = rw (is-Z z) (simp zs (omega arith))
 
-fit-sum : (x z : ℤ) → natAbs x ≤ mostX → natAbs z ≤ mostZ → SFits w64 (pos weight *ℤ x +ℤ pos 1000 *ℤ z)
-fit-sum x z = rw (is-Z x, is-Z z) (simp zs (omega arith))
+room : (x z : ℤ) → natAbs x ≤ mostX → natAbs z ≤ mostZ → natAbs (sum x z) ≤ mostRounded
+room x z = rw (is-Z x, is-Z z) (simp zs (omega arith))
 
-ruleset fits = (fit-x, fit-z, fit-sum, held)
+fit-sum : (x z : ℤ) → natAbs x ≤ mostX → natAbs z ≤ mostZ → SFits w64 (sum x z)
+fit-sum x z hx hz = fits-within w64 (sum x z) mostRounded (room x z hx hz) (omega arith)
+
+ruleset fits = (fit-x, fit-z, room, fit-sum, held)
 
 cast-a : tie.Need-cast-a
 cast-a c = search fits
