@@ -2,15 +2,15 @@
 use mathlib.Core.Path.{_≡_, _∙_}
 use Prim.Native.Nat.{_≤_, _*_}
 use native.Mathlib.Omega.{arith}
-use borrow.Author.Needs.{needs}
 use lib.Dec.{T}
 use lib.IntN.{ℤ, pos, natAbs, _*ℤ_}
 use lib.Signed.{nonNeg, _≤ℤ_}
 use mir.Syntax.{w32, w64}
 use mir.Val.{Fits, SFits}
 use mir.Facts.{toZ-ofZ}
+use Rattle.exact.specs.Bounds.{mostRounded}
 use Rattle.exact.specs.Nearest.{nearest, clip}
-use Rattle.exact.proofs.Z.{zs, zs-abs, is-Z, lt-no}
+use Rattle.exact.proofs.Z.{zs, zs-abs, is-Z, lt-no, fits-within}
 use Rattle.exact.proofs.Held.{held}
 use Rattle.ending.specs.Bounds.{mostV}
 use Rattle.ending.specs.Ending.{percentOf}
@@ -18,14 +18,17 @@ use Rattle.ending.proofs.Rooms.{percent-low, percent-high, percent-betw
 use Rattle.ending.proofs.percent_of.Statement.{statement}
 use Rattle.ending.proofs.percent_of.Tie as tie
 
+room : (v : ℤ) → natAbs v ≤ 2 * mostV → natAbs (pos 100000 *ℤ v) ≤ mostRounded
+room v = rw (is-Z v) (simp zs (omega arith))
+
 fit : (v : ℤ) → natAbs v ≤ 2 * mostV → SFits w64 (pos 100000 *ℤ v)
-fit v = rw (is-Z v) (simp zs (omega arith))
+fit v h = fits-within w64 (pos 100000 *ℤ v) mostRounded (room v h) (omega arith)
 
 mul-nearest-signed : tie.Need-mul-nearest-signed
 mul-nearest-signed c = search (held, fit)
 
 nearest-signed-requires : tie.Need-nearest-signed-requires
-nearest-signed-requires c κs = search needs
+nearest-signed-requires c κs = search (held, fit, room)
 
 -- p is the nearest to 100,000 V / Q
 given : (c : tie.After-nearest-signed) → c .nearest-signed .result ≡ nearest (pos 100000 *ℤ c .before .args .v) (clip (c .before .args .q))

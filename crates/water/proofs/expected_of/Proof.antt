@@ -1,11 +1,13 @@
 -- `water::expected_of` meets its contract: CAFEC and Z, each from N, and both fit. Assumes nothing.
 use mathlib.Core.Path.{_≡_, ap, ap₂, _∙_}
 use Prim.Native.Nat.{_≤_}
+use native.Mathlib.Omega.{arith}
 use lib.Dec.{lit<}
 use lib.IntN.{ℤ, natAbs}
 use mir.Syntax.{w32}
 use mir.Val.{SFits}
 use mir.Facts.{toZ-ofZ}
+use Rattle.exact.specs.Bounds.{mostRounded}
 use Rattle.exact.proofs.Z.{fits-within}
 use Rattle.exact.proofs.Held.{held}
 use Rattle.water.specs.Expected.{nOf, cafecOf, zOf, expectedOf}
@@ -25,7 +27,7 @@ bounded c =
     rw (c .n-of .ensures) (n-most (s .args .k) (s .args .pe) (s .args .q) (s .pre .0) (s .pre .1 .0 .1) (s .pre .1 .1))
 
 nearest-signed-requires : tie.Need-nearest-signed-requires
-nearest-signed-requires c κs = search held
+nearest-signed-requires c κs = let k : natAbs (c .n-of .result) ≤ mostRounded = omega (arith, bounded c) in search held
 
 given : (c : tie.After-nearest-signed) → c .nearest-signed .result ≡ cafecOf (c .before .n-of .result)
 unfolding cafecOf

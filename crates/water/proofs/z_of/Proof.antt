@@ -8,6 +8,7 @@ use lib.Dec.{lit<, lit≤}
 use lib.IntN.{ℤ, pos, natAbs, _-ℤ_, _*ℤ_}
 use mir.Syntax.{w64}
 use mir.Val.{SFits}
+use Rattle.exact.specs.Bounds.{mostRounded}
 use Rattle.exact.proofs.Z.{fits-within}
 use Rattle.exact.proofs.Held.{held}
 use Rattle.door.specs.Readings.{mostReading}
@@ -28,10 +29,13 @@ fit-p a p h g = omega (arith, scaled a p h g)
 fit-short : (a p : ℕ) (n : ℤ) → a ≤ 10000 → p ≤ mostReading → natAbs n ≤ mostN → SFits w64 (pos (a * p) -ℤ n)
 fit-short a p n h g f = fits-within w64 _ 3500000000 (short-by-size (a * p) n (scaled a p h g) f) (lit< tt)
 
-fit-weighed : (k a p : ℕ) (n : ℤ) → k ≤ mostK → a ≤ 10000 → p ≤ mostReading → natAbs n ≤ mostN → SFits w64 (pos k *ℤ (pos (a * p) -ℤ n))
-fit-weighed k a p n e h g f = fits-within w64 _ (mostK * 3500000000) (weighed k (pos (a * p) -ℤ n) 3500000000 e (short-by-size (a * p) n (scaled a p h g) f)) (lit< tt)
+room : (k a p : ℕ) (n : ℤ) → k ≤ mostK → a ≤ 10000 → p ≤ mostReading → natAbs n ≤ mostN → natAbs (pos k *ℤ (pos (a * p) -ℤ n)) ≤ mostRounded
+room k a p n e h g f = omega (arith, weighed k (pos (a * p) -ℤ n) 3500000000 e (short-by-size (a * p) n (scaled a p h g) f))
 
-ruleset fits = (fit-p, fit-short, fit-weighed, held)
+fit-weighed : (k a p : ℕ) (n : ℤ) → k ≤ mostK → a ≤ 10000 → p ≤ mostReading → natAbs n ≤ mostN → SFits w64 (pos k *ℤ (pos (a * p) -ℤ n))
+fit-weighed k a p n e h g f = fits-within w64 _ mostRounded (room k a p n e h g f) (lit< tt)
+
+ruleset fits = (fit-p, fit-short, room, fit-weighed, held)
 
 cast-short : tie.Need-cast-short
 cast-short c = search held
@@ -49,7 +53,7 @@ mul-nearest-signed : tie.Need-mul-nearest-signed
 mul-nearest-signed c = search fits
 
 nearest-signed-requires : tie.Need-nearest-signed-requires
-nearest-signed-requires c κs = search held
+nearest-signed-requires c κs = search fits
 
 -- what the call gives: the machine's number is the number
 given : (c : tie.After-nearest-signed) → c .nearest-signed .result ≡ zOf (c .before .args .k) (c .before .args .p) (c .before .args .n)
