@@ -4,7 +4,7 @@
 // crate above, which holds the soil, the readings and the constants in range before it calls.
 
 ghost use mathlib.Core.Path.{_≡_};
-ghost use Prim.Native.Nat.{_+_, _*_, _≤_, min};
+ghost use Prim.Native.Nat.{_+_, _*_, _≤_, _<_, min};
 ghost use lib.IntN.{natAbs};
 ghost use Rattle.door.specs.Readings.{mostReading};
 ghost use Rattle.water.specs.Layers.{surfaceHolds, underlyingHolds, mostCapacity, SoilFits};
@@ -112,10 +112,12 @@ fn times(a: u32, b: u32) -> u64
 
 // What the underlying layer loses to a want that the surface layer has not met: at most what it holds.
 fn under_loss(want: u32, su: u32, capacity: u32) -> u32
+    requires { ⌜ (want ≤ mostReading) × (su ≤ capacity) ⌝ }
+    requires { ⌜ (0 < capacity) × (capacity ≤ mostCapacity) ⌝ }
     ensures { λ r. ⌜ r ≡ underLoss want su capacity ⌝ }
 {
-    let part = exact::nearest_unsigned(times(want, su), capacity as u64);
-    if part < su as u64 { part as u32 } else { su }
+    let part = (want * su + capacity / 2) / capacity;
+    smaller(part, su)
 }
 
 // P below PE: the surface layer gives first, then the underlying one.

@@ -3,7 +3,7 @@ use borrow.Author.Needs.{needs}
 use Prim.Native.Nat.{_≤_}
 use native.Mathlib.Omega.{arith}
 use Rattle.water.specs.Balance.{dryMonth, lossSurface, lossUnderlying}
-use Rattle.water.proofs.LayerLaws.{soil-sum}
+use Rattle.water.proofs.LayerLaws.{soil-sum, soil-under}
 use Rattle.water.proofs.WaterLaws.{under-held}
 use Rattle.water.proofs.dry_month.Statement.{statement}
 use Rattle.water.proofs.dry_month.Tie as tie
@@ -18,7 +18,7 @@ sub-under-loss : tie.Need-sub-under-loss
 sub-under-loss c = search needs
 
 under-loss-requires : tie.Need-under-loss-requires
-under-loss-requires c κs = search needs
+under-loss-requires c κs = omega (arith, soil-under (c .before .args .s) (c .before .pre .0))
 
 add-t7 : tie.Need-add-t7
 add-t7 c = search needs

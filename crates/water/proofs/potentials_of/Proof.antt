@@ -3,7 +3,7 @@ use borrow.Author.Needs.{needs}
 use Prim.Native.Nat.{_+_, _≤_}
 use native.Mathlib.Omega.{arith}
 use Rattle.water.specs.Expected.{potentialsOf, potentialSurface, potentialUnderlying}
-use Rattle.water.proofs.LayerLaws.{soil-sum}
+use Rattle.water.proofs.LayerLaws.{soil-sum, soil-under}
 use Rattle.water.proofs.WaterLaws.{under-held}
 use Rattle.water.proofs.potentials_of.Statement.{statement}
 use Rattle.water.proofs.potentials_of.Tie as tie
@@ -15,7 +15,7 @@ sub-under-loss : tie.Need-sub-under-loss
 sub-under-loss c = search needs
 
 under-loss-requires : tie.Need-under-loss-requires
-under-loss-requires c κs = search needs
+under-loss-requires c κs = omega (arith, soil-under (c .before .args .s) (c .before .pre .0))
 
 -- what the soil holds is within its capacity
 room : (c : tie.Start) → c .args .s .surface + c .args .s .underlying ≤ c .args .s .capacity
