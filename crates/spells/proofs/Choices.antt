@@ -1,17 +1,18 @@
 -- What the definitions of one month choose, each case from a plain fact of the numbers: the form in which the code's branches and the
 -- theorems ask it. Assumes nothing.
 use mathlib.Core.Path.{_≡_, refl, sym, ap, _∙_}
-use mathlib.Core.Bool.{Bool, true, false, cond}
+use mathlib.Core.Bool.{Bool, true, false, cond, _||_, or-false, false≢true}
 use Prim.Native.Nat.{ℕ, zero, suc, _≤_, _<_}
 use native.Mathlib.Omega.{arith}
 use borrow.Author.Tests.{le-leb, lt-leb}
 use lib.Dec.{leb}
 use lib.IntN.{ℤ, pos, negsuc, natAbs, _-ℤ_, _*ℤ_}
-use lib.Signed.{_≤ℤ_, _<ℤ_, leZ}
+use lib.Signed.{_≤ℤ_, _<ℤ_, leZ, ltZ}
 use Rattle.exact.specs.Next.{nextOf}
 use Rattle.outline.specs.Numbers.{mostX, mostZ}
+use Rattle.outline.proofs.Tests.{if-so}
 use Rattle.exact.proofs.Orders.{le-is, le-not, lt-is, lt-not}
-use Rattle.exact.proofs.Z.{zs-abs, is-Z, le-yes}
+use Rattle.exact.proofs.Z.{zs, zs-abs, is-Z, le-yes, lt-yes, lt-no}
 use Rattle.exact.proofs.NextLaws.{next-within}
 use Rattle.spells.specs.ValuesFit.{SidesFit}
 use Rattle.spells.specs.Spells.{raised, lowered, isZero, largerInSize, provisional, founded, unfounded, tried, noSpell, endingMonth, inForce, stepOf}
@@ -156,3 +157,29 @@ step-wet s z h g = rw (lt-not (s .x3) (negsuc 499) h, lt-is (pos 500) (s .x3) g)
 pub step-none : (s : Running) (z : ℤ) → negsuc 499 ≤ℤ s .x3 → s .x3 ≤ℤ pos 500 → stepOf s z ≡ noSpell s z 0
 unfolding stepOf
 step-none s z h g = rw (lt-not (s .x3) (negsuc 499) h, lt-not (pos 500) (s .x3) g)
+
+-- a spell is in force where either test says so, a wet one where the first does; the month is that of the case that the rules come to
+abbrev pub isWet : Running → Bool
+isWet s = ltZ (pos 500) (s .x3)
+
+pub step-ending : (s : Running) (z : ℤ) (e : Ending) → (isWet s || ltZ (s .x3) (negsuc 499)) ≡ true → endingOf (turn (isWet s) (s .x3)) (turn (isWet s) (s .v)) (turn (isWet s) z) ≡ e → stepOf s z ≡ endingMonth e (isWet s) s z
+step-ending s z e h g = force ∙ ending-month (isWet s) s z e g
+  where
+    never : (x : ℤ) → x <ℤ negsuc 499 → x ≤ℤ pos 500
+    never x = rw (is-Z x) (simp zs (omega arith))
+
+    wet-only : ltZ (s .x3) (negsuc 499) ≡ false → isWet s ≡ true
+    wet-only n = sym (rw n (or-false (isWet s))) ∙ h
+
+    force : stepOf s z ≡ inForce (isWet s) s z
+    force =
+        if-so (ltZ (s .x3) (negsuc 499))
+        (λ d. let l = lt-yes (s .x3) (negsuc 499) d in rw (lt-not (pos 500) (s .x3) (never (s .x3) l)) (step-drought s z l))
+        (λ n. let w = wet-only n in rw w (step-wet s z (lt-no (s .x3) (negsuc 499) n) (lt-yes (pos 500) (s .x3) w)))
+
+pub step-unforced : (s : Running) (z : ℤ) → (isWet s || ltZ (s .x3) (negsuc 499)) ≡ false → stepOf s z ≡ noSpell s z 0
+step-unforced s z h = let n = neither (isWet s) (ltZ (s .x3) (negsuc 499)) h in step-none s z (lt-no (s .x3) (negsuc 499) (n .1)) (lt-no (pos 500) (s .x3) (n .0))
+  where
+    neither : (a b : Bool) → (a || b) ≡ false → (a ≡ false) × (b ≡ false)
+    neither true b e = absurd (false≢true (sym e))
+    neither false b e = (refl, e)

@@ -1,7 +1,7 @@
 // One month of spells: X1, X2, X3, V, the chance of an ending, and what the month decides with.
 //
-// `step` is for the crates above, which hold the running values and Z in range before they call. Whether a spell
-// in force has ended is the crate `ending`'s.
+// `step`, `raised_next` and `lowered_next` are for the crates above, which hold the running values and Z in range
+// before they call. Whether a spell in force has ended is the crate `ending`'s.
 use outline::FOUNDS;
 use outline::IN_FORCE;
 ghost use mathlib.Core.Path.{_≡_};
@@ -11,7 +11,7 @@ ghost use Rattle.exact.specs.Next.{nextOf};
 ghost use Rattle.outline.specs.Numbers.{mostX, mostZ};
 ghost use Rattle.spells.specs.ValuesFit.{SidesFit, ValuesFit};
 ghost use Rattle.spells.specs.Decisions.{withNumber, decisionNumber};
-ghost use Rattle.spells.specs.Spells.{raised, lowered, largerInSize, provisional, steadyMonth, abatingMonth, founded, unfounded, tried, noSpell, inForce, stepOf};
+ghost use Rattle.spells.specs.Spells.{raised, lowered, largerInSize, provisional, steadyMonth, abatingMonth, founded, unfounded, tried, noSpell, stepOf};
 
 // The running values, as the month before left them.
 #[repr(C)]
@@ -207,34 +207,26 @@ fn no_spell(s: Running, z: i32, percent: u32) -> SpellMonth
     try_both(x1, x2, percent)
 }
 
-// A month with a spell in force: a drought, or where `wet` a wet spell.
-fn in_force(wet: bool, s: Running, z: i32) -> SpellMonth
-    requires { ⌜ ValuesFit s ⌝ }
-    requires { ⌜ natAbs z ≤ mostZ ⌝ }
-    ensures { λ r. ⌜ r ≡ inForce wet s z ⌝ }
-{
-    if ending::is_steady(wet, s.v, z) {
-        return steady(s.x3, z);
-    }
-    if ending::has_ended(wet, s.x3, z) {
-        return no_spell(s, z, 100);
-    }
-    let v = ending::kept_v(wet, s.v, z);
-    let percent = ending::chance(wet, s.x3, s.v, z);
-    abating(s, v, z, percent)
-}
-
-// One month of spells. For the crates above, which hold the running values and Z in range.
+// One month of spells: a spell in force, a drought or where `wet` a wet spell, is steady, abates or has just ended, and
+// without one X1 and X2 are tried. For the crates above, which hold the running values and Z in range.
 pub fn step(s: Running, z: i32) -> SpellMonth
     requires { ⌜ ValuesFit s ⌝ }
     requires { ⌜ natAbs z ≤ mostZ ⌝ }
     ensures { λ r. ⌜ r ≡ stepOf s z ⌝ }
 {
-    if s.x3 < 0 - IN_FORCE {
-        return in_force(false, s, z);
+    let mut percent: u32 = 0;
+    let wet = s.x3 > IN_FORCE;
+    let dry = s.x3 < 0 - IN_FORCE;
+    if wet | dry {
+        if ending::is_steady(wet, s.v, z) {
+            return steady(s.x3, z);
+        }
+        if !ending::has_ended(wet, s.x3, z) {
+            let v = ending::kept_v(wet, s.v, z);
+            let chance = ending::chance(wet, s.x3, s.v, z);
+            return abating(s, v, z, chance);
+        }
+        percent = 100;
     }
-    if s.x3 > IN_FORCE {
-        return in_force(true, s, z);
-    }
-    no_spell(s, z, 0)
+    no_spell(s, z, percent)
 }
