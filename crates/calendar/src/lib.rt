@@ -1,8 +1,8 @@
 // What a month's work asks of the calendar: the month's five constants, whether some month's K is 0, and which
 // month is next.
 //
-// `constants_at` is for the crate above, which holds the constants and the month in range before it calls, and so is
-// `some_zero_k`, which is handed sixty of them.
+// `constants_at` and `next_calendar` are for the crate above, which holds the constants and the month in range before it
+// calls, and so is `some_zero_k`, which is handed sixty of them.
 use outline::LAST_MONTH;
 use outline::MANY_OF_A_MONTH;
 use water::Constants;
@@ -68,7 +68,8 @@ pub fn some_zero_k(c: &[i32]) -> bool
 
 // The calendar month after this one.
 pub fn next_calendar(month: u32) -> u32
+    requires { ⌜ calendarFits month ≡ true ⌝ }
     ensures { λ r. ⌜ r ≡ nextCalendar month ⌝ }
 {
-    month % LAST_MONTH + 1
+    if month < LAST_MONTH { month + 1 } else { 1 }
 }
