@@ -1,15 +1,17 @@
-//! The library beside the hand-written reference, both over the same inputs in one program.
+//! The card's library and the hand-written reference over the same inputs in one program. The library is the one that is
+//! linked: libcard.a, or bench/peer.rs in its place.
 //!
-//!   bench list                  the kinds of work: name, operations in a round, sides
-//!   bench check                 that all sides of each kind come to the same
+//!   bench list                  the kinds of work: name, operations in a round, sides, what an operation is
+//!   bench check                 that all sides of each kind come to the same; it prints what
 //!   bench KIND SIDE ROUNDS      works so many rounds and prints a sum of what they came to
 //!   bench time KIND SIDE        nanoseconds per operation
-//!   bench stack                 the deepest stack of each call, in bytes
+//!   bench stack                 the deepest stack of each of the library's calls, in bytes
 
 #[path = "../host/card.rs"]
 mod card;
 #[path = "../tests/cross/reference.rs"]
 mod reference;
+mod stack;
 
 use card::{Columns, MonthInches, Reading, Run};
 use reference::{Added, Refusal, Season};
@@ -17,6 +19,7 @@ use std::hint::black_box;
 use std::time::{Duration, Instant};
 
 const MONTHS: usize = 2_400;
+const FEW_MONTHS: usize = 240;
 const READINGS: usize = 2_000;
 
 fn main() {
@@ -45,28 +48,45 @@ fn usage() -> ! {
 /// A round of work. What it comes to is in the lists or handed back.
 type Round = fn(&mut Inputs) -> u32;
 
-/// A kind's name, the operations in a round, and its sides.
-type Kind = (&'static str, usize, &'static [(&'static str, Round)]);
+/// The library that is linked; the reference in place; a reading by way of a double; a call that only hands over.
+type Sides = &'static [(&'static str, Round)];
 
-const KINDS: [Kind; 9] = [
-    ("add-water", MONTHS, &[("library", add::water_library), ("rust", add::water_rust)]),
-    ("add-inches", MONTHS, &[("library", add::inches_library), ("rust", add::inches_rust)]),
-    ("add-z", MONTHS, &[("library", add::z_library), ("rust", add::z_rust)]),
-    ("season-6", MONTHS, &season::sides(season::six_library, season::six_rust)),
-    ("season-2400", MONTHS, &season::sides(season::all_library, season::all_rust)),
-    ("series", 1, &[("library", series::library), ("rust", series::rust)]),
-    ("series-open", 1, &[("library", series::open_library), ("rust", series::open_rust)]),
-    (
-        "read-inches",
-        READINGS,
-        &[("library", read::inches_library), ("rust", read::inches_rust), ("float", read::inches_float)],
-    ),
-    ("read-mm", READINGS, &[("library", read::mm_library), ("rust", read::mm_rust), ("float", read::mm_float)]),
+/// A kind's name, the operations in a round, its sides, and what an operation is.
+type Kind = (&'static str, usize, Sides, &'static str);
+
+const fn both(library: Round, rust: Round) -> [(&'static str, Round); 2] {
+    [("library", library), ("rust", rust)]
+}
+
+const fn with_double(library: Round, rust: Round, double: Round) -> [(&'static str, Round); 3] {
+    [("library", library), ("rust", rust), ("double", double)]
+}
+
+#[rustfmt::skip]
+const KINDS: [Kind; 15] = [
+    ("add-water", MONTHS, &both(add::water_library, add::water_rust), "add water, two readings"),
+    ("add-inches", MONTHS, &both(add::inches_library, add::inches_rust), "add water, two binary32 inches"),
+    ("add-z", MONTHS, &both(add::z_library, add::z_rust), "add a Z"),
+    ("handed", MONTHS, &[("handed", handed::over)], "a run handed in and back, no more"),
+    ("season-6", MONTHS, &both(season::six_library, season::six_rust), "a month of a season of 6"),
+    ("season-2400", MONTHS, &both(season::all_library, season::all_rust), "a month of a season of 2,400"),
+    ("row", MONTHS, &both(row::library, row::rust), "show a row"),
+    ("start", MONTHS, &both(start::library, start::rust), "start a run"),
+    ("series-240", 1, &both(series::few_library, series::few_rust), "whole series, 240 ordinary months"),
+    ("series-240-open", 1, &both(series::few_open_library, series::few_open_rust), "whole series, 240 months left open"),
+    ("series-2400", 1, &both(series::library, series::rust), "whole series, 2,400 ordinary months"),
+    ("series-2400-open", 1, &both(series::open_library, series::open_rust), "whole series, 2,400 months left open"),
+    ("read-inches", READINGS, &with_double(read::inches_library, read::inches_rust, read::inches_double), "read inches"),
+    ("read-mm", READINGS, &with_double(read::mm_library, read::mm_rust, read::mm_double), "read millimetres"),
+    ("read-whole", READINGS, &both(read::whole_library, read::whole_rust), "read whole thousandths"),
 ];
+
+/// Kinds that add the same months.
+const SAME_MONTHS: [&str; 4] = ["add-water", "add-inches", "season-6", "season-2400"];
 
 /// The operations in a round of this kind, and the round of this side.
 fn find(kind: &str, side: &str) -> (usize, Round) {
-    let (_, operations, sides) = KINDS.iter().find(|found| found.0 == kind).unwrap_or_else(|| usage());
+    let (_, operations, sides, _) = KINDS.iter().find(|found| found.0 == kind).unwrap_or_else(|| usage());
     let (_, round) = sides.iter().find(|found| found.0 == side).unwrap_or_else(|| usage());
     (*operations, *round)
 }
@@ -77,39 +97,49 @@ fn work(round: Round, inputs: &mut Inputs, rounds: u64) -> u64 {
 }
 
 fn list() {
-    for (name, operations, sides) in KINDS {
+    for (name, operations, sides, what) in KINDS {
         let sides: Vec<&str> = sides.iter().map(|side| side.0).collect();
-        println!("{name} {operations} {}", sides.join(" "));
+        println!("{name} {operations} {} {what}", sides.join(","));
     }
 }
 
 fn check() {
-    for (name, _, sides) in KINDS {
+    let mut months = Vec::new();
+    for (name, _, sides, _) in KINDS {
         let sums: Vec<u64> = sides.iter().map(|side| work(side.1, &mut Inputs::new(), 1)).collect();
-        if sums.iter().any(|sum| *sum != sums[0]) {
-            println!("bench: the sides of {name} come to {sums:?}");
-            std::process::exit(1);
+        agree(name, &sums);
+        if SAME_MONTHS.contains(&name) {
+            months.push(sums[0]);
         }
+        println!("{name} {}", sums[0]);
     }
+    agree(&SAME_MONTHS.join(", "), &months);
     read::check(&Inputs::new());
+}
+
+fn agree(what: &str, sums: &[u64]) {
+    if sums.iter().any(|sum| *sum != sums[0]) {
+        eprintln!("bench: {what}: the sides come to {sums:?}");
+        std::process::exit(1);
+    }
 }
 
 /// The least of three measurements, each at least a twentieth of a second long.
 fn time((operations, round): (usize, Round)) {
     let mut inputs = Inputs::new();
-    let mut rounds = 1;
-    let mut measured = Vec::new();
-    while measured.len() < 3 {
+    let (mut rounds, mut measured, mut least) = (1, 0, f64::INFINITY);
+    while measured < 3 {
         let start = Instant::now();
         black_box(work(round, &mut inputs, rounds));
         let taken = start.elapsed();
         if taken < Duration::from_millis(50) {
             rounds *= 2;
         } else {
-            measured.push(taken.as_nanos() as u64 / (rounds * operations as u64));
+            least = least.min(taken.as_nanos() as f64 / (rounds * operations as u64) as f64);
+            measured += 1;
         }
     }
-    println!("{}", measured.iter().min().unwrap_or(&0));
+    println!("{least:.1}");
 }
 
 // ---- Inputs ------------------------------------------------------------------------------------------------
@@ -163,11 +193,20 @@ impl Inputs {
 }
 
 fn fresh_run() -> Run {
-    let constants = [8_000, 1_200, 600, 2_500, 16_000].repeat(12);
-    card::start(&constants, 6_000, 1_000, 5_000, 1).run
+    card::start(&CONSTANTS, 6_000, 1_000, 5_000, 1).run
 }
 
-/// Five columns: X1, X2, X3 and index, and mark.
+const CONSTANTS: [i32; card::CONSTANTS] = {
+    let mut constants = [0; card::CONSTANTS];
+    let mut place = 0;
+    while place < card::CONSTANTS {
+        constants[place] = [8_000, 1_200, 600, 2_500, 16_000][place % 5];
+        place += 1;
+    }
+    constants
+};
+
+/// Five columns: X1, X2, X3 and index, and mark. No two places of one hold the same number at first.
 struct Lists {
     numbers: [Vec<i32>; 4],
     mark: Vec<u8>,
@@ -175,7 +214,8 @@ struct Lists {
 
 impl Lists {
     fn new(length: usize) -> Lists {
-        Lists { numbers: [(); 4].map(|()| vec![0; length]), mark: vec![0; length] }
+        let numbers = [0, 1, 2, 3].map(|column| (0..length as i32).map(|place| 4 * place + column).collect());
+        Lists { numbers, mark: vec![card::SETTLED; length] }
     }
 
     fn lend(&mut self) -> Columns<'_> {
@@ -256,18 +296,33 @@ mod add {
     }
 }
 
-/// The months of a round in seasons, one after another. The same months added singly are sides of the same kind.
-mod season {
+/// What the interface of an add costs by itself: a call with the arguments of an add of water that hands the run back
+/// beside figures of 0, and does nothing else.
+mod handed {
     use super::*;
 
-    pub const fn sides(library: Round, rust: Round) -> [(&'static str, Round); 4] {
-        [
-            ("library", library),
-            ("library-singly", add::water_library),
-            ("rust", rust),
-            ("rust-singly", add::water_rust),
-        ]
+    #[rustfmt::skip]
+    type Add = extern "C" fn(Run, Reading, Reading, *mut i32, usize, *mut i32, usize, *mut i32, usize, *mut i32, usize, *mut u8, usize) -> card::Added;
+
+    #[rustfmt::skip]
+    extern "C" fn back(run: Run, _: Reading, _: Reading, _: *mut i32, _: usize, _: *mut i32, _: usize, _: *mut i32, _: usize, _: *mut i32, _: usize, _: *mut u8, _: usize) -> card::Added {
+        card::Added { number: card::DONE, settled: 0, figures: card::Figures::default(), run }
     }
+
+    #[rustfmt::skip]
+    pub fn over(inputs: &mut Inputs) -> u32 {
+        let add: Add = black_box(back);
+        let (mut run, k) = (inputs.run, inputs.lists.lend());
+        for &(p, pe) in &inputs.water {
+            run = add(run, Reading::whole(p), Reading::whole(pe), k.x1.as_mut_ptr(), k.x1.len(), k.x2.as_mut_ptr(), k.x2.len(), k.x3.as_mut_ptr(), k.x3.len(), k.index.as_mut_ptr(), k.index.len(), k.mark.as_mut_ptr(), k.mark.len()).run;
+        }
+        run.months
+    }
+}
+
+/// The months of a round in seasons, one after another.
+mod season {
+    use super::*;
 
     fn by_library(inputs: &mut Inputs, months: usize) -> u32 {
         let (mut run, mut k) = (inputs.run, inputs.lists.lend());
@@ -305,18 +360,79 @@ mod season {
     }
 }
 
+/// Every row of a run that holds as many months as the columns.
+mod row {
+    use super::*;
+    use card::Shown;
+
+    fn full(run: Run) -> Run {
+        Run { months: MONTHS as u32, ..run }
+    }
+
+    fn sum(shown: &Shown) -> u32 {
+        (shown.x1 + shown.x2 + shown.x3 + shown.index) as u32 + u32::from(shown.mark)
+    }
+
+    pub fn library(inputs: &mut Inputs) -> u32 {
+        let (run, k) = (full(inputs.run), inputs.lists.lend());
+        (0..MONTHS).map(|row| sum(&card::row(run, row, &k))).fold(0, u32::wrapping_add)
+    }
+
+    pub fn rust(inputs: &mut Inputs) -> u32 {
+        let show: fn(&Run, usize, &Columns) -> Result<Shown, Refusal> = black_box(reference::row);
+        let (run, k) = (full(inputs.run), inputs.lists.lend());
+        (0..MONTHS).map(|row| show(&run, row, &k).map_or(0, |shown| sum(&shown))).fold(0, u32::wrapping_add)
+    }
+}
+
+/// Starts from each of the twelve months on, again and again.
+mod start {
+    use super::*;
+
+    const YEARS: usize = MONTHS / 12;
+
+    fn each(start: impl Fn(i32) -> u32) -> u32 {
+        (0..YEARS).flat_map(|_| 1..=12).map(start).sum()
+    }
+
+    pub fn library(_: &mut Inputs) -> u32 {
+        each(|month| card::start(black_box(&CONSTANTS), 6_000, 1_000, 5_000, month).run.calendar)
+    }
+
+    pub fn rust(_: &mut Inputs) -> u32 {
+        let start: fn(&[i32], i32, i32, i32, i32) -> Result<Run, Refusal> = black_box(reference::start);
+        each(|month| start(black_box(&CONSTANTS), 6_000, 1_000, 5_000, month).map_or(0, |run| run.calendar))
+    }
+}
+
 mod series {
     use super::*;
 
     fn by_rust(z: &[i32], lists: &mut Lists) -> u32 {
         let whole: fn(&[i32], &mut [i32], &mut [u8]) -> Result<(), Refusal> = black_box(reference::whole_series);
         let k = lists.lend();
-        u32::from(whole(z, k.index, k.mark).is_err())
+        u32::from(whole(z, &mut k.index[..z.len()], &mut k.mark[..z.len()]).is_err())
     }
 
     fn by_library(z: &[i32], lists: &mut Lists) -> u32 {
         let k = lists.lend();
-        u32::from(card::whole_series(z, k.index, k.mark))
+        u32::from(card::whole_series(z, &mut k.index[..z.len()], &mut k.mark[..z.len()]))
+    }
+
+    pub fn few_library(inputs: &mut Inputs) -> u32 {
+        by_library(&inputs.z[..FEW_MONTHS], &mut inputs.lists)
+    }
+
+    pub fn few_rust(inputs: &mut Inputs) -> u32 {
+        by_rust(&inputs.z[..FEW_MONTHS], &mut inputs.lists)
+    }
+
+    pub fn few_open_library(inputs: &mut Inputs) -> u32 {
+        by_library(&inputs.open[..FEW_MONTHS], &mut inputs.lists)
+    }
+
+    pub fn few_open_rust(inputs: &mut Inputs) -> u32 {
+        by_rust(&inputs.open[..FEW_MONTHS], &mut inputs.lists)
     }
 
     pub fn library(inputs: &mut Inputs) -> u32 {
@@ -342,7 +458,7 @@ mod read {
     type Read = fn(&Reading) -> Result<u32, Refusal>;
 
     /// The conversion in floating point that is nearest to hand.
-    fn by_float(reading: &Reading) -> Result<u32, Refusal> {
+    fn by_double(reading: &Reading) -> Result<u32, Refusal> {
         let x = reading.measure;
         match reading.kind {
             card::MISSING => Err(Refusal::Missing),
@@ -355,11 +471,11 @@ mod read {
         }
     }
 
-    fn sum_library(list: &[f32], reading: fn(f32) -> Reading) -> u32 {
+    fn sum_library<T: Copy>(list: &[T], reading: fn(T) -> Reading) -> u32 {
         list.iter().map(|x| card::read(reading(*x)).water).fold(0, u32::wrapping_add)
     }
 
-    fn sum(list: &[f32], reading: fn(f32) -> Reading, read: Read) -> u32 {
+    fn sum<T: Copy>(list: &[T], reading: fn(T) -> Reading, read: Read) -> u32 {
         let read = black_box(read);
         list.iter().map(|x| read(&reading(*x)).unwrap_or(0)).fold(0, u32::wrapping_add)
     }
@@ -372,8 +488,8 @@ mod read {
         sum(&inputs.inches, Reading::inches, reference::read)
     }
 
-    pub fn inches_float(inputs: &mut Inputs) -> u32 {
-        sum(&inputs.inches, Reading::inches, by_float)
+    pub fn inches_double(inputs: &mut Inputs) -> u32 {
+        sum(&inputs.inches, Reading::inches, by_double)
     }
 
     pub fn mm_library(inputs: &mut Inputs) -> u32 {
@@ -384,8 +500,16 @@ mod read {
         sum(&inputs.mm, Reading::millimetres, reference::read)
     }
 
-    pub fn mm_float(inputs: &mut Inputs) -> u32 {
-        sum(&inputs.mm, Reading::millimetres, by_float)
+    pub fn mm_double(inputs: &mut Inputs) -> u32 {
+        sum(&inputs.mm, Reading::millimetres, by_double)
+    }
+
+    pub fn whole_library(inputs: &mut Inputs) -> u32 {
+        sum_library(&inputs.season.0[..READINGS], Reading::whole)
+    }
+
+    pub fn whole_rust(inputs: &mut Inputs) -> u32 {
+        sum(&inputs.season.0[..READINGS], Reading::whole, reference::read)
     }
 
     /// That the three conversions give the same, measure by measure.
@@ -393,218 +517,11 @@ mod read {
         let inches = inputs.inches.iter().map(|x| Reading::inches(*x));
         let mm = inputs.mm.iter().map(|x| Reading::millimetres(*x));
         for reading in inches.chain(mm) {
-            let answers = [Ok(card::read(reading).water), reference::read(&reading), by_float(&reading)];
+            let answers = [Ok(card::read(reading).water), reference::read(&reading), by_double(&reading)];
             if answers != [answers[0]; 3] {
-                println!("bench: {reading:?} gives {answers:?}");
+                eprintln!("bench: {reading:?} gives {answers:?}");
                 std::process::exit(1);
             }
-        }
-    }
-}
-
-// ---- Stack -------------------------------------------------------------------------------------------------
-
-/// The deepest stack of each of the library's calls, its return address included: a probe notes the stack pointer
-/// on the way into the call; the stack below was painted before; what is no longer painted was written to.
-mod stack {
-    use super::*;
-    use std::arch::{asm, global_asm};
-    use std::sync::atomic::{AtomicUsize, Ordering};
-
-    const AREA: usize = 256 * 1024;
-    const PAINT: u64 = 0xa5c3_96e1_5a3c_691e;
-
-    #[no_mangle]
-    static PROBE_SP: AtomicUsize = AtomicUsize::new(0);
-
-    global_asm!(
-        ".macro probe name",
-        ".globl probe_\\name",
-        "probe_\\name: mov qword ptr [rip + PROBE_SP], rsp",
-        "jmp card_\\name",
-        ".endm",
-        "probe read",
-        "probe start",
-        "probe add_water",
-        "probe add_inches",
-        "probe add_z",
-        "probe add_season",
-        "probe row",
-        "probe whole_series",
-    );
-
-    #[rustfmt::skip]
-    extern "C" {
-        fn probe_read(reading: Reading) -> card::Answer;
-        fn probe_start(constants: *const i32, n: usize, capacity: i32, surface: i32, underlying: i32, month: i32) -> card::Started;
-        fn probe_add_water(run: Run, p: Reading, pe: Reading, x1: *mut i32, n1: usize, x2: *mut i32, n2: usize, x3: *mut i32, n3: usize, index: *mut i32, ni: usize, mark: *mut u8, nm: usize) -> card::Added;
-        fn probe_add_inches(run: Run, month: MonthInches, x1: *mut i32, n1: usize, x2: *mut i32, n2: usize, x3: *mut i32, n3: usize, index: *mut i32, ni: usize, mark: *mut u8, nm: usize) -> card::Added;
-        fn probe_add_z(run: Run, z: i32, x1: *mut i32, n1: usize, x2: *mut i32, n2: usize, x3: *mut i32, n3: usize, index: *mut i32, ni: usize, mark: *mut u8, nm: usize) -> card::Added;
-        fn probe_add_season(run: Run, p: *const i32, np: usize, pe: *const i32, npe: usize, x1: *mut i32, n1: usize, x2: *mut i32, n2: usize, x3: *mut i32, n3: usize, index: *mut i32, ni: usize, mark: *mut u8, nm: usize) -> card::Season;
-        fn probe_row(run: Run, row: usize, x1: *const i32, n1: usize, x2: *const i32, n2: usize, x3: *const i32, n3: usize, index: *const i32, ni: usize, mark: *const u8, nm: usize) -> card::Shown;
-        fn probe_whole_series(z: *const i32, nz: usize, index: *mut i32, ni: usize, mark: *mut u8, nm: usize) -> u8;
-    }
-
-    /// How deep the one probed call in `call` goes.
-    #[inline(never)]
-    fn depth(call: &mut dyn FnMut()) -> usize {
-        let sp: usize;
-        // All below the stack pointer is free: this function calls others, so it keeps nothing there.
-        unsafe { asm!("mov {}, rsp", out(reg) sp, options(nomem, nostack)) };
-        let bottom = (sp - AREA) as *mut u64;
-        for place in 0..AREA / 8 {
-            unsafe { bottom.add(place).write_volatile(PAINT) };
-        }
-        call();
-        let painted = |place: &usize| unsafe { bottom.add(*place).read_volatile() } == PAINT;
-        let lowest = bottom as usize + 8 * (0..AREA / 8).take_while(painted).count();
-        (PROBE_SP.load(Ordering::Relaxed) + 8).saturating_sub(lowest)
-    }
-
-    #[derive(Clone, Copy)]
-    enum Call {
-        Water(Reading, Reading),
-        Inches(f32, f32),
-        Z(i32),
-        Season([i32; 6], [i32; 6]),
-        Row(usize),
-    }
-
-    /// How deep a call goes that takes a run; the marks are lent as `marks` long.
-    #[rustfmt::skip]
-    fn with_run(call: Call, run: &Run, lists: &mut Lists, marks: usize) -> (usize, Run) {
-        let n = lists.mark.len();
-        let k = lists.lend();
-        let (x1, x2, x3, index, mark) = (k.x1.as_mut_ptr(), k.x2.as_mut_ptr(), k.x3.as_mut_ptr(), k.index.as_mut_ptr(), k.mark.as_mut_ptr());
-        let mut next = *run;
-        let depth = depth(&mut || unsafe {
-            match call {
-                Call::Water(p, pe) => next = probe_add_water(*run, p, pe, x1, n, x2, n, x3, n, index, n, mark, marks).run,
-                Call::Inches(p, pe) => next = probe_add_inches(*run, MonthInches { p, pe }, x1, n, x2, n, x3, n, index, n, mark, marks).run,
-                Call::Z(z) => next = probe_add_z(*run, z, x1, n, x2, n, x3, n, index, n, mark, marks).run,
-                Call::Season(p, pe) => next = probe_add_season(*run, p.as_ptr(), 6, pe.as_ptr(), 6, x1, n, x2, n, x3, n, index, n, mark, marks).run,
-                Call::Row(row) => _ = black_box(probe_row(*run, row, x1, n, x2, n, x3, n, index, n, mark, marks)),
-            }
-        });
-        (depth, next)
-    }
-
-    /// The deepest of a call over a run that grows until the columns are full, with months of all sorts, and of
-    /// its refusals all along. `call` gives a call, good or to be refused.
-    fn deepest_with_run(call: fn(&mut u64, bool) -> Call) -> usize {
-        let (state, mut lists, mut run) = (&mut 7, Lists::new(300), fresh_run());
-        let mut deepest = 0;
-        for month in 0..=300 {
-            let not_a_run = Run { calendar: 0, ..run };
-            let z =
-                if month % 60 < 40 { [12, -3, 0, 0][(month % 4) as usize] } else { random(state, -9_000, 9_000) };
-            let (good, bad) = (call(state, false), call(state, true));
-            let tries = [
-                with_run(good, &run, &mut lists, 300).0,
-                with_run(good, &run, &mut lists, 299).0,
-                with_run(good, &not_a_run, &mut lists, 300).0,
-                with_run(bad, &run, &mut lists, 300).0,
-            ];
-            deepest = tries.into_iter().fold(deepest, usize::max);
-            run = card::add_z(run, z, &mut lists.lend()).run;
-        }
-        deepest
-    }
-
-    fn water(state: &mut u64, refused: bool) -> Call {
-        let p = [Reading::whole(random(state, 0, 9_000)), Reading::millimetres(random(state, 0, 300) as f32)];
-        let pe = if refused { Reading::missing() } else { Reading::inches(random(state, 0, 9) as f32) };
-        Call::Water(p[random(state, 0, 1) as usize], pe)
-    }
-
-    fn inches(state: &mut u64, refused: bool) -> Call {
-        Call::Inches(random(state, 0, 9) as f32, if refused { -1.0 } else { random(state, 0, 9) as f32 })
-    }
-
-    fn z(state: &mut u64, refused: bool) -> Call {
-        Call::Z(if refused { i32::MAX } else { random(state, -9_000, 9_000) })
-    }
-
-    fn season(state: &mut u64, refused: bool) -> Call {
-        let mut months = || [(); 6].map(|()| random(state, 0, 9_000));
-        let (p, mut pe) = (months(), months());
-        if refused {
-            pe[random(state, 0, 5) as usize] = card::NO_READING;
-        }
-        Call::Season(p, pe)
-    }
-
-    fn row(state: &mut u64, refused: bool) -> Call {
-        Call::Row(if refused { usize::MAX } else { random(state, 0, 299) as usize })
-    }
-
-    fn deepest_read() -> usize {
-        let measures =
-            [0.0, -0.0, 1e-40, 1e-5, 0.0625, 7.9375, 100.0, 2_540.0, 1e9, -1.0, f32::NAN, f32::INFINITY];
-        let readings =
-            (0..5).flat_map(|kind| measures.map(|measure| Reading { kind, whole: measure as i32, measure }));
-        let deep = |reading| depth(&mut || _ = black_box(unsafe { probe_read(reading) }));
-        readings.map(deep).fold(0, usize::max)
-    }
-
-    fn deepest_start() -> usize {
-        let constants = fresh_run().constants;
-        let (bad, zero_k) = ([-1; 60], [0; 60]);
-        let tries = [
-            (&constants, 60, 6_000, 0, 1),
-            (&constants, 59, 6_000, 0, 1),
-            (&bad, 60, 6_000, 0, 1),
-            (&zero_k, 60, 6_000, 0, 1),
-            (&constants, 60, 99, 0, 1),
-            (&constants, 60, 6_000, -1, 1),
-            (&constants, 60, 6_000, 0, 13),
-        ];
-        let deep = |(list, n, capacity, surface, month): (&[i32; 60], usize, i32, i32, i32)| {
-            depth(&mut || _ = black_box(unsafe { probe_start(list.as_ptr(), n, capacity, surface, 0, month) }))
-        };
-        tries.map(deep).into_iter().fold(0, usize::max)
-    }
-
-    fn deepest_whole_series() -> usize {
-        let inputs = Inputs::new();
-        let refused = vec![i32::MAX; MONTHS];
-        let mut lists = Lists::new(MONTHS);
-        let k = lists.lend();
-        let mut deepest = 0;
-        for z in [&inputs.z, &inputs.open, &refused] {
-            for n in [0, 1, 2, 10, 100, 1_000, MONTHS] {
-                let mut call = || {
-                    let (index, mark) = (k.index.as_mut_ptr(), k.mark.as_mut_ptr());
-                    black_box(unsafe { probe_whole_series(z.as_ptr(), n, index, n, mark, n) });
-                };
-                deepest = deepest.max(depth(&mut call));
-            }
-        }
-        deepest
-    }
-
-    fn measure() {
-        let found = [
-            ("read", deepest_read()),
-            ("start", deepest_start()),
-            ("add water", deepest_with_run(water)),
-            ("add inches", deepest_with_run(inches)),
-            ("add Z", deepest_with_run(z)),
-            ("season", deepest_with_run(season)),
-            ("row", deepest_with_run(row)),
-            ("whole series", deepest_whole_series()),
-        ];
-        for (name, deepest) in found {
-            println!("{name:<14}{deepest:>7}");
-        }
-    }
-
-    /// In a thread, whose stack is there as a whole.
-    pub fn print() {
-        let thread = std::thread::Builder::new().stack_size(8 * AREA).spawn(measure);
-        if !thread.is_ok_and(|thread| thread.join().is_ok()) {
-            println!("bench: the stack was not measured");
-            std::process::exit(1);
         }
     }
 }
