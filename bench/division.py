@@ -3,11 +3,9 @@
 
 Milliseconds of the whole process, standard input a file and standard output nothing, the least of 20 runs; the
 commands take turns. What a command takes on no input is its start. The program's is mostly that of host/start, a
-shell script, so on x86-64 it is also started without it. Instructions are those that valgrind counts on the file,
-less those on no input.
+shell script, so on x86-64 it is also started without it. Instructions are in the table of bench/run.
 """
 import os
-import re
 import shutil
 import subprocess
 import sys
@@ -19,7 +17,6 @@ PROGRAM = [os.path.join(TOP, 'host', 'start'), os.path.join(TOP, 'target', 'bin'
 PLACES = [('01', '01'), ('24', '04'), ('48', '07')]
 RUNS = 20
 NONE = os.devnull
-COUNT = ['valgrind', '--tool=callgrind', '--callgrind-out-file=/dev/null', '--trace-children=yes']
 
 CUT = ['cut', '-c7-10,11-94']
 # the rows that the program prints, of lines that are taken to be good
@@ -66,11 +63,6 @@ def milliseconds(words, path):
     return 1000 * (time.perf_counter() - began)
 
 
-def instructions(words, path):
-    said = ran(COUNT + words, path, stdout=subprocess.DEVNULL, stderr=subprocess.PIPE).stderr
-    return sum(int(count) for count in re.findall(rb'(?m)^==\d+== Collected : (\d+)$', said))
-
-
 def main():
     path, rust = sys.argv[1], sys.argv[2:]
     check(rust, path)
@@ -83,14 +75,10 @@ def main():
         for column, (listed, given) in enumerate(columns):
             for row, (_, words) in enumerate(listed):
                 best[row][column] = min(best[row][column], milliseconds(words, given))
-    counted = len(rust) == 1 and shutil.which('valgrind')
-    print('milliseconds on %d bytes, and millions of instructions for %s %s' % ((os.path.getsize(path),) + PLACES[1]))
-    heads = ['%s %s' % place for place in PLACES] + ['no input', 'instructions']
-    print('%-30s%9s%9s%9s%10s%14s' % ('', *heads))
+    print('milliseconds on %d bytes' % os.path.getsize(path))
+    print('%-30s%9s%9s%9s%10s' % ('', *('%s %s' % place for place in PLACES), 'no input'))
     for row in rows:
-        name, words = columns[1][0][row]
-        count = '%.1f' % ((instructions(words, path) - instructions(words, NONE)) / 1e6) if counted else '-'
-        print('%-30s%9.1f%9.1f%9.1f%10.1f%14s' % (name, *best[row], count))
+        print('%-30s%9.1f%9.1f%9.1f%10.1f' % (columns[1][0][row][0], *best[row]))
     print('awk is %s' % os.path.basename(os.path.realpath(shutil.which('awk'))))
 
 
