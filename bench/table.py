@@ -209,7 +209,7 @@ def hold(counted, stacked):
         most = MOST_OF.get(row.name, MOST)
         if row.library > most * row.same:
             times = float(row.library / row.same)
-            faults.append('%s: %.4f times as many instructions, at most %.2f asked' % (row.what, times, most))
+            faults.append('%s: %.5f times as many instructions, at most %.2f asked' % (row.what, times, most))
     for row in stacked:
         if row.library >= STACK_UNDER.get(row.name, row.library + 1):
             faults.append('%s: %d bytes, less than %d asked' % (row.what, row.library, STACK_UNDER[row.name]))
