@@ -123,13 +123,13 @@ module _ {zs index₀ : List ℤ} {mark₀ : List ℕ} {v₀ : Running} {from : 
     long = rows-long nextValues rowOfZ v₀ (part from at zs) ∙ part-length zs from at (g .index-is .low) (g .high)
 
     -- where the scan is left, with what the columns then end in, and the law of the group
-    left : (index' : List ℤ) (mark' : List ℕ) (v' : Running) (k : ℕ) (i : List ℤ) (m : List ℕ)
+    left : {index' : List ℤ} {mark' : List ℕ} {v' : Running} {k : ℕ} {i : List ℤ} {m : List ℕ}
         → Column index₀ index' (map shownOf t) i from at → Column mark₀ mark' (codes (map xOf t)) m from at
         → length index' ≡ length zs → length mark' ≡ length zs → FitsWithin (mostU * (at + 1)) v'
         → groupIndexes (decisionOf k) (map shownOf t) (sidesOf (v₀ .x1) (v₀ .x2) (part from at zs)) ++ (take 1 i ++ forwardIndexes (rows v' (drop (at + 1) zs))) ≡ forwardIndexes (rows v₀ (drop from zs))
         → replicate (at - from) (markFor (decisionOf k)) ++ (take 1 m ++ forwardMarks (rows v' (drop (at + 1) zs))) ≡ forwardMarks (rows v₀ (drop from zs))
         → Left zs index' mark' (v₀ .x1) (v₀ .x2) v' from k at
-    left index' mark' v' k i m p q pl ql f x y =
+    left p q pl ql f x y =
         record {
           low = g .index-is .low;
           high = g .high;
@@ -149,7 +149,7 @@ module _ {zs index₀ : List ℤ} {mark₀ : List ℕ} {v₀ : Running} {from : 
         let m : drop at mark₀ ≡ [] = drop-of-length-le mark₀ {i = at} (omega (arith, g₀ .mark-long)) in
         let last : part from at zs ++ drop at zs ≡ part from at zs = rw (drop-of-length-le zs o) (append-nil (part from at zs)) in
         let all : rows v₀ (drop from zs) ≡ t = ap (rows v₀) (part-rest zs from at (g .index-is .low) ∙ last) in
-        left index mark v by (drop at index₀) (drop at mark₀) (g .index-is) (g .mark-is) (g .index-long) (g .mark-long) (fits-in (mostU * at) (mostU * (at + 1)) v (g .fits) (omega (arith, g .fits .v-size)))
+        left (g .index-is) (g .mark-is) (g .index-long) (g .mark-long) (fits-in (mostU * at) (mostU * (at + 1)) v (g .fits) (omega (arith, g .fits .v-size)))
         (rw (g .none, d, i, all, append-nil (map shownOf t)) (sym (forward-waits t (g .wait))))
         (rw (g .none, d, m, all, append-nil (replicate {A = ℕ} (at - from) 1)) (sym (ones t (g .wait) ∙ ap (λ (n : ℕ). replicate n 1) long)))
 
@@ -204,7 +204,7 @@ module _ {zs index₀ : List ℤ} {mark₀ : List ℕ} {v₀ : Running} {from : 
       left-decides m k e f o =
           let d : r .decision ≡ Decides (withOf k) = coded m k e f ∙ decision-some k o in
           rw e
-          (left (set index at (r .index)) (set mark at 2) (r .after) k (r .index ∷ drop (at + 1) index₀) (2 ∷ drop (at + 1) mark₀) index-set (mark-set 2) (simp length-set (g .index-long)) (simp length-set (g .mark-long)) step-fits
+          (left index-set (mark-set 2) (simp length-set (g .index-long)) (simp length-set (g .mark-long)) step-fits
           (rw (decision-some k o, rows-rest, indexes-settle t (rowOfZ v z) (withOf k) (rows (r .after) (drop (at + 1) zs)) (g .wait) d, group-indexes v₀ (part from at zs) (g .wait) z (withOf k) (rw (← g .state) d)) refl)
           (rw (decision-some k o, rows-rest, marks-settle t (rowOfZ v z) (withOf k) (rows (r .after) (drop (at + 1) zs)) (g .wait) d, long) refl))
 
