@@ -1,6 +1,6 @@
 -- The laws of the ranges: what the tests of the sixty constants and of the calendar say, place by place. Assumes nothing.
 use mathlib.Core.Path.{_≡_, refl, sym, _∙_}
-use mathlib.Core.Bool.{true, false, _&&_, and-false, and-assoc}
+use mathlib.Core.Bool.{Bool, true, false, not, _&&_, _||_, and-false, and-assoc}
 use mathlib.Core.List.{List}
 use mathlib.Core.Logic.{⊎-elim}
 use Prim.Native.Nat.{ℕ, zero, suc, _+_, _-_, _%_, _≤_, _<_}
@@ -29,6 +29,12 @@ pub is-calendar : (m : ℕ) → 1 ≤ m → m ≤ lastMonth → calendarFits m �
 unfolding calendarFits
 is-calendar m l h = both (le-leb 1 m l) (le-leb m lastMonth h)
 
+-- ---- tests
+-- not both: the one not, or the other not
+pub not-both : (a b : Bool) → not (a && b) ≡ (not a || not b)
+not-both true b = refl
+not-both false b = refl
+
 -- ---- signed numbers
 -- one that is not below zero can be read as an unsigned one
 pub countable : (x : ℤ) → pos 0 ≤ℤ x → SFits w32 x → T (nonNeg x) × Fits w32 (natAbs x)
@@ -45,7 +51,7 @@ unfolding constantsFitTo
 fits-last l k = refl
 
 -- a month's five more
-fits-five : (l : List ℤ) (k : ℕ) → constantsFitTo l (k + manyOfAMonth) ≡ (constantsFitTo l k && fiveFit l k)
+pub fits-five : (l : List ℤ) (k : ℕ) → constantsFitTo l (k + manyOfAMonth) ≡ (constantsFitTo l k && fiveFit l k)
 unfolding constantsFitTo fiveFit
 fits-five l k = simp (add-one, add-two, add-three, add-four, add-five, and-assoc)
 

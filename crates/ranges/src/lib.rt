@@ -7,7 +7,7 @@ use outline::MANY_OF_A_MONTH;
 use outline::MOST_MONTHS;
 use outline::MOST_Z;
 ghost use mathlib.Core.Path.{_≡_};
-ghost use mathlib.Core.Bool.{_&&_};
+ghost use mathlib.Core.Bool.{not, _&&_};
 ghost use Prim.Native.Nat.{_+_, _%_, _≤_, _<_};
 ghost use lib.IntN.{pos, natAbs};
 ghost use lib.Signed.{_≤ℤ_, leZ};
@@ -18,11 +18,11 @@ ghost use Rattle.ranges.specs.Ranges.{limitOf, constantFits, constantsFi
 ghost use Rattle.ranges.specs.Five.{fiveFit};
 
 // The most of alpha, beta and delta, of gamma, and of K.
-const MOST_SHARE: u32 = 10_000;
+pub const MOST_SHARE: i32 = 10_000;
 
-const MOST_GAMMA: u32 = 50_000;
+pub const MOST_GAMMA: i32 = 50_000;
 
-const MOST_K: u32 = 100_000;
+pub const MOST_K: i32 = 100_000;
 
 // The capacity's ends.
 pub const LEAST_CAPACITY: u32 = 100;
@@ -47,6 +47,13 @@ pub fn signed_between(least: u32, n: i32, most: u32) -> bool
         return false;
     }
     between(least, n as u32, most)
+}
+
+// Below the least or above the most: with no branch, so that many numbers can be tested at once.
+pub fn beyond(least: i32, n: i32, most: i32) -> bool
+    ensures { λ r. ⌜ r ≡ not (leZ least n && leZ n most) ⌝ }
+{
+    (n < least) | (n > most)
 }
 
 // At most so much in size, where so much is not below zero.
@@ -87,9 +94,9 @@ pub fn calendar_fits(month: u32) -> bool
 }
 
 // The most that the constant at a place of a month may be.
-fn limit_of(place: usize) -> u32
+fn limit_of(place: usize) -> i32
     requires { ⌜ place < manyOfAMonth ⌝ }
-    ensures { λ r. ⌜ r ≡ limitOf place ⌝ }
+    ensures { λ r. ⌜ r ≡ pos (limitOf place) ⌝ }
 {
     if place == 2 {
         return MOST_GAMMA;
@@ -106,7 +113,7 @@ fn fits_at(c: &[i32], i: usize, place: usize) -> bool
     ensures { λ r. ⌜ r ≡ constantFits (now (c .entry)) i ⌝ }
 {
     let x = c[i];
-    signed_between(0, x, limit_of(place))
+    !beyond(0, x, limit_of(place))
 }
 
 // A month's five constants, from this place on, are in range.
@@ -129,7 +136,8 @@ fn five_fit(c: &[i32], at: usize) -> bool
     fits_at(c, at + 4, 4)
 }
 
-// The sixty constants are each in range: month by month, so that each is held to a number known beforehand.
+// The sixty constants are each in range. A start that is refused for its constants asks this alone: which of its
+// two numbers it gives.
 pub fn constants_fit(c: &[i32]) -> bool
     requires { ⌜ manyConstants ≤ length (now c) ⌝ }
     ensures { λ r. ⌜ r ≡ constantsFit (now (c .entry)) ⌝ }

@@ -1,4 +1,5 @@
 -- `ranges::fits_at` meets its contract: the machine's number is the constant, and its place in its month is the one given. Assumes nothing.
+use mathlib.Core.Bool.{Bool·not-not}
 use lib.IntN.{pos}
 use lib.ListN.{getD}
 use mir.Syntax.{w32}
@@ -19,15 +20,16 @@ shared-slice-copy-out-x c = search needs
 limit-of-requires : tie.Need-limit-of-requires
 limit-of-requires c κs = search needs
 
-signed-between-requires : tie.Need-signed-between-requires
-signed-between-requires c κs = search needs
+beyond-requires : tie.Need-beyond-requires
+beyond-requires c κs = search needs
 
 returns : tie.Need-returns
 unfolding constantFits
 returns c =
     let s = c .before .before .before in
     let f : SFits w32 (getD (s .args .c .now) (s .args .i) (pos 0)) = search held in
-    rw (s .pre .1) (simp (c .before .limit-of .ensures, toZ-ofZ) at (c .signed-between .ensures))
+    let g : SFits w32 (c .before .limit-of .result) = search held in
+    rw (s .pre .1, simp (c .before .limit-of .ensures) at (simp toZ-ofZ at (c .beyond .ensures))) (Bool·not-not _)
 
 pub fits-at-spec : {M : Type 1} → statement M
-fits-at-spec = tie.close (tie.spec mul-x shared-slice-copy-out-x limit-of-requires signed-between-requires returns)
+fits-at-spec = tie.close (tie.spec mul-x shared-slice-copy-out-x limit-of-requires beyond-requires returns)
