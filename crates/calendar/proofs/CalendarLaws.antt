@@ -1,23 +1,24 @@
--- The laws of the calendar: it goes round the twelve months; where the sixty constants are in range, so are the five of any of them; and
--- what the test for a K of 0 says, month by month. Assumes nothing.
-use mathlib.Core.Path.{_≡_, refl, sym, ap, _∙_}
-use mathlib.Core.Bool.{Bool, true, false, _||_, or-true, false≢true}
+-- The laws of the calendar: it goes round the twelve months; where the sixty constants are in range, so are the five of any of them; what
+-- the test for a K of 0 says, month by month; and constants that serve, by one month more. Assumes nothing.
+use mathlib.Core.Path.{_≡_, refl, sym, _∙_}
+use mathlib.Core.Bool.{Bool, true, false, not, _&&_, _||_, and-false, or-true, false≢true}
 use mathlib.Core.Logic.{_⊎_, inl, inr, ⊎-elim, _↔_}
 use mathlib.Core.List.{List}
-use Prim.Native.Nat.{ℕ, zero, suc, _+_, _-_, _*_, _%_, _≤_, _<_}
+use Prim.Native.Nat.{ℕ, zero, suc, _+_, _-_, _*_, _/_, _%_, _≤_, _<_}
 use native.Mathlib.Nat.{not-suc-le-zero, le-of-suc-le-suc, eq-or-lt-of-le}
-use native.Mathlib.Numerals.{add-one}
 use native.Mathlib.Omega.{arith}
-use borrow.Author.Tests.{eq-eqb, ne-eqb, eqb-true}
+use borrow.Author.Tests.{eq-eqb, eqb-true}
 use lib.Dec.{eqb}
-use lib.IntN.{ℤ, pos, negsuc, natAbs}
+use lib.IntN.{ℤ, pos, natAbs}
 use lib.ListN.{getD}
 use Rattle.outline.specs.Numbers.{manyConstants, manyOfAMonth, lastMonth}
 use Rattle.outline.proofs.Tests.{if-so}
 use Rattle.water.specs.Bounds.{ConstantsFit}
-use Rattle.ranges.specs.Ranges.{limitOf, constantsFit, calendarFits}
-use Rattle.ranges.proofs.RangeLaws.{calendar-is, is-calendar, each-fits, constant-is}
+use Rattle.ranges.specs.Ranges.{limitOf, constantsFitTo, constantsFit, calendarFits}
+use Rattle.ranges.specs.Five.{fiveFit}
+use Rattle.ranges.proofs.RangeLaws.{calendar-is, is-calendar, not-both, fits-five, each-fits, constant-is}
 use Rattle.calendar.specs.Calendar.{placeOf, constantsAt, zeroKWithin, someZeroK, ZeroK, nextCalendar}
+use Rattle.calendar.specs.Serve.{serveTo, fiveServe}
 
 -- ---- the calendar
 -- the month after any is one of the twelve
@@ -64,12 +65,8 @@ either : (t u : Bool) → (t || u) ≡ true → (t ≡ true) ⊎ (u ≡ true)
 either true u h = inl refl
 either false u h = inr h
 
-abs-zero : (x : ℤ) → natAbs x ≡ 0 → x ≡ pos 0
-abs-zero (pos n) e = ap pos e
-abs-zero (negsuc n) e = absurd (omega arith)
-
 module _ (l : List ℤ) where
-  pub none-yet : zeroKWithin l 0 ≡ false
+  none-yet : zeroKWithin l 0 ≡ false
   unfolding zeroKWithin
   none-yet = refl
 
@@ -82,9 +79,6 @@ module _ (l : List ℤ) where
   unfolding constantsAt
   k-at m = let e : suc m - 1 ≡ m = omega arith in rw e refl
 
-  pub not-yet : (m : ℕ) → zeroKWithin l m ≡ false → (getD l (manyOfAMonth * m + 4) (pos 0) ≡ pos 0 → ⊥) → zeroKWithin l (m + 1) ≡ false
-  not-yet m p q = simp add-one (next-month m ∙ rw (p, ne-eqb (constantsAt l (suc m) .k) 0 (λ e. q (abs-zero _ (sym (k-at m) ∙ e)))))
-
   -- one is enough
   within : (m n : ℕ) → m < n → constantsAt l (suc m) .k ≡ 0 → zeroKWithin l n ≡ true
   within m zero h e = absurd (not-suc-le-zero h)
@@ -93,9 +87,6 @@ module _ (l : List ℤ) where
       (λ (b : m ≡ n). next-month n ∙ rw (sym b, eq-eqb (constantsAt l (suc m) .k) 0 e) (or-true (zeroKWithin l m)))
       (λ (b : m < n). next-month n ∙ rw (within m n b e))
       (eq-or-lt-of-le (le-of-suc-le-suc h))
-
-  pub found-zero : (m : ℕ) → m < lastMonth → getD l (manyOfAMonth * m + 4) (pos 0) ≡ pos 0 → someZeroK l ≡ true
-  found-zero m h e = within m lastMonth h (k-at m ∙ ap natAbs e)
 
   -- and there is one where the test finds it
   which : (n : ℕ) → n ≤ lastMonth → zeroKWithin l n ≡ true → ZeroK l
@@ -120,3 +111,22 @@ module _ (l : List ℤ) where
   no-zero-k-exactly =
       let x = zero-k-exactly in
       (λ f z. false≢true (sym f ∙ x .1 z), λ n. if-so (someZeroK l) (λ t. absurd (n (x .0 t))) (λ f. f))
+
+-- ---- constants that serve: in range, and no K of 0
+-- both tests of the months before, and both of the next
+by-pairs : (a f z k : Bool) → (a && f && not (z || k)) ≡ ((a && not z) && (f && not k))
+by-pairs true f true k = and-false f
+by-pairs true f false k = refl
+by-pairs false f z k = refl
+
+module _ (l : List ℤ) (i : ℕ) (h : i % manyOfAMonth ≡ 0) where
+  -- a month's five more
+  five-more : serveTo l (i + manyOfAMonth) ≡ (serveTo l i && fiveServe l i)
+  five-more =
+      let m : (i + manyOfAMonth) / manyOfAMonth ≡ suc (i / manyOfAMonth) = omega arith in
+      let p : manyOfAMonth * (i / manyOfAMonth) ≡ i = omega arith in
+      rw (m, next-month l (i / manyOfAMonth), k-at l (i / manyOfAMonth), p, fits-five l i) (by-pairs (constantsFitTo l i) (fiveFit l i) (zeroKWithin l (i / manyOfAMonth)) (eqb (natAbs (getD l (i + 4) (pos 0))) 0))
+
+  -- they do not serve where those before them or the five do not
+  pub bad-on : {b f : Bool} → b ≡ not (serveTo l i) → f ≡ not (fiveServe l i) → (b || f) ≡ not (serveTo l (i + manyOfAMonth))
+  bad-on p q = rw (p, q, five-more) (sym (not-both (serveTo l i) (fiveServe l i)))

@@ -2,3 +2,5 @@
 -- stand (Worked).
 pub mod Calendar
 pub mod Worked
+-- What only a proof wants: constants that serve (Serve).
+pub mod Serve

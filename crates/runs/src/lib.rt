@@ -132,10 +132,7 @@ pub fn is_run(long: usize, at: Progress, constants: &[i32; MANY_CONSTANTS]) -> b
     if at.opens > at.months {
         return false;
     }
-    if !ranges::constants_fit(constants) {
-        return false;
-    }
-    if calendar::some_zero_k(constants) {
+    if !calendar::constants_serve(constants) {
         return false;
     }
     let soil = at.soil;

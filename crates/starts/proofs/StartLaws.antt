@@ -6,12 +6,13 @@ use mathlib.Core.Logic.{_↔_}
 use mathlib.Core.List.{List}
 use Prim.Native.Nat.{ℕ, suc, _≤_}
 use native.Mathlib.Omega.{arith}
-use borrow.Author.Tests.{eq-eqb, ne-eqb, eqb-true, eqb-false}
+use borrow.Author.Tests.{eq-eqb, ne-eqb, eqb-true, eqb-false, not-false}
 use lib.Dec.{eqb}
 use lib.IntN.{ℤ, pos, natAbs}
 use lib.ListN.{length}
 use lib.Signed.{leZ, _≤ℤ_}
 use Rattle.outline.specs.Numbers.{manyConstants, lastMonth}
+use Rattle.outline.specs.Refusals.{badConstant, zeroK}
 use Rattle.outline.proofs.Tests.{if-so, first, second}
 use Rattle.outline.proofs.Refusals.{is-refused}
 use Rattle.exact.proofs.Z.{zs-abs, is-Z}
@@ -77,6 +78,10 @@ module _ (cs : List ℤ) (c ss su m : ℤ) where
   pub refused-21 : length cs ≡ manyConstants → constantsFit cs ≡ true → someZeroK cs ≡ true → startRefusal cs c ss su m ≡ 21
   unfolding startRefusal
   refused-21 l f h = rw (eq-eqb (length cs) manyConstants l, f, h)
+
+  -- so where they do not serve: the first of the two
+  pub refused-constants : length cs ≡ manyConstants → (constantsFit cs && not (someZeroK cs)) ≡ false → startRefusal cs c ss su m ≡ cond (constantsFit cs) zeroK badConstant
+  refused-constants l h = if-so (constantsFit cs) (λ f. rw f (refused-21 l f (not-false (someZeroK cs) (rw f at h)))) (λ f. rw f (refused-3 l f))
 
   -- the tests of the constants are passed
   module _ (t : ConstantsTaken cs) where

@@ -13,9 +13,12 @@ use runs::Run;
 use spells::Running;
 use water::Soil;
 ghost use mathlib.Core.Path.{_≡_};
-ghost use mathlib.Core.Bool.{true};
+ghost use mathlib.Core.Bool.{true, cond};
+ghost use Prim.Native.Nat.{_≤_};
 ghost use lib.ListN.{length};
 ghost use Rattle.outline.specs.Numbers.{manyConstants};
+ghost use Rattle.outline.specs.Refusals.{badConstant, zeroK};
+ghost use Rattle.ranges.specs.Ranges.{constantsFit};
 ghost use Rattle.starts.specs.Start.{capacityFits, storagesFit, monthFits, startRefusal, zeroRun, startOf};
 
 #[repr(C)]
@@ -47,23 +50,36 @@ fn month_fits(m: i32) -> bool
     ranges::signed_between(1, m, LAST_MONTH)
 }
 
-// The number of a start's refusal, or 0: decided here, in the paper's order, with 21 after 3.
-fn start_refusal(constants: &[i32], c: i32, ss: i32, su: i32, m: i32) -> u8
-    ensures { λ r. ⌜ r ≡ startRefusal (now (constants .entry)) c ss su m ⌝ }
+// The number of sixty constants that do not serve: 3, or else 21.
+fn constants_refusal(c: &[i32]) -> u8
+    requires { ⌜ manyConstants ≤ length (now c) ⌝ }
+    ensures { λ r. ⌜ r ≡ cond (constantsFit (now (c .entry))) zeroK badConstant ⌝ }
 {
-    if constants.len() != MANY_CONSTANTS {
-        return NOT_SIXTY;
+    if ranges::constants_fit(c) {
+        ZERO_K
+    } else {
+        BAD_CONSTANT
     }
-    let constants_in = ranges::constants_fit(constants);
-    let zero_k = calendar::some_zero_k(constants);
-    let capacity_in = capacity_fits(c);
-    if !constants_in {
-        return BAD_CONSTANT;
+}
+
+// The number of a start's refusal, or 0, where sixty constants are given: decided here, in the paper's order, with 21
+// after 3. Whether they serve is asked of the copy, and why not of what was given, so that the copy is read once and
+// stays in registers.
+fn start_refusal(
+    given: &[i32],
+    kept: &[i32; MANY_CONSTANTS],
+    c: i32,
+    ss: i32,
+    su: i32,
+    m: i32,
+) -> u8
+    requires { ⌜ (length (now given) ≡ manyConstants) × (now kept ≡ now given) ⌝ }
+    ensures { λ r. ⌜ r ≡ startRefusal (now (given .entry)) c ss su m ⌝ }
+{
+    if !calendar::constants_serve(kept) {
+        return constants_refusal(given);
     }
-    if zero_k {
-        return ZERO_K;
-    }
-    if !capacity_in {
+    if !capacity_fits(c) {
         return BAD_CAPACITY;
     }
     if !storages_fit(c, ss, su) {
@@ -118,12 +134,19 @@ fn zero_run() -> Run
 pub fn start(constants: &[i32], capacity: i32, surface: i32, underlying: i32, month: i32) -> Started
     ensures { λ r. ⌜ r ≡ startOf (now (constants .entry)) capacity surface underlying month ⌝ }
 {
-    let number = start_refusal(constants, capacity, surface, underlying, month);
+    if constants.len() != MANY_CONSTANTS {
+        let run = zero_run();
+        return Started {
+            number: NOT_SIXTY,
+            run,
+        };
+    }
+    let kept = copied(constants);
+    let number = start_refusal(constants, &kept, capacity, surface, underlying, month);
     if number != 0 {
         let run = zero_run();
         return Started { number, run };
     }
-    let kept = copied(constants);
     let soil = Soil {
         capacity: capacity as u32,
         surface: surface as u32,

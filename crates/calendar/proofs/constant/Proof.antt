@@ -14,8 +14,8 @@ use Rattle.calendar.proofs.constant.Tie as tie
 mul-x : tie.Need-mul-x
 mul-x c = omega arith
 
-shared-slice-copy-out-x : tie.Need-shared-slice-copy-out-x
-shared-slice-copy-out-x c = omega arith
+element-copy-out-x : tie.Need-element-copy-out-x
+element-copy-out-x c = omega arith
 
 cast-result : tie.Need-cast-result
 cast-result c =
@@ -23,7 +23,7 @@ cast-result c =
     let l = s .args .c .now in
     let i = s .args .i in
     let f : SFits w32 (getD l i (pos 0)) = search held in
-    simp toZ-ofZ (countable (getD l i (pos 0)) (constant-is l i (each-fits l i manyConstants (s .pre .2) (s .pre .1)) .0) f)
+    simp toZ-ofZ (countable (getD l i (pos 0)) (constant-is l i (each-fits l i manyConstants (s .pre .1) (s .pre .0)) .0) f)
 
 returns : tie.Need-returns
 returns c =
@@ -32,4 +32,4 @@ returns c =
     simp toZ-ofZ
 
 pub constant-spec : {M : Type 1} → statement M
-constant-spec = tie.close (tie.spec mul-x shared-slice-copy-out-x cast-result returns)
+constant-spec = tie.close (tie.spec mul-x element-copy-out-x cast-result returns)

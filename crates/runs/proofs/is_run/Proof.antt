@@ -1,6 +1,6 @@
--- `runs::is_run` meets its contract: the definition's nine tests in turn. `past-3` is the chain of the first three; where a test is
--- passed, the chain up to it is true. Assumes nothing.
-use mathlib.Core.Path.{_≡_, sym, _∙_}
+-- `runs::is_run` meets its contract: the definition's nine tests in turn, the two of the constants at once. `past-3` is the chain up to
+-- these; where a test is passed, the chain up to it is true. Assumes nothing.
+use mathlib.Core.Path.{_≡_}
 use mathlib.Core.Bool.{Bool, true, not, _&&_}
 use Prim.Native.Nat.{ℕ}
 use borrow.Author.Needs.{needs}
@@ -24,19 +24,16 @@ module _ (long : ℕ) (r : Run) where
   past-2 = past-1 && leb (r .opens) (r .months)
 
   abbrev past-3 : Bool
-  past-3 = past-2 && constantsFit (r .constants)
+  past-3 = past-2 && constantsFit (r .constants) && not (someZeroK (r .constants))
 
   abbrev past-4 : Bool
-  past-4 = past-3 && not (someZeroK (r .constants))
+  past-4 = past-3 && soilFits (r .soil)
 
   abbrev past-5 : Bool
-  past-5 = past-4 && soilFits (r .soil)
+  past-5 = past-4 && calendarFits (r .calendar)
 
   abbrev past-6 : Bool
-  past-6 = past-5 && calendarFits (r .calendar)
-
-  abbrev past-7 : Bool
-  past-7 = past-6 && sizesFit (r .values)
+  past-6 = past-5 && sizesFit (r .values)
 
 -- the run that is asked about
 abbrev given : tie.Start → Run
@@ -50,19 +47,16 @@ abbrev at-2 : tie.Else2 → tie.Start
 at-2 c = at-1 (c .before .before)
 
 abbrev at-3 : tie.Else3 → tie.Start
-at-3 c = at-2 (c .before .before .before)
+at-3 c = at-2 (c .before .before)
 
 abbrev at-4 : tie.Else4 → tie.Start
 at-4 c = at-3 (c .before .before .before)
 
 abbrev at-5 : tie.Else5 → tie.Start
-at-5 c = at-4 (c .before .before .before)
+at-5 c = at-4 (c .before .before)
 
 abbrev at-6 : tie.Else6 → tie.Start
-at-6 c = at-5 (c .before .before)
-
-abbrev at-7 : tie.Else7 → tie.Start
-at-7 c = at-6 (c .before .before .before)
+at-6 c = at-5 (c .before .before .before)
 
 cast-if1 : tie.Need-cast-if1
 cast-if1 c = search needs
@@ -84,69 +78,59 @@ returns-2 c =
 opens : (c : tie.Else2) → past-2 (at-2 c .args .long) (given (at-2 c)) ≡ true
 opens c = both (months (c .before .before)) (le-leb _ _ (c .if2 .left))
 
-constants-fit-requires : tie.Need-constants-fit-requires
-constants-fit-requires c κs = search needs
+constants-serve-requires : tie.Need-constants-serve-requires
+constants-serve-requires c κs = search needs
 
 returns-3 : tie.Need-returns-3
 unfolding isRun
-returns-3 c = rw (opens (c .before .before .before), fails (c .before .constants-fit .ensures) (c .if3 .taken))
+returns-3 c = rw (opens (c .before .before), fails (c .before .constants-serve .ensures) (c .if3 .taken))
 
 constants : (c : tie.Else3) → past-3 (at-3 c .args .long) (given (at-3 c)) ≡ true
-constants c = both (opens (c .before .before .before)) (passes (c .before .constants-fit .ensures) (c .if3 .left))
-
-some-zero-k-requires : tie.Need-some-zero-k-requires
-some-zero-k-requires c κs = search needs
-
-returns-4 : tie.Need-returns-4
-unfolding isRun
-returns-4 c = rw (constants (c .before .before .before), sym (c .before .some-zero-k .ensures) ∙ c .if4 .taken)
-
-all-count : (c : tie.Else4) → past-4 (at-4 c .args .long) (given (at-4 c)) ≡ true
-all-count c = both (constants (c .before .before .before)) (rw (sym (c .before .some-zero-k .ensures) ∙ c .if4 .left))
+constants c = rw (opens (c .before .before)) (passes (c .before .constants-serve .ensures) (c .if3 .left))
 
 soil-fits-requires : tie.Need-soil-fits-requires
 soil-fits-requires c κs = search needs
 
-returns-5 : tie.Need-returns-5
+returns-4 : tie.Need-returns-4
 unfolding isRun
-returns-5 c = rw (all-count (c .before .before .before), fails (c .before .soil-fits .ensures) (c .if5 .taken))
+returns-4 c = rw (constants (c .before .before .before), fails (c .before .soil-fits .ensures) (c .if4 .taken))
 
-soil : (c : tie.Else5) → past-5 (at-5 c .args .long) (given (at-5 c)) ≡ true
-soil c = both (all-count (c .before .before .before)) (passes (c .before .soil-fits .ensures) (c .if5 .left))
+soil : (c : tie.Else4) → past-4 (at-4 c .args .long) (given (at-4 c)) ≡ true
+soil c = both (constants (c .before .before .before)) (passes (c .before .soil-fits .ensures) (c .if4 .left))
 
 calendar-fits-requires : tie.Need-calendar-fits-requires
 calendar-fits-requires c κs = search needs
 
-returns-6 : tie.Need-returns-6
+returns-5 : tie.Need-returns-5
 unfolding isRun
-returns-6 c = rw (soil (c .before .before), fails (c .before .calendar-fits .ensures) (c .if6 .taken))
+returns-5 c = rw (soil (c .before .before), fails (c .before .calendar-fits .ensures) (c .if5 .taken))
 
-calendar : (c : tie.Else6) → past-6 (at-6 c .args .long) (given (at-6 c)) ≡ true
-calendar c = both (soil (c .before .before)) (passes (c .before .calendar-fits .ensures) (c .if6 .left))
+calendar : (c : tie.Else5) → past-5 (at-5 c .args .long) (given (at-5 c)) ≡ true
+calendar c = both (soil (c .before .before)) (passes (c .before .calendar-fits .ensures) (c .if5 .left))
 
 sizes-fit-requires : tie.Need-sizes-fit-requires
 sizes-fit-requires c κs = search needs
 
-returns-7 : tie.Need-returns-7
+returns-6 : tie.Need-returns-6
 unfolding isRun
-returns-7 c = rw (calendar (c .before .before .before), fails (c .before .sizes-fit .ensures) (c .if7 .taken))
+returns-6 c = rw (calendar (c .before .before .before), fails (c .before .sizes-fit .ensures) (c .if6 .taken))
 
-sizes : (c : tie.Else7) → past-7 (at-7 c .args .long) (given (at-7 c)) ≡ true
-sizes c = both (calendar (c .before .before .before)) (passes (c .before .sizes-fit .ensures) (c .if7 .left))
+sizes : (c : tie.Else6) → past-6 (at-6 c .args .long) (given (at-6 c)) ≡ true
+sizes c = both (calendar (c .before .before .before)) (passes (c .before .sizes-fit .ensures) (c .if6 .left))
 
 signs-fit-requires : tie.Need-signs-fit-requires
 signs-fit-requires c κs = search needs
 
-returns-8 : tie.Need-returns-8
+returns-7 : tie.Need-returns-7
 unfolding isRun
-returns-8 c = rw (sizes (c .before .before), fails (c .before .signs-fit .ensures) (c .if8 .taken))
+returns-7 c = rw (sizes (c .before .before), fails (c .before .signs-fit .ensures) (c .if7 .taken))
 
 v-fits-requires : tie.Need-v-fits-requires
 v-fits-requires c κs = search needs
 
-returns-9 : tie.Need-returns-9
+returns-8 : tie.Need-returns-8
 unfolding isRun
-returns-9 c = rw (sizes (c .before .before .before), passes (c .before .before .signs-fit .ensures) (c .before .if8 .left)) (c .v-fits .ensures)
+returns-8 c = rw (sizes (c .before .before .before), passes (c .before .before .signs-fit .ensures) (c .before .if7 .left)) (c .v-fits .ensures)
 
 pub is-run-spec : {M : Type 1} → statement M
 is-run-spec =
@@ -155,17 +139,15 @@ is-run-spec =
     cast-if1
     returns
     returns-2
-    constants-fit-requires
+    constants-serve-requires
     returns-3
-    some-zero-k-requires
-    returns-4
     soil-fits-requires
-    returns-5
+    returns-4
     calendar-fits-requires
-    returns-6
+    returns-5
     sizes-fit-requires
-    returns-7
+    returns-6
     signs-fit-requires
-    returns-8
+    returns-7
     v-fits-requires
-    returns-9)
+    returns-8)
