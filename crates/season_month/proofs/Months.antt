@@ -1,7 +1,7 @@
 -- A month of the lists as a single add: what a list's -1 says, and the refusals that are left once 1 and 7 have been asked for. Assumes nothing.
 use mathlib.Core.Logic.{inl, inr}
 use mathlib.Core.Path.{_≡_, refl, sym, ap, _∙_}
-use mathlib.Core.List.{[], _∷_}
+use mathlib.Core.List.{List, [], _∷_}
 use Prim.Native.Nat.{ℕ, zero, suc}
 use native.Mathlib.Omega.{arith}
 use lib.IntN.{ℤ, pos, negsuc}
@@ -16,13 +16,16 @@ use Rattle.door.specs.declared.Reading.{Reading}
 use Rattle.door.specs.declared.Reading.the-variants.{Whole, Missing}
 use Rattle.outline.specs.Refusals.{orElse}
 use Rattle.outline.proofs.Refusals.{or-second}
+use Rattle.runs.specs.Progress.{runOf}
+use Rattle.runs.specs.declared.Progress.{Progress}
 use Rattle.runs.specs.declared.Run.{Run}
 use Rattle.refusals.specs.Columns.{Columns, long}
 use Rattle.refusals.specs.Good.{Good}
 use Rattle.refusals.specs.Refusals.{runRefusal, roomRefusal, waterRefusal}
 use Rattle.refusals.proofs.Refused.{good-passes}
-use Rattle.adding.specs.Taken.{Result, result, refusal, takenWater}
-use Rattle.adding.specs.declared.Added.{Added}
+use Rattle.adding.specs.Taken.{Result, result, takenWater}
+use Rattle.adding.specs.Progress.{addedOf, notAdded}
+use Rattle.adding.specs.declared.MonthAdded.{MonthAdded}
 use Rattle.adding.proofs.Answered.{refuses, accepts}
 use Rattle.drought.specs.Calls.{addOutcomes, addWater}
 use Rattle.season_month.specs.Listed.{listed}
@@ -45,7 +48,10 @@ not-water (Water n) t e = elim t [ inl h ↦ omega arith | inr h ↦ omega arith
 not-water NoReading t e = omega arith
 not-water NotAcceptable t e = omega arith
 
-module _ (r : Run) (p pe : Reading) (cs : Columns) (g : Good r cs) where
+module _ (at : Progress) (ks : List ℤ) (p pe : Reading) (cs : Columns) (g : Good (runOf at ks) cs) where
+  abbrev pub r : Run
+  r = runOf at ks
+
   -- what is then asked: "precipitation 8 or 9, PE 8 or 9, 10"
   abbrev pub number : ℕ
   number = orElse (reading p .number) (orElse (reading pe .number) (roomRefusal (long cs) (r .months)))
@@ -60,9 +66,9 @@ module _ (r : Run) (p pe : Reading) (cs : Columns) (g : Good r cs) where
   abbrev pub done : Result
   done = takenWater r (reading p .water) (reading pe .water) cs
 
-  pub refused-as : (k : ℕ) → k ≡ number → (k ≡ 0 → ⊥) → (a : Added) → a ≡ refusal k r → result a cs ≡ addWater r p pe cs
+  pub refused-as : (k : ℕ) → k ≡ number → (k ≡ 0 → ⊥) → (t : MonthAdded) → t ≡ notAdded k at → result (addedOf t ks) cs ≡ addWater r p pe cs
   unfolding addWater addOutcomes
-  refused-as k e h a f = refuses k all r cs done (e ∙ number-is) a h f
+  refused-as k e h t f = refuses k all r cs done (e ∙ number-is) (addedOf t ks) h (ap (λ (u : MonthAdded). addedOf u ks) f)
 
   pub accepted-as : number ≡ 0 → (b : Result) → b ≡ done → b ≡ addWater r p pe cs
   unfolding addWater addOutcomes

@@ -11,20 +11,15 @@ ghost use Rattle.refusals.specs.Columns.{columns};
 ghost use Rattle.refusals.specs.Good.{Good};
 ghost use Rattle.runs.specs.Progress.{runOf};
 ghost use Rattle.adding.specs.Taken.{result};
+ghost use Rattle.adding.specs.Progress.{addedOf};
 ghost use Rattle.drought.specs.Calls.{addWater};
 ghost use Rattle.season_month.specs.Listed.{listed};
-ghost use Rattle.season_month.specs.Single.{numberOf, singleOf};
-
-// What the single add of a month gives, without the run's constants.
-pub enum Single {
-    Added(MonthAdded),
-    Refused(u8),
-}
 
 // A month of no reading in a list.
 const MISSING_MONTH: i32 = -1;
 
-// The single add of a month of the lists, to columns and a run that have been asked for 1 and 7.
+// The single add of a month of the lists, to columns and a run that have been asked for 1 and 7. The month's work stands
+// here as in `adding::add_measured`, so that it is compiled within the season's loop: called from two places it is not.
 pub fn add_listed(
     at: Progress,
     constants: &[i32; MANY_CONSTANTS],
@@ -35,24 +30,28 @@ pub fn add_listed(
     x3: &mut [i32],
     index: &mut [i32],
     mark: &mut [u8],
-) -> Single
+) -> MonthAdded
     requires { ⌜ Good (runOf at (now constants)) (columns (now x1) (now x2) (now x3) (now index) (now mark)) ⌝ }
-    ensures { λ a. ⌜ result (singleOf a (runOf at (now (constants .entry)))) (columns (now (x1 .exit)) (now (x2 .exit)) (now (x3 .exit)) (now (index .exit)) (now (mark .exit))) ≡ addWater (runOf at (now (constants .entry))) (listed p) (listed pe) (columns (now (x1 .entry)) (now (x2 .entry)) (now (x3 .entry)) (now (index .entry)) (now (mark .entry))) ⌝ }
+    ensures { λ t. ⌜ result (addedOf t (now (constants .entry))) (columns (now (x1 .exit)) (now (x2 .exit)) (now (x3 .exit)) (now (index .exit)) (now (mark .exit))) ≡ addWater (runOf at (now (constants .entry))) (listed p) (listed pe) (columns (now (x1 .entry)) (now (x2 .entry)) (now (x3 .entry)) (now (index .entry)) (now (mark .entry))) ⌝ }
 {
     let first = door::read(reading_of(p));
     let Answer::Water(measured) = first else {
-        return Single::Refused(door::number(first));
+        return adding::refuse(door::number(first), at);
     };
     let second = door::read(reading_of(pe));
     let Answer::Water(potential) = second else {
-        return Single::Refused(door::number(second));
+        return adding::refuse(door::number(second), at);
     };
     let full = refusals::room_refusal(x1.len(), at.months);
     if full != 0 {
-        return Single::Refused(full);
+        return adding::refuse(full, at);
     }
-    let m = adding::add_measured(at, constants, measured, potential, x1, x2, x3, index, mark);
-    Single::Added(m)
+    let soil = at.soil;
+    let values = at.values;
+    let k = calendar::constants_at(constants, at.calendar);
+    let m = water::month_of(soil, measured, potential, k);
+    let s = adding::add_spells(at.months, at.opens, values, m.z, x1, x2, x3, index, mark);
+    adding::watered(at, measured, potential, m, s)
 }
 
 // A month of a list as a reading.
@@ -63,14 +62,4 @@ fn reading_of(n: i32) -> Reading
         return Reading::Missing;
     }
     Reading::Whole(n)
-}
-
-// The number of what a single add gives.
-pub fn number_of(a: Single) -> u8
-    ensures { λ r. ⌜ r ≡ numberOf a ⌝ }
-{
-    match a {
-        Single::Added(_) => 0,
-        Single::Refused(number) => number,
-    }
 }

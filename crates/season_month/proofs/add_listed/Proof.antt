@@ -1,12 +1,13 @@
--- `season_month::add_listed` meets its contract: each reading is refused or its water taken, and then it refuses for want of room or adds. Assumes
--- nothing.
-use mathlib.Core.Path.{_≡_, refl, sym, ap, _∙_}
-use Prim.Native.Nat.{_<_}
+-- `season_month::add_listed` meets its contract: each reading is refused or its water taken, and then it refuses for want of room or adds the
+-- run's month of water. Assumes nothing.
+use mathlib.Core.Path.{_≡_, sym, ap, _∙_}
+use Prim.Native.Nat.{ℕ, _≤_}
+use native.Mathlib.Omega.{arith}
 use borrow.Author.Needs.{needs}
 use mir.Facts.{toZ-ofZ}
 use denote.Ref.{now}
 use Rattle.door.specs.Outcome.{Outcome, outcome, accepted}
-use Rattle.door.specs.Readings.{reading}
+use Rattle.door.specs.Readings.{reading, mostReading}
 use Rattle.door.proofs.Bounds.{reading-most}
 use Rattle.runs.specs.declared.Run.{Run}
 use Rattle.refusals.specs.Columns.{Columns, columns, long}
@@ -15,7 +16,11 @@ use Rattle.refusals.specs.Refusals.{roomRefusal}
 use Rattle.outline.specs.Refusals.{orElse}
 use Rattle.refusals.proofs.Refused.{room-passes}
 use Rattle.outline.proofs.Refusals.{or-first, or-second}
+use Rattle.adding.specs.Taken.{result}
+use Rattle.adding.specs.Progress.{addedOf}
+use Rattle.adding.specs.Ready.{Ready, Watered}
 use Rattle.adding.proofs.Readiness.{ready, watered}
+use Rattle.adding.proofs.Measured.{Measured, fit, measured, measured-is}
 use Rattle.season_month.specs.Listed.{listed}
 use Rattle.season_month.proofs.Months.{not-water, refused-as, accepted-as}
 use Rattle.season_month.proofs.add_listed.Statement.{statement}
@@ -58,8 +63,11 @@ second-water : (k : tie.After-second) → reading (listed (k .before .before .be
 second-water k = sym (second-is (k .before .before)) ∙ ap outcome (k .second .given .1)
 
 -- with two amounts of water room is asked for
+abbrev asked : tie.After-room-refusal → tie.Start
+asked c = c .before .before .before .before .before .before .before .before .before .before .before .before
+
 room-is : (c : tie.After-room-refusal)
-    → let s = c .before .before .before .before .before .before .before .before .before .before .before .before in
+    → let s = asked c in
     orElse (reading (listed (s .args .p)) .number) (orElse (reading (listed (s .args .pe)) .number) (roomRefusal (long (lent s)) (given s .months))) ≡ c .room-refusal .result
 room-is c = rw (first-water (c .before .before .before .before .before .before .before), second-water (c .before .before)) (sym (c .room-refusal .ensures))
 
@@ -75,11 +83,15 @@ enum-known-first c = search needs
 number-requires : tie.Need-number-requires
 number-requires c κs = search needs
 
+refuse-requires : tie.Need-refuse-requires
+refuse-requires c κs = search needs
+
 returns : tie.Need-returns
-returns n =
+returns c =
+    let n = c .before in
     let s = n .before .before .before .before .before in
     let e = first-refused n in
-    refused-as (given s) (listed (s .args .p)) (listed (s .args .pe)) (lent s) (s .pre) (n .number .result) (e ∙ sym (or-first _ _ (λ z. first-no n (e ∙ z)))) (first-no n) _ refl
+    refused-as (s .args .at) (now (s .args .constants)) (listed (s .args .p)) (listed (s .args .pe)) (lent s) (s .pre) (n .number .result) (e ∙ sym (or-first _ _ (λ z. first-no n (e ∙ z)))) (first-no n) (c .refuse .result) (c .refuse .ensures)
 
 reading-of-requires-2 : tie.Need-reading-of-requires-2
 reading-of-requires-2 c κs = search needs
@@ -93,33 +105,96 @@ enum-known-second c = search needs
 number-requires-2 : tie.Need-number-requires-2
 number-requires-2 c κs = search needs
 
+refuse-requires-2 : tie.Need-refuse-requires-2
+refuse-requires-2 c κs = search needs
+
 returns-2 : tie.Need-returns-2
-returns-2 n =
+returns-2 c =
+    let n = c .before in
     let k = n .before .before .before .before in
     let s = k .before .before .before .before .before .before in
     let e = second-refused n in
     let z = ap (λ (o : Outcome). o .number) (first-water (k .before)) in
-    refused-as (given s) (listed (s .args .p)) (listed (s .args .pe)) (lent s) (s .pre) (n .number2 .result) (e ∙ sym (or-first _ _ (λ z. second-no n (e ∙ z))) ∙ sym (or-second _ _ z)) (second-no n) _ refl
+    refused-as (s .args .at) (now (s .args .constants)) (listed (s .args .p)) (listed (s .args .pe)) (lent s) (s .pre) (n .number2 .result) (e ∙ sym (or-first _ _ (λ z. second-no n (e ∙ z))) ∙ sym (or-second _ _ z)) (second-no n) (c .refuse2 .result) (c .refuse2 .ensures)
 
 room-refusal-requires : tie.Need-room-refusal-requires
 room-refusal-requires c κs = search needs
 
+refuse-requires-3 : tie.Need-refuse-requires-3
+refuse-requires-3 c κs = search needs
+
 returns-3 : tie.Need-returns-3
 returns-3 c =
-    let d = c .before in
-    let s = d .before .before .before .before .before .before .before .before .before .before .before .before in
-    refused-as (given s) (listed (s .args .p)) (listed (s .args .pe)) (lent s) (s .pre) (d .room-refusal .result) (sym (room-is d)) (c .if1 .taken) _ refl
+    let d = c .before .before in
+    let s = asked d in
+    refused-as (s .args .at) (now (s .args .constants)) (listed (s .args .p)) (listed (s .args .pe)) (lent s) (s .pre) (d .room-refusal .result) (sym (room-is d)) (c .before .if1 .taken) (c .refuse3 .result) (c .refuse3 .ensures)
 
-add-measured-requires : tie.Need-add-measured-requires
-add-measured-requires c κs =
-    let e = c .before .before .before .before .before in
-    let k = e .before .before in
-    let s = k .before .before .before .before .before .before .before .before .before .before .before in
-    let g = s .pre in
-    let m : given s .months < long (lent s) = room-passes (long (lent s)) (given s .months) (sym (e .before .room-refusal .ensures) ∙ e .if1 .left) in
-    let p = ap (λ (o : Outcome). o .water) (first-water (k .before .before .before .before .before .before)) in
-    let q = ap (λ (o : Outcome). o .water) (second-water (k .before)) in
-    (ready (given s) (lent s) g m, (watered (given s) (lent s) g, (rw p at (reading-most (listed (s .args .p))), rw q at (reading-most (listed (s .args .pe))))))
+-- ---- with nothing refused
+abbrev first : tie.Else1 → tie.After-first
+first e = e .before .before .before .before .before .before .before .before
+
+abbrev second : tie.Else1 → tie.After-second
+second e = e .before .before .before
+
+-- the two amounts of water, and that they are readings
+abbrev p-of : tie.Else1 → ℕ
+p-of e = first e .first .given .0 .0
+
+abbrev pe-of : tie.Else1 → ℕ
+pe-of e = second e .second .given .0 .0
+
+waters : (e : tie.Else1) → (p-of e ≤ mostReading) × (pe-of e ≤ mostReading)
+waters e =
+    let a = asked (e .before) .args in
+    let p = ap (λ (o : Outcome). o .water) (first-water (first e)) in
+    let q = ap (λ (o : Outcome). o .water) (second-water (second e)) in
+    (rw p at (reading-most (listed (a .p))), rw q at (reading-most (listed (a .pe))))
+
+ready-is : (e : tie.Else1) → let s = asked (e .before) in Ready (s .args .at .months) (s .args .at .opens) (s .args .at .values) (lent s)
+ready-is e =
+    let s = asked (e .before) in
+    ready (given s) (lent s) (s .pre) (room-passes (long (lent s)) (given s .months) (sym (e .before .room-refusal .ensures) ∙ e .if1 .left))
+
+watered-is : (e : tie.Else1) → Watered (given (asked (e .before)))
+watered-is e = let s = asked (e .before) in watered (given s) (lent s) (s .pre)
+
+constants-at-requires : tie.Need-constants-at-requires
+constants-at-requires c κs =
+    let w = watered-is (c .before .before) in
+    search needs
+
+month-of-requires : tie.Need-month-of-requires
+month-of-requires c κs =
+    let e = c .before .before .before in
+    let a = asked (e .before) .args in
+    let w = watered-is e in
+    (w .soil, (waters e, fit (a .at) (now (a .constants)) (c .constants-at .result) (c .constants-at .ensures) w))
+
+abbrev spared : tie.After-month-of → tie.Else1
+spared c = c .before .before .before .before
+
+-- the month of water is the run's
+month-is : (c : tie.After-month-of) → let e = spared c in let a = asked (e .before) .args in Measured (a .at) (now (a .constants)) (p-of e) (pe-of e) (c .month-of .result)
+month-is c =
+    let e = spared c in
+    let a = asked (e .before) .args in
+    let k = c .before .constants-at in
+    measured (a .at) (now (a .constants)) (k .result) (k .ensures) (watered-is e) (p-of e) (pe-of e) (waters e) (c .month-of .result) (c .month-of .ensures)
+
+add-spells-requires : tie.Need-add-spells-requires
+add-spells-requires c κs =
+    let d = c .before .before .before .before .before .before in
+    let f = month-is d .fits in
+    (ready-is (spared d), simp toZ-ofZ (month-is d .bounded))
+
+abbrev made : tie.After-add-spells → tie.After-month-of
+made t = t .before .before .before .before .before .before .before
+
+watered-requires : tie.Need-watered-requires
+watered-requires c κs =
+    let e = spared (made (c .before .before .before .before .before .before)) in
+    let r = ready-is e in
+    (omega (arith, r .room, r .most), watered-is e .calendar)
 
 same-length : tie.Need-same-length
 same-length c = search needs
@@ -138,13 +213,18 @@ same-length-5 c = search needs
 
 returns-4 : tie.Need-returns-4
 returns-4 c =
-    let t = c .before .before .before .before .before .before in
-    let e = t .before .before .before .before .before .before in
-    let k = e .before .before in
-    let s = k .before .before .before .before .before .before .before .before .before .before .before in
-    let p = ap (λ (o : Outcome). o .water) (first-water (k .before .before .before .before .before .before)) in
-    let q = ap (λ (o : Outcome). o .water) (second-water (k .before)) in
-    accepted-as (given s) (listed (s .args .p)) (listed (s .args .pe)) (lent s) (s .pre) (room-is (e .before) ∙ e .if1 .left) _ (rw (p, q) (t .add-measured .ensures))
+    let t = c .before .before .before .before .before .before .before in
+    let d = made t in
+    let e = spared d in
+    let s = asked (e .before) in
+    let a = s .args in
+    let l = t .add-spells .last .1 .1 .1 .1 in
+    let ds = columns (l .0) (l .1 .0) (l .1 .1 .0) (l .1 .1 .1 .0) (l .1 .1 .1 .1 .0) in
+    let p = ap (λ (o : Outcome). o .water) (first-water (first e)) in
+    let q = ap (λ (o : Outcome). o .water) (second-water (second e)) in
+    accepted-as (a .at) (now (a .constants)) (listed (a .p)) (listed (a .pe)) (lent s) (s .pre) (room-is (e .before) ∙ e .if1 .left) (result (addedOf (c .watered .result) (now (a .constants))) ds)
+    (rw (p, q) (measured-is (a .at) (now (a .constants)) (p-of e) (pe-of e) (d .month-of .result) (month-is d) (lent s) ds (t .add-spells .result)
+    (rw (toZ-ofZ (month-is d .fits)) at (t .add-spells .ensures)) (c .watered .result) (c .watered .ensures)))
 
 pub add-listed-spec : {M : Type 1} → statement M
 add-listed-spec =
@@ -154,15 +234,21 @@ add-listed-spec =
     read-requires
     enum-known-first
     number-requires
+    refuse-requires
     returns
     reading-of-requires-2
     read-requires-2
     enum-known-second
     number-requires-2
+    refuse-requires-2
     returns-2
     room-refusal-requires
+    refuse-requires-3
     returns-3
-    add-measured-requires
+    constants-at-requires
+    month-of-requires
+    add-spells-requires
+    watered-requires
     same-length
     same-length-2
     same-length-3
