@@ -22,7 +22,7 @@ use Rattle.refusals.specs.Good.{Good}
 use Rattle.refusals.specs.Refusals.{waterRefusal}
 use Rattle.refusals.proofs.Refused.{columns-are}
 use Rattle.adding.specs.Figures.{waterFigures}
-use Rattle.adding.specs.Taken.{Result, result, refusal, taken, takenWater, soilAfter, waterOf, heldBy, answered}
+use Rattle.adding.specs.Taken.{Result, result, taken, takenWater, soilAfter, waterOf, heldBy, answered}
 use Rattle.adding.specs.declared.Added.{Added}
 use Rattle.adding.proofs.Taken.{counts-most}
 use Rattle.adding.proofs.Readiness.{run-is}
@@ -51,13 +51,6 @@ module _ (r : Run) (p pe : Reading) (cs : Columns) (h : addWater r p pe cs .answ
   counts-next =
       let t = took-water r cs (reading p) (reading pe) (reading-most p) (reading-most pe) h in
       rw (t .did) (refl, counts-most (heldBy r cs) (rowFor (stepOf (r .values) (waterOf r (reading p .water) (reading pe .water) .z))))
-
--- what hands back the run given added no month, so its number is a refusal's
-pub refused-not : (r : Run) (p pe : Reading) (cs ds : Columns) (k : ℕ) → result (refusal k r) ds ≡ addWater r p pe cs → k ≡ 0 → ⊥
-refused-not r p pe cs ds k e z =
-    let n = counts-next r p pe cs (sym (ap (λ (b : Result). b .answer .number) e) ∙ z) .0 in
-    let m = ap (λ (b : Result). b .answer .run .months) e in
-    omega (arith, n, m)
 
 -- a refused month leaves the columns as they were
 pub refused-leaves : (r : Run) (p pe : Reading) (cs : Columns) → (addWater r p pe cs .answer .number ≡ 0 → ⊥) → addWater r p pe cs .columns ≡ cs

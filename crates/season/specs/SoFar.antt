@@ -3,9 +3,9 @@
 use mathlib.Core.List.{List}
 use Prim.Native.Nat.{ℕ, _+_}
 use lib.IntN.{ℤ}
-use Rattle.runs.specs.declared.Run.{Run}
+use Rattle.runs.specs.declared.Progress.{Progress}
 use Rattle.adding.specs.Figures.{noFigures}
-use Rattle.runs.specs.Progress.{progressOf, runOf}
+use Rattle.runs.specs.Progress.{runOf}
 use Rattle.adding.specs.declared.MonthAdded.{MonthAdded}
 use Rattle.season.specs.declared.Season.{Season}
 use Rattle.season.specs.declared.SoFar.{SoFar}
@@ -14,8 +14,8 @@ use Rattle.season.specs.declared.SoFar.{SoFar}
 abbrev pub mostCount : ℕ
 mostCount = 4294967295
 
-abbrev pub begun : Run → SoFar
-begun r = record { added = 0; settled = 0; figures = noFigures; progress = progressOf r }
+abbrev pub begun : Progress → SoFar
+begun at = record { added = 0; settled = 0; figures = noFigures; progress = at }
 
 abbrev pub joinedBy : SoFar → MonthAdded → SoFar
 joinedBy s m = record { added = s .added + 1; settled = s .settled + m .settled; figures = m .figures; progress = m .progress }

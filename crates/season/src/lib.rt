@@ -6,11 +6,12 @@
 use adding::Figures;
 use adding::MonthAdded;
 use outline::BAD_LISTS;
+use outline::MANY_CONSTANTS;
 use runs::Progress;
 use runs::Run;
-use season_month::Single;
 ghost use mathlib.Core.Path.{_≡_};
 ghost use Prim.Native.Nat.{_+_, _≤_};
+ghost use Rattle.runs.specs.Progress.{runOf};
 ghost use Rattle.refusals.specs.Columns.{columns};
 ghost use Rattle.season.specs.Season.{seasonResult, seasonRefusal, addSeason};
 ghost use Rattle.season.specs.SoFar.{mostCount, begun, joinedBy, seasonOf};
@@ -47,29 +48,32 @@ pub fn add_season(
 ) -> Season
     ensures { λ s. ⌜ seasonResult s (columns (now (x1 .exit)) (now (x2 .exit)) (now (x3 .exit)) (now (index .exit)) (now (mark .exit))) ≡ addSeason run (now (p .entry)) (now (pe .entry)) (columns (now (x1 .entry)) (now (x2 .entry)) (now (x3 .entry)) (now (index .entry)) (now (mark .entry))) ⌝ }
 {
-    let number = season_refusal(run, p, pe, x1, x2, x3, index, mark);
-    let mut s = nothing_added(run);
+    let constants = run.constants;
+    let at = runs::progress_of(run);
+    let number = season_refusal(at, &constants, p, pe, x1, x2, x3, index, mark);
+    let mut s = nothing_added(at);
     if number != 0 {
-        return season_of(s, number, run);
+        return season_of(s, number, constants);
     }
     let mut i: usize = 0;
     while i < p.len() {
-        let at = s.progress;
+        let now = s.progress;
         let rain = p[i];
         let demand = pe[i];
-        let a = season_month::add_listed(at, &run.constants, rain, demand, x1, x2, x3, index, mark);
-        let Single::Added(m) = a else {
-            return season_of(s, season_month::number_of(a), run);
-        };
+        let m = season_month::add_listed(now, &constants, rain, demand, x1, x2, x3, index, mark);
+        if m.number != 0 {
+            return season_of(s, m.number, constants);
+        }
         s = joined_by(s, m);
         i += 1;
     }
-    season_of(s, 0, run)
+    season_of(s, 0, constants)
 }
 
 // 1 and 7, asked once, before the first month. 1 is also for two lists of unequal length.
 fn season_refusal(
-    run: Run,
+    at: Progress,
+    constants: &[i32; MANY_CONSTANTS],
     p: &[i32],
     pe: &[i32],
     x1: &[i32],
@@ -78,37 +82,34 @@ fn season_refusal(
     index: &[i32],
     mark: &[u8],
 ) -> u8
-    ensures { λ k. ⌜ k ≡ seasonRefusal run (now (p .entry)) (now (pe .entry)) (columns (now (x1 .entry)) (now (x2 .entry)) (now (x3 .entry)) (now (index .entry)) (now (mark .entry))) ⌝ }
+    ensures { λ k. ⌜ k ≡ seasonRefusal (runOf at (now (constants .entry))) (now (p .entry)) (now (pe .entry)) (columns (now (x1 .entry)) (now (x2 .entry)) (now (x3 .entry)) (now (index .entry)) (now (mark .entry))) ⌝ }
 {
     if p.len() != pe.len() {
         return BAD_LISTS;
     }
-    let at = runs::progress_of(run);
-    refusals::run_refusal(at, &run.constants, x1, x2, x3, index, mark)
+    refusals::run_refusal(at, constants, x1, x2, x3, index, mark)
 }
 
 // Before the first month.
-fn nothing_added(run: Run) -> SoFar
-    ensures { λ s. ⌜ s ≡ begun run ⌝ }
+fn nothing_added(at: Progress) -> SoFar
+    ensures { λ s. ⌜ s ≡ begun at ⌝ }
 {
-    let none = adding::refuse(0, run);
+    let none = adding::refuse(0, at);
     let figures = none.figures;
-    let progress = runs::progress_of(run);
     SoFar {
         added: 0,
         settled: 0,
         figures,
-        progress,
+        progress: at,
     }
 }
 
 // The season that stands so, ended by this number.
-fn season_of(s: SoFar, number: u8, run: Run) -> Season
-    ensures { λ r. ⌜ r ≡ seasonOf s number (run .constants) ⌝ }
+fn season_of(s: SoFar, number: u8, constants: [i32; MANY_CONSTANTS]) -> Season
+    ensures { λ r. ⌜ r ≡ seasonOf s number constants ⌝ }
 {
     let figures = s.figures;
     let progress = s.progress;
-    let constants = run.constants;
     let last = runs::run_of(progress, constants);
     Season {
         number,

@@ -3,7 +3,7 @@
 use mathlib.Core.Path.{_≡_, refl, sym, ap, _∙_}
 use mathlib.Core.Bool.{cond}
 use mathlib.Core.List.{List}
-use Prim.Native.Nat.{ℕ, suc, _+_, _-_, _≤_, _<_}
+use Prim.Native.Nat.{ℕ, suc, _+_, _-_, _*_, _≤_, _<_}
 use native.Mathlib.Omega.{arith}
 use borrow.Author.Needs.{needs}
 use borrow.Author.Tests.{eqb-true}
@@ -23,40 +23,47 @@ use Rattle.refusals.specs.Refusals.{runRefusal}
 use Rattle.refusals.proofs.Refused.{run-passes}
 use Rattle.adding.specs.Taken.{result}
 use Rattle.adding.specs.Progress.{addedOf}
-use Rattle.runs.specs.Progress.{runOf}
+use Rattle.runs.specs.Progress.{progressOf, runOf}
 use Rattle.adding.proofs.Readiness.{run-is}
-use Rattle.season_month.specs.Listed.{listed}
-use Rattle.season_month.specs.Single.{numberOf, singleOf}
-use Rattle.season_month.specs.declared.Single.{Single}
-use Rattle.season.specs.Season.{SeasonResult, seasonResult, single, addEach, seasonRefusal, addSeason}
-use Rattle.season.specs.SoFar.{seasonOf}
+use Rattle.season.specs.Season.{SeasonResult, seasonResult, nothing, single, addEach, seasonRefusal, addSeason}
+use Rattle.season.specs.SoFar.{begun, seasonOf}
 use Rattle.season.specs.declared.Season.{Season}
 use Rattle.season.specs.declared.SoFar.{SoFar}
-use Rattle.season.proofs.Steps.{most, SameLengths, lengths-then, ends, joins, breaks, refused-not, good-joined, counts-joined}
+use Rattle.season.proofs.Steps.{most, SameLengths, lengths-then, ends, joins, breaks, good-joined, counts-joined}
 use Rattle.season.proofs.add_season.Statement.{statement}
 use Rattle.season.proofs.add_season.Tie as tie
 
 abbrev Inv-loop : tie.InvT-loop
-Inv-loop p pe x1₀ x2₀ x3₀ index₀ mark₀ run number s₀ i₀ x1 x2 x3 index mark s i =
+Inv-loop p pe x1₀ x2₀ x3₀ index₀ mark₀ constants number s₀ i₀ x1 x2 x3 index mark s i =
     (i ≤ length p)
-    × (addEach (seasonResult (seasonOf s 0 (run .constants)) (columns x1 x2 x3 index mark)) (drop i p) (drop i pe) ≡ addEach (seasonResult (seasonOf s₀ 0 (run .constants)) (columns x1₀ x2₀ x3₀ index₀ mark₀)) p pe)
-    × Good (runOf (s .progress) (run .constants)) (columns x1 x2 x3 index mark)
+    × (addEach (seasonResult (seasonOf s 0 constants) (columns x1 x2 x3 index mark)) (drop i p) (drop i pe) ≡ addEach (seasonResult (seasonOf s₀ 0 constants) (columns x1₀ x2₀ x3₀ index₀ mark₀)) p pe)
+    × Good (runOf (s .progress) constants) (columns x1 x2 x3 index mark)
     × (s .settled + s .progress .opens ≤ s .progress .months)
     × (s .added ≤ s .progress .months)
     × SameLengths (columns x1 x2 x3 index mark) (columns x1₀ x2₀ x3₀ index₀ mark₀)
 
 abbrev μ-loop : tie.MeasureT-loop
-μ-loop p pe x1₀ x2₀ x3₀ index₀ mark₀ run number s₀ i₀ x1 x2 x3 index mark s i = length p - i
+μ-loop p pe x1₀ x2₀ x3₀ index₀ mark₀ constants number s₀ i₀ x1 x2 x3 index mark s i = length p - i
 
 -- ---- before the first month
 abbrev lent : tie.Start Inv-loop μ-loop → Columns
 lent s = let a = s .args in columns (now (a .x1)) (now (a .x2)) (now (a .x3)) (now (a .index)) (now (a .mark))
 
-abbrev entered : tie.After-season-refusal Inv-loop μ-loop → tie.Start Inv-loop μ-loop
-entered q = q .before .before .before .before .before .before .before
+abbrev apart : tie.After-season-refusal Inv-loop μ-loop → tie.After-progress-of Inv-loop μ-loop
+apart q = q .before .before .before .before .before .before .before
 
-number-is : (q : tie.After-season-refusal Inv-loop μ-loop) → let s = entered q in q .season-refusal .result ≡ seasonRefusal (s .args .t1) (now (s .args .p)) (now (s .args .pe)) (lent s)
-number-is q = q .season-refusal .ensures
+abbrev entered : tie.After-season-refusal Inv-loop μ-loop → tie.Start Inv-loop μ-loop
+entered q = apart q .before .before .before
+
+-- what is asked and where the season begins, of the run at entry
+number-is : (q : tie.After-season-refusal Inv-loop μ-loop) → let s = entered q in q .season-refusal .result ≡ seasonRefusal (s .args .run) (now (s .args .p)) (now (s .args .pe)) (lent s)
+number-is q = rw (apart q .progress-of .ensures) at (q .season-refusal .ensures)
+
+begins : (n : tie.After-nothing-added Inv-loop μ-loop) → n .nothing-added .result ≡ begun (progressOf (entered (n .before) .args .run))
+begins n = n .nothing-added .ensures ∙ ap begun (apart (n .before) .progress-of .ensures)
+
+progress-of-requires : tie.Need-progress-of-requires Inv-loop μ-loop
+progress-of-requires c κs = search needs
 
 season-refusal-requires : tie.Need-season-refusal-requires Inv-loop μ-loop
 season-refusal-requires c κs = search needs
@@ -89,32 +96,39 @@ returns c =
     let s = entered (q .before) in
     let e = number-is (q .before) in
     let n = c .before .if1 .taken in
-    rw (c .season-of .ensures, q .nothing-added .ensures, e) (sym (is-refused (seasonRefusal (s .args .t1) (now (s .args .p)) (now (s .args .pe)) (lent s)) _ _ (λ z. n (e ∙ z))))
+    rw (c .season-of .ensures, begins q) (ap (λ (k : ℕ). seasonResult (nothing k (s .args .run)) (lent s)) e ∙ sym (is-refused (seasonRefusal (s .args .run) (now (s .args .p)) (now (s .args .pe)) (lent s)) _ _ (λ z. n (e ∙ z))))
 
-passes : (e : tie.Else1 Inv-loop μ-loop) → let s = entered (e .before .before) in (length (now (s .args .p)) ≡ length (now (s .args .pe))) × Good (s .args .t1) (lent s)
+passes : (e : tie.Else1 Inv-loop μ-loop) → let s = entered (e .before .before) in (length (now (s .args .p)) ≡ length (now (s .args .pe))) × Good (s .args .run) (lent s)
 unfolding seasonRefusal
 passes e =
     let s = entered (e .before .before) in
     let t = eqb (length (now (s .args .p))) (length (now (s .args .pe))) in
-    let a = or-zero (cond t 0 badLists) (runRefusal (s .args .t1) (lent s)) (sym (number-is (e .before .before)) ∙ e .if1 .left) in
-    (eqb-true _ _ (cond-zero t 0 (a .0)), run-passes (s .args .t1) (lent s) (a .1))
+    let a = or-zero (cond t 0 badLists) (runRefusal (s .args .run) (lent s)) (sym (number-is (e .before .before)) ∙ e .if1 .left) in
+    (eqb-true _ _ (cond-zero t 0 (a .0)), run-passes (s .args .run) (lent s) (a .1))
 
 loop-holds : tie.Need-loop-holds Inv-loop μ-loop
 loop-holds c =
-    let n = c .before .nothing-added .ensures in
+    let n = begins (c .before) in
     let g = passes c .1 in
     let s = entered (c .before .before) in
-    let f = run-is (s .args .t1) (lent s) g in
+    let f = run-is (s .args .run) (lent s) g in
     (omega arith, refl, rw n g, rw n (omega (arith, f .opens)), rw n (omega arith), (refl, refl, refl, refl, refl))
 
+abbrev start : tie.At-loop Inv-loop μ-loop → tie.Start Inv-loop μ-loop
+start a = entered (a .before .before .before)
+
+-- a place in the lists, counted in bytes
+place : (l : tie.In-loop Inv-loop μ-loop) → l .before .loop .i * 4 < 9223372036854775808
+place l = omega (arith, l .loop-test .taken, start (l .before) .good .1 .0 .1)
+
 mul-rain : tie.Need-mul-rain Inv-loop μ-loop
-mul-rain c = search needs
+mul-rain c = record { fits = omega (arith, place (c .before)) }
 
 shared-slice-copy-out-rain : tie.Need-shared-slice-copy-out-rain Inv-loop μ-loop
 shared-slice-copy-out-rain c = search needs
 
 mul-demand : tie.Need-mul-demand Inv-loop μ-loop
-mul-demand c = search needs
+mul-demand c = record { fits = omega (arith, place (c .before .before)) }
 
 shared-slice-copy-out-demand : tie.Need-shared-slice-copy-out-demand Inv-loop μ-loop
 shared-slice-copy-out-demand c =
@@ -122,26 +136,23 @@ shared-slice-copy-out-demand c =
     omega (arith, l .loop-test .taken, passes (l .before .before) .0)
 
 add-listed-requires : tie.Need-add-listed-requires Inv-loop μ-loop
-add-listed-requires c κs = c .before .before .before .before .before .before .before .before .before .before .before .loop .inv .2
+add-listed-requires c κs = c .before .before .before .before .before .before .before .before .before .before .loop .inv .2
 
 -- with nothing refused before the first month, all is what the months make
 whole : (e : tie.Else1 Inv-loop μ-loop) (w : SeasonResult)
     → let q = e .before in
     let s = entered (q .before) in
-    w ≡ addEach (seasonResult (seasonOf (q .nothing-added .result) 0 (s .args .t1 .constants)) (lent s)) (now (s .args .p)) (now (s .args .pe)) → w ≡ addSeason (s .args .t1) (now (s .args .p)) (now (s .args .pe)) (lent s)
+    w ≡ addEach (seasonResult (seasonOf (q .nothing-added .result) 0 (s .args .run .constants)) (lent s)) (now (s .args .p)) (now (s .args .pe)) → w ≡ addSeason (s .args .run) (now (s .args .p)) (now (s .args .pe)) (lent s)
 unfolding addSeason
 whole e w h =
     let q = e .before in
     let z = e .if1 .left in
     let k = number-is (q .before) in
-    h ∙ rw (q .nothing-added .ensures) (sym (is-done _ _ _ (sym k ∙ z)))
+    h ∙ rw (begins q) (sym (is-done _ _ _ (sym k ∙ z)))
 
 -- ---- a pass
 abbrev inside : tie.After-add-listed Inv-loop μ-loop → tie.In-loop Inv-loop μ-loop
-inside t = t .before .before .before .before .before .before .before .before .before .before .before
-
-abbrev start : tie.At-loop Inv-loop μ-loop → tie.Start Inv-loop μ-loop
-start a = entered (a .before .before .before)
+inside t = t .before .before .before .before .before .before .before .before .before .before
 
 abbrev so-far : tie.At-loop Inv-loop μ-loop → Columns
 so-far a = let l = a .loop in columns (l .x1) (l .x2) (l .x3) (l .index) (l .mark)
@@ -152,7 +163,7 @@ then t = let l = t .add-listed .last .1 .1 .1 .1 in columns (l .0) (l .1 .0) (l 
 
 -- the run's constants, and the season before the pass
 abbrev constants : tie.At-loop Inv-loop μ-loop → List ℤ
-constants a = start a .args .t1 .constants
+constants a = start a .args .run .constants
 
 abbrev before : tie.At-loop Inv-loop μ-loop → Season
 before a = seasonOf (a .loop .s) 0 (constants a)
@@ -165,9 +176,9 @@ pes a = now (start a .args .pe)
 
 alone : (t : tie.After-add-listed Inv-loop μ-loop)
     → let a = inside t .before in
-    result (singleOf (t .add-listed .result) (before a .run)) (then t) ≡ single (seasonResult (before a) (so-far a)) (getD (ps a) (a .loop .i) (pos 0)) (getD (pes a) (a .loop .i) (pos 0))
+    result (addedOf (t .add-listed .result) (constants a)) (then t) ≡ single (seasonResult (before a) (so-far a)) (getD (ps a) (a .loop .i) (pos 0)) (getD (pes a) (a .loop .i) (pos 0))
 alone t =
-    let d = t .before .before .before .before .before .before .before .before in
+    let d = t .before .before .before .before .before .before .before in
     let a = inside t .before in
     let f : SFits w32 (getD (ps a) (a .loop .i) (pos 0)) = record { sfits = d .before .rain .given } in
     let g : SFits w32 (getD (pes a) (a .loop .i) (pos 0)) = record { sfits = d .demand .given } in
@@ -179,70 +190,48 @@ long-kept t =
     let k = t .add-listed .kept .1 .1 .1 .1 in
     lengths-then (then t) (so-far a) (lent (start a)) (k .0, k .1 .0, k .1 .1 .0, k .1 .1 .1 .0, k .1 .1 .1 .1 .0) (a .loop .inv .5)
 
-room : (l : tie.In-loop Inv-loop μ-loop) → l .before .loop .i + 1 < 18446744073709551616
-room l = omega arith
-
-enum-known-a : tie.Need-enum-known-a Inv-loop μ-loop
-enum-known-a c = search needs
-
-enum-told : tie.Need-enum-told Inv-loop μ-loop
-enum-told c = search needs
-
-number-of-requires : tie.Need-number-of-requires Inv-loop μ-loop
-number-of-requires c κs = search needs
+-- a month that is refused
+abbrev stopped-at : tie.After-season-of2 Inv-loop μ-loop → tie.After-add-listed Inv-loop μ-loop
+stopped-at c = c .before .before .before .before .before .before .before .before .before
 
 season-of-requires-2 : tie.Need-season-of-requires-2 Inv-loop μ-loop
 season-of-requires-2 c κs = search needs
 
 same-length-6 : tie.Need-same-length-6 Inv-loop μ-loop
-same-length-6 c = long-kept (c .before .before .before .before .before .before .before .before .before .before) .0
+same-length-6 c = long-kept (stopped-at c) .0
 
 same-length-7 : tie.Need-same-length-7 Inv-loop μ-loop
-same-length-7 c = long-kept (c .before .before .before .before .before .before .before .before .before .before) .1
+same-length-7 c = long-kept (stopped-at c) .1
 
 same-length-8 : tie.Need-same-length-8 Inv-loop μ-loop
-same-length-8 c = long-kept (c .before .before .before .before .before .before .before .before .before .before) .2
+same-length-8 c = long-kept (stopped-at c) .2
 
 same-length-9 : tie.Need-same-length-9 Inv-loop μ-loop
-same-length-9 c = long-kept (c .before .before .before .before .before .before .before .before .before .before) .3
+same-length-9 c = long-kept (stopped-at c) .3
 
 same-length-10 : tie.Need-same-length-10 Inv-loop μ-loop
-same-length-10 c = long-kept (c .before .before .before .before .before .before .before .before .before .before) .4
+same-length-10 c = long-kept (stopped-at c) .4
 
--- a month that is refused
 returns-2 : tie.Need-returns-2 Inv-loop μ-loop
 returns-2 c =
-    let n = c .before in
-    let o = n .before in
-    let t = o .before .before .before .before .before .before .before .before in
+    let t = stopped-at c in
     let l = inside t in
     let a = l .before in
-    let told = o .enum-told .given .1 in
-    let k = n .number-of .ensures ∙ ap numberOf told in
-    let e = sym (ap (λ (x : Single). result (singleOf x (before a .run)) (then t)) told) ∙ alone t in
-    let i = a .loop .i in
-    let no = refused-not (before a .run) (listed (getD (ps a) i (pos 0))) (listed (getD (pes a) i (pos 0))) (so-far a) (then t) _ e in
-    whole (a .before) _ (breaks (ps a) (pes a) (passes (a .before) .0) (before a) (so-far a) i (l .loop-test .taken) _ (then t) e (c .season-of2 .result) no (c .season-of2 .ensures ∙ ap (λ (x : ℕ). seasonOf (a .loop .s) x (constants a)) k) (a .loop .inv .1))
+    whole (a .before) _ (breaks (ps a) (pes a) (passes (a .before) .0) (before a) (so-far a) (a .loop .i) (l .loop-test .taken) (addedOf (t .add-listed .result) (constants a)) (then t) (alone t) (c .season-of2 .result) (c .before .if2 .taken) (c .season-of2 .ensures) (a .loop .inv .1))
 
 -- a month that is added
-abbrev pass : tie.After-known-told Inv-loop μ-loop → tie.After-add-listed Inv-loop μ-loop
-pass k = k .before .before .before .before .before .before .before .before .before
+abbrev pass : tie.Else2 Inv-loop μ-loop → tie.After-add-listed Inv-loop μ-loop
+pass k = k .before .before .before .before .before .before .before .before
 
-took : (k : tie.After-known-told Inv-loop μ-loop)
-    → let t = pass k in
-    let a = inside t .before in
-    result (addedOf (k .before .a .given .0 .0) (constants a)) (then t) ≡ single (seasonResult (before a) (so-far a)) (getD (ps a) (a .loop .i) (pos 0)) (getD (pes a) (a .loop .i) (pos 0))
-took k = let t = pass k in sym (ap (λ (x : Single). result (singleOf x (before (inside t .before) .run)) (then t)) (k .before .a .given .1)) ∙ alone t
-
-counts : (k : tie.After-known-told Inv-loop μ-loop)
-    → let m = k .before .a .given .0 .0 in
+counts : (k : tie.Else2 Inv-loop μ-loop)
+    → let m = pass k .add-listed .result in
     let s = inside (pass k) .before .loop .s in
     (m .progress .months ≡ suc (s .progress .months)) × (m .settled + m .progress .opens ≤ suc (s .progress .opens))
 counts k =
     let t = pass k in
     let l = inside t in
     let a = l .before in
-    counts-joined (ps a) (pes a) (passes (a .before) .0) (before a) (so-far a) (a .loop .i) (l .loop-test .taken) (addedOf (k .before .a .given .0 .0) (constants a)) (then t) (took k) refl
+    counts-joined (ps a) (pes a) (passes (a .before) .0) (before a) (so-far a) (a .loop .i) (l .loop-test .taken) (addedOf (t .add-listed .result) (constants a)) (then t) (alone t) (k .if2 .left)
 
 joined-by-requires : tie.Need-joined-by-requires Inv-loop μ-loop
 joined-by-requires c κs =
@@ -252,7 +241,7 @@ joined-by-requires c κs =
     (omega (arith, a .loop .inv .4, m), omega (arith, a .loop .inv .3, n .1, m))
 
 add-i : tie.Need-add-i Inv-loop μ-loop
-add-i c = record { fits = omega (arith, room (inside (pass (c .before)))) }
+add-i c = record { fits = omega (arith, place (inside (pass (c .before)))) }
 
 loop-less : tie.Need-loop-less Inv-loop μ-loop
 loop-less c = omega (arith, inside (pass (c .before)) .loop-test .taken)
@@ -264,12 +253,12 @@ loop-again c =
     let l = inside t in
     let a = l .before in
     let e = passes (a .before) .0 in
-    let m = addedOf (k .before .a .given .0 .0) (constants a) in
+    let m = addedOf (t .add-listed .result) (constants a) in
     let u = c .joined-by .ensures in
     let n = counts k in (
       omega (arith, l .loop-test .taken),
-      joins (ps a) (pes a) e (before a) (so-far a) (a .loop .i) (l .loop-test .taken) m (then t) (took k) (seasonOf (c .joined-by .result) 0 (constants a)) refl (ap (λ (g : SoFar). seasonOf g 0 (constants a)) u) (a .loop .inv .1),
-      rw u (good-joined (ps a) (pes a) e (before a) (so-far a) (a .loop .i) (l .loop-test .taken) m (then t) (took k) refl),
+      joins (ps a) (pes a) e (before a) (so-far a) (a .loop .i) (l .loop-test .taken) m (then t) (alone t) (seasonOf (c .joined-by .result) 0 (constants a)) (k .if2 .left) (ap (λ (g : SoFar). seasonOf g 0 (constants a)) u) (a .loop .inv .1),
+      rw u (good-joined (ps a) (pes a) e (before a) (so-far a) (a .loop .i) (l .loop-test .taken) m (then t) (alone t) (k .if2 .left)),
       rw u (omega (arith, a .loop .inv .3, n .0, n .1)),
       rw u (omega (arith, a .loop .inv .4, n .0)),
       long-kept t,
@@ -305,6 +294,7 @@ add-season-spec =
     (tie.spec
     Inv-loop
     μ-loop
+    progress-of-requires
     season-refusal-requires
     nothing-added-requires
     season-of-requires
@@ -320,9 +310,6 @@ add-season-spec =
     mul-demand
     shared-slice-copy-out-demand
     add-listed-requires
-    enum-known-a
-    enum-told
-    number-of-requires
     season-of-requires-2
     same-length-6
     same-length-7
