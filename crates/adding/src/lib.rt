@@ -269,7 +269,7 @@ pub fn refuse(number: u8, at: Progress) -> MonthAdded
 pub fn answer_of(t: MonthAdded, constants: [i32; MANY_CONSTANTS]) -> Added
     ensures { λ a. ⌜ a ≡ addedOf t constants ⌝ }
 {
-    let figures = t.figures;
+    let figures = same_figures(t.figures);
     let progress = t.progress;
     let next = runs::run_of(progress, constants);
     Added {
@@ -277,6 +277,36 @@ pub fn answer_of(t: MonthAdded, constants: [i32; MANY_CONSTANTS]) -> Added
         settled: t.settled,
         figures,
         run: next,
+    }
+}
+
+// The same figures, field by field: so they are compiled to one copy, and otherwise to two.
+fn same_figures(f: Figures) -> Figures
+    ensures { λ r. ⌜ r ≡ f ⌝ }
+{
+    let w = f.water;
+    let water = WaterFigures {
+        p: w.p,
+        pe: w.pe,
+        ls: w.ls,
+        lu: w.lu,
+        et: w.et,
+        r: w.r,
+        ro: w.ro,
+        pr: w.pr,
+        pro: w.pro,
+        pl: w.pl,
+        cafec: w.cafec,
+    };
+    Figures {
+        water,
+        z: f.z,
+        percent: f.percent,
+        x1: f.x1,
+        x2: f.x2,
+        x3: f.x3,
+        index: f.index,
+        mark: f.mark,
     }
 }
 

@@ -67,7 +67,19 @@ pub fn add_water(
     let b = door::read(pe);
     let at = runs::progress_of(run);
     let constants = run.constants;
-    let t = try_answers(at, &constants, a, b, x1, x2, x3, index, mark);
+    let t = try_water(
+        at,
+        &constants,
+        door::number(a),
+        door::number(b),
+        door::water(a),
+        door::water(b),
+        x1,
+        x2,
+        x3,
+        index,
+        mark,
+    );
     adding::answer_of(t, constants)
 }
 
@@ -88,34 +100,45 @@ pub fn add_inches(
     let b = both.pe;
     let at = runs::progress_of(run);
     let constants = run.constants;
-    let t = try_answers(at, &constants, a, b, x1, x2, x3, index, mark);
+    let t = try_water(
+        at,
+        &constants,
+        door::number(a),
+        door::number(b),
+        door::water(a),
+        door::water(b),
+        x1,
+        x2,
+        x3,
+        index,
+        mark,
+    );
     adding::answer_of(t, constants)
 }
 
-// A month of water by what its two readings answer, added or refused.
-fn try_answers(
+// A month of water by the numbers and the thousandths that its two readings answer, added or refused. They come as numbers
+// and not as answers, which would be put together for the call and taken apart after it.
+fn try_water(
     at: Progress,
     constants: &[i32; MANY_CONSTANTS],
-    p: Answer,
-    pe: Answer,
+    first: u8,
+    second: u8,
+    p: u32,
+    pe: u32,
     x1: &mut [i32],
     x2: &mut [i32],
     x3: &mut [i32],
     index: &mut [i32],
     mark: &mut [u8],
 ) -> MonthAdded
-    requires { ⌜ (outcome p .water ≤ mostReading) × (outcome pe .water ≤ mostReading) ⌝ }
-    ensures { λ t. ⌜ result (addedOf t (now (constants .entry))) (columns (now (x1 .exit)) (now (x2 .exit)) (now (x3 .exit)) (now (index .exit)) (now (mark .exit))) ≡ addOutcomes (runOf at (now (constants .entry))) (outcome p) (outcome pe) (columns (now (x1 .entry)) (now (x2 .entry)) (now (x3 .entry)) (now (index .entry)) (now (mark .entry))) ⌝ }
+    requires { ⌜ (p ≤ mostReading) × (pe ≤ mostReading) ⌝ }
+    ensures { λ t. ⌜ result (addedOf t (now (constants .entry))) (columns (now (x1 .exit)) (now (x2 .exit)) (now (x3 .exit)) (now (index .exit)) (now (mark .exit))) ≡ addOutcomes (runOf at (now (constants .entry))) (record { number = first; water = p }) (record { number = second; water = pe }) (columns (now (x1 .entry)) (now (x2 .entry)) (now (x3 .entry)) (now (index .entry)) (now (mark .entry))) ⌝ }
 {
-    let first = door::number(p);
-    let second = door::number(pe);
     let number = refusals::water_refusal(at, constants, first, second, x1, x2, x3, index, mark);
     if number != 0 {
         return adding::refuse(number, at);
     }
-    let measured = door::water(p);
-    let potential = door::water(pe);
-    adding::add_measured(at, constants, measured, potential, x1, x2, x3, index, mark)
+    adding::add_measured(at, constants, p, pe, x1, x2, x3, index, mark)
 }
 
 // Adds a Z: the storages stay, the calendar moves on. 1, 7, 12, 10.

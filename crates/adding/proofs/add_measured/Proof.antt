@@ -14,12 +14,12 @@ constants-at-requires c κs = search needs
 
 month-of-requires : tie.Need-month-of-requires
 month-of-requires c κs =
-    let s = c .before .before .before .before .before in
+    let s = c .before .before .before .before in
     let w = s .pre .1 .0 in
     (w .soil, (s .pre .1 .1, fit (s .args .at) (now (s .args .constants)) (c .constants-at .result) (c .constants-at .ensures) w))
 
 abbrev entered : tie.After-month-of → tie.Start
-entered c = c .before .before .before .before .before .before
+entered c = c .before .before .before .before .before
 
 -- the month of water is the run's
 month-is : (c : tie.After-month-of) → let a = entered c .args in Measured (a .at) (now (a .constants)) (a .p) (a .pe) (c .month-of .result)

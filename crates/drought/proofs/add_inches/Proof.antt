@@ -1,4 +1,4 @@
--- `drought::add_inches` meets its contract: the month's two answers, and then `try_answers`. Assumes nothing.
+-- `drought::add_inches` meets its contract: the month's two answers, and then `try_water`. Assumes nothing.
 use mathlib.Core.Path.{_≡_, ap}
 use borrow.Author.Needs.{needs}
 use Rattle.door.specs.Outcome.{MonthOutcomes, outcome}
@@ -21,12 +21,25 @@ second c = ap (λ (m : MonthOutcomes). m .pe) (c .read-month .ensures)
 progress-of-requires : tie.Need-progress-of-requires
 progress-of-requires c κs = search needs
 
-try-answers-requires : tie.Need-try-answers-requires
+number-requires : tie.Need-number-requires
+number-requires c κs = search needs
+
+number-requires-2 : tie.Need-number-requires-2
+number-requires-2 c κs = search needs
+
+water-requires : tie.Need-water-requires
+water-requires c κs = search needs
+
+water-requires-2 : tie.Need-water-requires-2
+water-requires-2 c κs = search needs
+
+try-water-requires : tie.Need-try-water-requires
 unfolding month
-try-answers-requires c κs =
-    let d = c .before .before .before .before .before .before .before .before in
+try-water-requires c κs =
+    let w = c .before .before .before .before .before in
+    let d = w .before .before .before .before .before .before .before in
     let q = d .before .before .args .q in
-    rw (first d, second d) (inches-most (q .p), inches-most (q .pe))
+    (rw (w .before .water .ensures, first d) (inches-most (q .p)), rw (w .water2 .ensures, second d) (inches-most (q .pe)))
 
 answer-of-requires : tie.Need-answer-of-requires
 answer-of-requires c κs = search needs
@@ -50,9 +63,12 @@ returns : tie.Need-returns
 unfolding addInches
 returns c =
     let t = c .before .before .before .before .before .before .before in
-    let o = t .before .before .before .before .before .before .before .before in
+    let w = t .before .before .before .before .before .before in
+    let n = w .before .before in
+    let o = n .before .before .before .before in
     let d = o .before in
-    rw (c .answer-of .ensures) (rw (o .progress-of .ensures, first d, second d) at (t .try-answers .ensures))
+    rw (c .answer-of .ensures)
+    (rw (o .progress-of .ensures, n .before .number .ensures, n .number2 .ensures, w .before .water .ensures, w .water2 .ensures, first d, second d) at (t .try-water .ensures))
 
 pub add-inches-spec : {M : Type 1} → statement M
 add-inches-spec =
@@ -60,7 +76,11 @@ add-inches-spec =
     (tie.spec
     read-month-requires
     progress-of-requires
-    try-answers-requires
+    number-requires
+    number-requires-2
+    water-requires
+    water-requires-2
+    try-water-requires
     answer-of-requires
     same-length
     same-length-2

@@ -1,4 +1,4 @@
--- `drought::add_water` meets its contract: the two readings' answers, and then `try_answers`. Assumes nothing.
+-- `drought::add_water` meets its contract: the two readings' answers, and then `try_water`. Assumes nothing.
 use borrow.Author.Needs.{needs}
 use Rattle.door.proofs.Bounds.{reading-most}
 use Rattle.drought.specs.Calls.{addWater}
@@ -14,11 +14,24 @@ read-requires-2 c κs = search needs
 progress-of-requires : tie.Need-progress-of-requires
 progress-of-requires c κs = search needs
 
-try-answers-requires : tie.Need-try-answers-requires
-try-answers-requires c κs =
-    let d = c .before .before .before .before .before .before .before .before in
+number-requires : tie.Need-number-requires
+number-requires c κs = search needs
+
+number-requires-2 : tie.Need-number-requires-2
+number-requires-2 c κs = search needs
+
+water-requires : tie.Need-water-requires
+water-requires c κs = search needs
+
+water-requires-2 : tie.Need-water-requires-2
+water-requires-2 c κs = search needs
+
+try-water-requires : tie.Need-try-water-requires
+try-water-requires c κs =
+    let w = c .before .before .before .before .before in
+    let d = w .before .before .before .before .before .before .before in
     let a = d .before .before .before .args in
-    rw (d .before .read .ensures, d .read2 .ensures) (reading-most (a .p), reading-most (a .pe))
+    (rw (w .before .water .ensures, d .before .read .ensures) (reading-most (a .p)), rw (w .water2 .ensures, d .read2 .ensures) (reading-most (a .pe)))
 
 answer-of-requires : tie.Need-answer-of-requires
 answer-of-requires c κs = search needs
@@ -42,9 +55,12 @@ returns : tie.Need-returns
 unfolding addWater
 returns c =
     let t = c .before .before .before .before .before .before .before in
-    let o = t .before .before .before .before .before .before .before .before in
+    let w = t .before .before .before .before .before .before in
+    let n = w .before .before in
+    let o = n .before .before .before .before in
     let d = o .before in
-    rw (c .answer-of .ensures) (rw (o .progress-of .ensures, d .before .read .ensures, d .read2 .ensures) at (t .try-answers .ensures))
+    rw (c .answer-of .ensures)
+    (rw (o .progress-of .ensures, n .before .number .ensures, n .number2 .ensures, w .before .water .ensures, w .water2 .ensures, d .before .read .ensures, d .read2 .ensures) at (t .try-water .ensures))
 
 pub add-water-spec : {M : Type 1} → statement M
 add-water-spec =
@@ -53,7 +69,11 @@ add-water-spec =
     read-requires
     read-requires-2
     progress-of-requires
-    try-answers-requires
+    number-requires
+    number-requires-2
+    water-requires
+    water-requires-2
+    try-water-requires
     answer-of-requires
     same-length
     same-length-2
