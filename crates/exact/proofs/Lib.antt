@@ -3,4 +3,5 @@ pub mod Z
 pub mod Orders
 pub mod Held
 pub mod Nearest
+pub mod Moved
 pub mod NextLaws

@@ -11,7 +11,7 @@ ghost use lib.IntN.{natAbs};
 ghost use Rattle.exact.specs.Bounds.{mostRounded};
 ghost use Rattle.exact.specs.Nearest.{nearestℕ, nearest, clip};
 ghost use Rattle.exact.specs.Next.{nextOf};
-ghost use Rattle.outline.specs.Numbers.{mostX, mostZ};
+ghost use Rattle.outline.specs.Numbers.{mostX, mostZ, nextDivisor};
 
 // The whole number nearest to n / d, halves up, and 0 where d is 0.
 pub fn nearest_unsigned(n: u64, d: u64) -> u64
@@ -39,6 +39,21 @@ pub fn nearest_signed(n: i64, d: i64) -> i64
     m / d
 }
 
+const HALF_OF_NEXT: i64 = NEXT_DIVISOR / 2;
+
+// nearest_signed of n and the divisor of next(x), with the two signs divided apart: by a constant, and where the sign is
+// known, a product and a shift divide.
+fn nearest_of_next(n: i64) -> i64
+    requires { ⌜ natAbs n ≤ mostRounded ⌝ }
+    ensures { λ r. ⌜ r ≡ nearest n nextDivisor ⌝ }
+{
+    if n < 0 {
+        (n - HALF_OF_NEXT) / NEXT_DIVISOR
+    } else {
+        (n + HALF_OF_NEXT) / NEXT_DIVISOR
+    }
+}
+
 // next(x) = nearest to (2691 x + 1000 Z) / 3000. For the crates above, which hold x and Z in range.
 pub fn next(x: i32, z: i32) -> i32
     requires { ⌜ natAbs x ≤ mostX ⌝ }
@@ -48,5 +63,5 @@ pub fn next(x: i32, z: i32) -> i32
 {
     let a = x as i64;
     let b = z as i64;
-    nearest_signed(WEIGHT_OF_X * a + WEIGHT_OF_Z * b, NEXT_DIVISOR) as i32
+    nearest_of_next(WEIGHT_OF_X * a + WEIGHT_OF_Z * b) as i32
 }

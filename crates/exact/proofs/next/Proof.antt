@@ -35,24 +35,24 @@ cast-a c = search fits
 cast-b : tie.Need-cast-b
 cast-b c = search fits
 
-mul-nearest-signed : tie.Need-mul-nearest-signed
-mul-nearest-signed c = search fits
+mul-nearest-of-next : tie.Need-mul-nearest-of-next
+mul-nearest-of-next c = search fits
 
-mul-nearest-signed-2 : tie.Need-mul-nearest-signed-2
-mul-nearest-signed-2 c = search fits
+mul-nearest-of-next-2 : tie.Need-mul-nearest-of-next-2
+mul-nearest-of-next-2 c = search fits
 
-add-nearest-signed : tie.Need-add-nearest-signed
-add-nearest-signed c = search fits
+add-nearest-of-next : tie.Need-add-nearest-of-next
+add-nearest-of-next c = search fits
 
-nearest-signed-requires : tie.Need-nearest-signed-requires
-nearest-signed-requires c κs = search fits
+nearest-of-next-requires : tie.Need-nearest-of-next-requires
+nearest-of-next-requires c κs = search fits
 
 -- what the call gives: the machine's sum is the sum
-given : (c : tie.After-nearest-signed) → c .nearest-signed .result ≡ nextOf (c .before .args .x) (c .before .args .z)
+given : (c : tie.After-nearest-of-next) → c .nearest-of-next .result ≡ nextOf (c .before .args .x) (c .before .args .z)
 unfolding nextOf
-given c = c .nearest-signed .ensures ∙ (search fits)
+given c = c .nearest-of-next .ensures ∙ (search fits)
 
-within : (c : tie.After-nearest-signed) → natAbs (c .nearest-signed .result) ≤ mostX
+within : (c : tie.After-nearest-of-next) → natAbs (c .nearest-of-next .result) ≤ mostX
 within c = rw (given c) (next-within (c .before .args .x) (c .before .args .z) (c .before .pre .0) (c .before .pre .1))
 
 cast-result : tie.Need-cast-result
@@ -62,4 +62,4 @@ returns : tie.Need-returns
 returns c = let e = given c in let k = within c in search fits
 
 pub next-spec : {M : Type 1} → statement M
-next-spec = tie.close (tie.spec cast-a cast-b mul-nearest-signed mul-nearest-signed-2 add-nearest-signed nearest-signed-requires cast-result returns)
+next-spec = tie.close (tie.spec cast-a cast-b mul-nearest-of-next mul-nearest-of-next-2 add-nearest-of-next nearest-of-next-requires cast-result returns)
