@@ -5,7 +5,7 @@ use lib.IntN.{pos, _+ℤ_, _-ℤ_}
 use mir.Syntax.{w64}
 use mir.Val.{SFits}
 use mir.Facts.{toZ-ofZ}
-use Rattle.exact.proofs.Held.{quot-fits, held}
+use Rattle.exact.proofs.Held.{held}
 use Rattle.exact.proofs.Moved.{Moved, moved-up, moved-down}
 use Rattle.exact.proofs.nearest_of_next.Statement.{statement}
 use Rattle.exact.proofs.nearest_of_next.Tie as tie
