@@ -247,7 +247,7 @@ pub fn refuse(number: u8, at: Progress) -> MonthAdded
     ensures { λ t. ⌜ t ≡ notAdded number at ⌝ }
 {
     let water = no_water();
-    let figures = Figures {
+    let none = Figures {
         water,
         z: 0,
         percent: 0,
@@ -260,7 +260,7 @@ pub fn refuse(number: u8, at: Progress) -> MonthAdded
     MonthAdded {
         number,
         settled: 0,
-        figures,
+        figures: none,
         progress: at,
     }
 }
