@@ -67,12 +67,12 @@
  *
  *     card_read               8
  *     card_start            312
- *     card_add_water       2136
- *     card_add_inches      2120
- *     card_add_z           1480
- *     card_add_season      2024
- *     card_row              536
- *     card_whole_series   41080
+ *     card_add_water        848
+ *     card_add_inches       832
+ *     card_add_z            672
+ *     card_add_season      1232
+ *     card_row              376
+ *     card_whole_series     160
  *
  * It is counted from the return address, which is included, down to the lowest word of 8 bytes that was
  * written by the call or by what it calls, memcpy and memset included. Not counted is what the caller
