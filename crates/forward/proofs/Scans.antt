@@ -24,9 +24,9 @@ use Rattle.hindsight.specs.Coded.{decisionOf, withOf, sideNumber}
 use Rattle.hindsight.proofs.Numbers.{number-is, decision-some}
 use Rattle.hindsight_laws.proofs.Hindsight.{xOf, shownOf, Wait, map-append, wait-more, forward-waits, ones, indexes-settle, marks-settle}
 use Rattle.hindsight_laws.proofs.Steps.{rows-long, rows-append, state-append}
-use Rattle.sides.specs.Sides.{sidesOf, code, codes}
+use Rattle.sides.specs.Sides.{EachFits, sidesOf, code, codes}
 use Rattle.sides.proofs.Rewriting.{part}
-use Rattle.forward.specs.Groups.{EachFits, groupIndexes}
+use Rattle.forward.specs.Groups.{groupIndexes}
 use Rattle.forward.proofs.Parts.{part-rest, part-length, part-more, Column, column-front, column-part, column-tail, column-set, column-more, rewritten}
 use Rattle.forward.proofs.Groups.{rows, valuesAfter, group-codes, group-indexes}
 

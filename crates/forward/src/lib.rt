@@ -13,8 +13,8 @@ ghost use Rattle.outline.specs.Numbers.{mostX, mostMonths};
 ghost use Rattle.hindsight.specs.Rule.{forwardIndexes, forwardMarks};
 ghost use Rattle.hindsight.specs.Months.{markFor, rowsOfZ};
 ghost use Rattle.hindsight.specs.Coded.{decisionOf};
-ghost use Rattle.sides.specs.Sides.{sidesOf, codes};
-ghost use Rattle.forward.specs.Groups.{EachFits, groupIndexes};
+ghost use Rattle.sides.specs.Sides.{EachFits, sidesOf, codes};
+ghost use Rattle.forward.specs.Groups.{groupIndexes};
 
 // Settles the open months from .. at by the month at `at`, which decides with `by`: 0 where the series ends there and
 // they stay open. Before them X1 and X2 were x1 and x2. By X3 the index of each stands already.

@@ -12,7 +12,7 @@ use lib.ListN.{length, getD, drop}
 use lib.Seq.{drop-cons}
 use Rattle.outline.specs.Numbers.{zFits}
 use Rattle.outline.proofs.Tests.{each, z-within, within-z}
-use Rattle.forward.specs.Groups.{EachFits}
+use Rattle.sides.specs.Sides.{EachFits}
 use Rattle.series.specs.Series.{allZFit}
 
 -- ---- the scan

@@ -18,7 +18,7 @@ use Rattle.hindsight.specs.Adding.{addAll}
 use Rattle.hindsight.specs.Months.{rowsOfZ}
 use Rattle.hindsight_laws.proofs.Adds.{series-is-adding}
 use Rattle.series.specs.Series.{allZFit, listsFit, seriesRefusal, Filled, filled, wholeSeries}
-use Rattle.forward.specs.Groups.{EachFits}
+use Rattle.sides.specs.Sides.{EachFits}
 use Rattle.series.proofs.EachZ.{each-fits, all-fit}
 use Rattle.outline.proofs.Tests.{each}
 

@@ -1,11 +1,18 @@
--- A proof's vocabulary, which contracts cite: X1 and X2 of the open months of a group, and the side that each gives alone. Assumes nothing.
+-- A proof's vocabulary, which contracts cite: every Z of a list in its range, X1 and X2 of the open months of a group, and the side that
+-- each gives alone. Assumes nothing.
 use mathlib.Core.List.{List, [], _∷_, map}
-use Prim.Native.Nat.{ℕ}
-use lib.IntN.{ℤ, pos}
+use Prim.Native.Nat.{ℕ, _≤_, _<_}
+use lib.IntN.{ℤ, pos, natAbs}
+use lib.ListN.{length, getD}
+use Rattle.outline.specs.Numbers.{mostZ}
 use Rattle.exact.specs.Next.{nextOf}
 use Rattle.spells.specs.Spells.{raised, lowered}
 use Rattle.hindsight.specs.Rule.{X, nonzero}
 use Rattle.hindsight.specs.Coded.{sideNumber}
+
+-- every Z of the list is in its range
+abbrev pub EachFits : List ℤ → Type 0
+EachFits z = (i : ℕ) → i < length z → natAbs (getD z i (pos 0)) ≤ mostZ
 
 -- "X1 = larger of 0 and next(X1), X2 = smaller of 0 and next(X2)", month by month from a and b on. By these alone a month that decides with
 -- X1 or X2 settles; X3 stands as 0

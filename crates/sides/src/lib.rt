@@ -4,13 +4,13 @@
 // X2's, as in the crate `hindsight`; 0 is no side. Of an open month `mark` holds the side that it gives alone.
 ghost use mathlib.Core.Path.{_≡_};
 ghost use mathlib.Core.List.{_++_};
-ghost use Prim.Native.Nat.{ℕ, _+_, _-_, _≤_, _<_};
-ghost use lib.IntN.{pos, natAbs};
-ghost use lib.ListN.{length, take, drop, replicate, getD};
-ghost use Rattle.outline.specs.Numbers.{mostX, mostZ};
+ghost use Prim.Native.Nat.{_+_, _-_, _≤_, _<_};
+ghost use lib.IntN.{natAbs};
+ghost use lib.ListN.{length, take, drop, replicate};
+ghost use Rattle.outline.specs.Numbers.{mostX};
 ghost use Rattle.hindsight.specs.Adding.{settledAll};
 ghost use Rattle.hindsight.specs.Coded.{withOf};
-ghost use Rattle.sides.specs.Sides.{sidesOf, codes};
+ghost use Rattle.sides.specs.Sides.{EachFits, sidesOf, codes};
 
 // The later of two places: b - a is 0 where b is not after a.
 fn later(a: usize, b: usize) -> usize
@@ -48,7 +48,7 @@ pub fn settle_sides(
 )
     requires { ⌜ (from ≤ at) × (at ≤ length (now z)) × (at ≤ length (now index)) × (at ≤ length (now mark)) ⌝ }
     requires { ⌜ (0 < by) × (by < 3) ⌝ }
-    requires { ⌜ (natAbs x1 ≤ mostX) × (natAbs x2 ≤ mostX) × ((i : ℕ) → i < length (now z) → natAbs (getD (now z) i (pos 0)) ≤ mostZ) ⌝ }
+    requires { ⌜ (natAbs x1 ≤ mostX) × (natAbs x2 ≤ mostX) × EachFits (now z) ⌝ }
     requires { ⌜ take (at - from) (drop from (now mark)) ≡ codes (sidesOf x1 x2 (take (at - from) (drop from (now z)))) ⌝ }
     ensures indexes { λ _. ⌜ now (index .exit) ≡ take from (now (index .entry)) ++ (settledAll (withOf by) (sidesOf x1 x2 (take (at - from) (drop from (now (z .entry))))) ++ drop at (now (index .entry))) ⌝ }
     ensures marks { λ _. ⌜ now (mark .exit) ≡ take from (now (mark .entry)) ++ (replicate (at - from) 2 ++ drop at (now (mark .entry))) ⌝ }
