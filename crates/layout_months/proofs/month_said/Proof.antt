@@ -1,6 +1,6 @@
 -- `layout_months::month_said`: a number is told by the tests of the definition, in its order. Assumes nothing.
 use borrow.Author.Needs.{needs}
-use mathlib.Core.Path.{_≡_, sym, _∙_}
+use mathlib.Core.Path.{sym, _∙_}
 use native.Mathlib.Omega.{arith}
 use Rattle.layout_months.specs.Months.{rainOf}
 use Rattle.layout_months.proofs.Months.{range-most}
