@@ -17,6 +17,7 @@ use Rattle.spells.specs.Values.{fresh}
 use Rattle.spells.specs.ValuesFit.{FitsWithin, ValuesFit}
 use Rattle.spells.specs.Decisions.{decisionNumber}
 use Rattle.spells.specs.Spells.{stepOf}
+use Rattle.spell_laws.proofs.Parts.{alone}
 use Rattle.spell_laws.proofs.Theorems.{values-kept, fits-in}
 use Rattle.hindsight.specs.Rule.{Row, nonzero, forwardIndexes, forwardMarks}
 use Rattle.hindsight.specs.Months.{markFor, nextValues, rowOfZ, rowsOfZ}
@@ -46,17 +47,7 @@ months-first hi hm =
       mark-is = refl;
       index-long = hi;
       mark-long = hm;
-      fits =
-          record {
-            x1-size = omega arith;
-            x2-size = omega arith;
-            x3-size = omega arith;
-            v-size = omega arith;
-            x1-sign = record { le = tt };
-            x2-sign = record { le = tt };
-            v-above = λ k. absurd (k .lt);
-            v-below = λ k. absurd (k .lt);
-          };
+      fits = alone (mostU * 0) (pos 0) (omega arith);
     }
 
 pub months-out : {zs index : List ℤ} {mark : List ℕ} {v : Running} {from : ℕ} → Months zs index mark v from → length zs ≤ from

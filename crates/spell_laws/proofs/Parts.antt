@@ -23,7 +23,7 @@ use Rattle.spell_laws.proofs.Abates.{abating-x3, abating-v, abating-som
 
 -- ---- the running values and the index
 module _ (most : ℕ) where
-  alone : (x : ℤ) → natAbs x ≤ mostX → FitsWithin most (record { x1 = pos 0; x2 = pos 0; x3 = x; v = pos 0 })
+  pub alone : (x : ℤ) → natAbs x ≤ mostX → FitsWithin most (record { x1 = pos 0; x2 = pos 0; x3 = x; v = pos 0 })
   alone x h =
       record {
         x1-size = omega arith;
