@@ -62,7 +62,7 @@ ItselfGives (anomaly z) n = ZGives z n
 pub data AddGives (r : Run) (a : Ask) (cs : Columns) : ℕ → Type 0 where
   -- 0: done
   add-0 : Good r cs → ItselfGives a 0 → r .months < long cs → AddGives r a cs 0
-  -- 1: "the five columns .. not all of one length, or length 0 or above 2,400"
+  -- 1: "the five columns .. not all of one length, or length 0" or above the limit
   add-1 : columnsFit cs ≡ false → AddGives r a cs badLists
   -- 7: "not a run"
   add-7 : columnsFit cs ≡ true → isRun (long cs) r ≡ false → AddGives r a cs notARun
@@ -90,7 +90,7 @@ pub data RowGives (r : Run) (i : ℕ) (cs : Columns) : ℕ → Type 0 where
 pub data SeriesGives (z index : List ℤ) (mark : List ℕ) : ℕ → Type 0 where
   -- 0: done
   series-0 : listsFit (length z) (length index) (length mark) ≡ true → allZFit z ≡ true → SeriesGives z index mark 0
-  -- 1: "the three lists of a whole series, not all of one length, or length 0 or above 2,400"
+  -- 1: "the three lists of a whole series, not all of one length, or length 0" or above the limit
   series-1 : listsFit (length z) (length index) (length mark) ≡ false → SeriesGives z index mark badLists
   -- 12: "Z outside its range": some Z of the list
   series-12 : listsFit (length z) (length index) (length mark) ≡ true → allZFit z ≡ false → SeriesGives z index mark badZ

@@ -97,6 +97,11 @@ held c ss su = number (run 2 0 1 (soil c ss su) fresh)
 abbrev values : ℤ → ℤ → ℤ → ℤ → ℤ
 values x1 x2 x3 v = number (run 2 0 1 (soil 6000 0 0) (record { x1 = x1; x2 = x2; x3 = x3; v = v }))
 
+-- .. with this V, after 12,000 months, on columns that are then full
+abbrev vAtMost : ℕ → ℤ
+vAtMost v =
+    pos (addZ (run 12000 0 1 (soil 6000 0 0) (record { x1 = pos 0; x2 = pos 0; x3 = minus 1; v = pos v })) (pos 0) (lent 12000) .answer .number)
+
 -- .. of whose constants the one at this place is another
 abbrev constant : ℕ → ℤ → ℤ
 constant place n =
@@ -145,6 +150,9 @@ runTable =
     ∷ (values (pos 0) (pos 0) (minus 1) (pos 8000301) gives pos 7)
     ∷ (values (pos 0) (pos 0) (pos 1) (minus 8000300) gives pos 0)
     ∷ (values (pos 0) (pos 0) (pos 1) (minus 8000301) gives pos 7)
+    -- of 12,000 months 48,001,800,000
+    ∷ (vAtMost 48001800000 gives pos 10)
+    ∷ (vAtMost 48001800001 gives pos 7)
     ∷ (values (pos 0) (pos 0) (pos 0) (pos 1) gives pos 7)
     ∷ (values (pos 0) (pos 0) (pos 0) (minus 1) gives pos 7)
     ∷ []
@@ -164,7 +172,7 @@ listTable =
     ∷ (added (pos 4000001) (lent 1) gives pos 12)
     ∷ (added (minus 4000000) (lent 1) gives pos 0)
     ∷ (added (minus 4000001) (lent 1) gives pos 12)
-    -- "1: the five columns .. not all of one length, or length 0 or above 2,400"
+    -- "1: the five columns .. not all of one length, or length 0"; E9, "1 now begins above 12,000"
     ∷ (added (pos 0) (lentOf 2 1 1 1 1) gives pos 1)
     ∷ (added (pos 0) (lentOf 1 2 1 1 1) gives pos 1)
     ∷ (added (pos 0) (lentOf 1 1 2 1 1) gives pos 1)
@@ -172,16 +180,16 @@ listTable =
     ∷ (added (pos 0) (lentOf 1 1 1 1 2) gives pos 1)
     ∷ (added (pos 0) (lent 0) gives pos 1)
     ∷ (added (pos 0) (lent 1) gives pos 0)
-    ∷ (added (pos 0) (lent 2400) gives pos 0)
-    ∷ (added (pos 0) (lent 2401) gives pos 1)
+    ∷ (added (pos 0) (lent 12000) gives pos 0)
+    ∷ (added (pos 0) (lent 12001) gives pos 1)
     -- "or the three lists of a whole series"
     ∷ (series 0 (pos 0) 0 0 gives pos 1)
     ∷ (series 1 (pos 0) 1 1 gives pos 0)
     ∷ (series 1 (pos 0) 2 1 gives pos 1)
     ∷ (series 1 (pos 0) 1 2 gives pos 1)
     ∷ (series 1 (pos 4000001) 1 1 gives pos 12)
-    ∷ (series 2400 (pos 0) 2400 2400 gives pos 0)
-    ∷ (series 2401 (pos 0) 2401 2401 gives pos 1)
+    ∷ (series 12000 (pos 0) 12000 12000 gives pos 0)
+    ∷ (series 12001 (pos 0) 12001 12001 gives pos 1)
     -- "13: program only": what a line says is the crate `lines`'s, and here is only its number
     ∷ (pos notANumber gives pos 13)
     ∷ []

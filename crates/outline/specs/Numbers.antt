@@ -6,11 +6,11 @@ use lib.Dec.{leb}
 
 -- ---- "Quantities"
 
--- "A run holds 0 to 2,400 months": the longest that lent lists may be
+-- the longest that lent lists may be: "A run holds 0 to 2,400 months", and document 02, E9: "Raise the limit of lent lists to 12,000 months."
 abbrev pub mostMonths : ℕ
-mostMonths = 2400
+mostMonths = 12000
 
--- a length that lent lists may have: not "length 0 or above 2,400"
+-- a length that lent lists may have: not "length 0" and not "above 12,000"
 unfoldable pub lengthFits : ℕ → Bool
 lengthFits n = leb 1 n && leb n mostMonths
 

@@ -4,7 +4,7 @@
 // ---- what may be handed in
 
 // The most months of a run, and the longest that lent lists may be.
-pub const MOST_MONTHS: usize = 2_400;
+pub const MOST_MONTHS: usize = 12_000;
 
 // The sixty constants of a station, five to a calendar month.
 pub const MANY_CONSTANTS: usize = 60;

@@ -1,8 +1,8 @@
 // The program: one Z a line from standard input into a fresh run, and at the end a row for each month, or the one
 // line that says which line was refused. `palmer_input` reads, `palmer_output` lays out; here bytes are only moved. Standard
 // error has a refusal in words, by `words`.
-use outline::MOST_MONTHS;
 use palmer_input::Session;
+use palmer_output::MOST_LINES;
 use quoted::Start;
 use runs::Run;
 
@@ -125,12 +125,12 @@ fn print(
 }
 
 fn main() {
-    let mut x1 = [0i32; MOST_MONTHS];
-    let mut x2 = [0i32; MOST_MONTHS];
-    let mut x3 = [0i32; MOST_MONTHS];
-    let mut index = [0i32; MOST_MONTHS];
-    let mut mark = [0u8; MOST_MONTHS];
-    let mut percent = [0u32; MOST_MONTHS];
+    let mut x1 = [0i32; MOST_LINES];
+    let mut x2 = [0i32; MOST_LINES];
+    let mut x3 = [0i32; MOST_LINES];
+    let mut index = [0i32; MOST_LINES];
+    let mut mark = [0u8; MOST_LINES];
+    let mut percent = [0u32; MOST_LINES];
     let mut text = io::large_buffer();
     let heard = read_all(
         &mut text,

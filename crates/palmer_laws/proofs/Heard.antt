@@ -6,7 +6,7 @@ use mathlib.Core.List.{List}
 use Prim.Native.Nat.{ℕ, zero, suc, _≤_}
 use native.Mathlib.Omega.{arith}
 use lib.IntN.{ℤ, pos}
-use Rattle.outline.specs.Numbers.{mostMonths, lengthFits, zFits}
+use Rattle.outline.specs.Numbers.{lengthFits, zFits}
 use Rattle.outline.specs.Refusals.{badZ, notANumber, orElse}
 use Rattle.water.specs.Layers.{leastCapacity}
 use Rattle.runs.specs.declared.Run.{Run}
@@ -23,6 +23,7 @@ use Rattle.adding.proofs.Readiness.{run-is}
 use Rattle.drought.specs.Calls.{addZ}
 use Rattle.run_laws.proofs.Keeps.{long-kept, good-taken}
 use Rattle.palmer_input.specs.ByLines.{State, withZ, heardWith, heard}
+use Rattle.palmer_output.specs.Printed.{mostLines}
 use Rattle.palmer_laws.specs.Palmer.{start}
 use Rattle.palmer_laws.specs.Refused.{lineRefusal}
 
@@ -30,10 +31,10 @@ use Rattle.palmer_laws.specs.Refused.{lineRefusal}
 pub record Sound (n : ℕ) (t : State) : Type 0 where
   pub none-refused : t .session .refused ≡ 0
   pub months : t .session .run .months ≡ n
-  pub columns-long : long (t .columns) ≡ mostMonths
+  pub columns-long : long (t .columns) ≡ mostLines
   pub good : Good (t .session .run) (t .columns)
 
-pub at-most : (n : ℕ) (t : State) → Sound n t → n ≤ mostMonths
+pub at-most : (n : ℕ) (t : State) → Sound n t → n ≤ mostLines
 at-most n t s = omega (arith, s .months, s .columns-long, run-is (t .session .run) (t .columns) (s .good) .months)
 
 -- before the first line
@@ -74,7 +75,7 @@ module _ (n : ℕ) (t : State) (s : Sound n t) where
   abbrev cs : Columns
   cs = t .columns
 
-  z-refused : (z : ℤ) → zFits z ≡ true → zRefusal run z cs ≡ roomRefusal mostMonths n
+  z-refused : (z : ℤ) → zFits z ≡ true → zRefusal run z cs ≡ roomRefusal mostLines n
   unfolding zRefusal
   z-refused z f = rw (good-passes run cs (s .good), f, s .columns-long, s .months)
 
@@ -97,8 +98,8 @@ module _ (n : ℕ) (t : State) (s : Sound n t) where
       })
   added z (suc k) e = rw e (record { number = refl; taken = λ h. absurd (omega (arith, h)); stays = λ _. s .months })
 
-  by-number : (z : ℤ) (k : ℕ) → (k ≡ 0 → zFits z ≡ true) → Heard n (orElse k (roomRefusal mostMonths n)) (heardWith k z run cs (t .percents))
-  by-number z zero f = added z (roomRefusal mostMonths n) (z-refused z (f refl))
+  by-number : (z : ℤ) (k : ℕ) → (k ≡ 0 → zFits z ≡ true) → Heard n (orElse k (roomRefusal mostLines n)) (heardWith k z run cs (t .percents))
+  by-number z zero f = added z (roomRefusal mostLines n) (z-refused z (f refl))
   by-number z (suc k) f = record { number = refl; taken = λ h. absurd (omega (arith, h)); stays = λ _. s .months }
 
   pub hears : (line : List ℕ) → Heard n (lineRefusal n line) (heard t line)

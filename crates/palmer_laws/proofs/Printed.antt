@@ -6,7 +6,6 @@ use Prim.Native.Nat.{ℕ, zero, suc, _≤_}
 use native.Mathlib.Omega.{arith}
 use lib.ListN.{length, take}
 use lib.Seq.{take-at}
-use Rattle.outline.specs.Numbers.{mostMonths}
 use Rattle.outline.proofs.Refusals.{is-done}
 use Rattle.text.specs.Lines.{linesOf}
 use Rattle.rows.specs.Text.{refusedText}
@@ -15,6 +14,7 @@ use Rattle.palmer_input.specs.ByLines.{State, state, heard}
 use Rattle.palmer_input.specs.Input.{byteFed, inputEnded}
 use Rattle.palmer_input.specs.declared.Session.{Session}
 use Rattle.palmer_input.proofs.ByLines.{by-lines, in-parts, bytes-stay, lines-stay}
+use Rattle.palmer_output.specs.Printed.{mostLines}
 use Rattle.palmer_output.specs.Output.{shownMonths, lineAfter, outputOf}
 use Rattle.palmer_laws.specs.Palmer.{start, printedFrom, palmerOf}
 use Rattle.palmer_laws.specs.Refused.{lineRefusal}
@@ -34,13 +34,13 @@ all-heard n t s =
     rw (s .none-refused, e)
 
 -- one that is refused: its number is one more than the months
-refused-heard : (n k : ℕ) (u : State) → n ≤ mostMonths → u .session .run .months ≡ n → u .session .refused ≡ suc k → laidOut u ≡ refusedText (suc n) (suc k)
+refused-heard : (n k : ℕ) (u : State) → n ≤ mostLines → u .session .run .months ≡ n → u .session .refused ≡ suc k → laidOut u ≡ refusedText (suc n) (suc k)
 unfolding outputOf
 refused-heard n k u h m e =
     let l : lineAfter (u .session .run .months) ≡ suc n = omega arith in
     rw e (ap (λ i. refusedText i (suc k)) l)
 
-heard-by : (ls : List (List ℕ)) → Coming ls → (n : ℕ) (t : State) (line : List ℕ) (k : ℕ) → n ≤ mostMonths → Heard n k (heard t line) → laidOut (foldl heard (heard t line) ls) ≡ printedFrom n t (line ∷ ls)
+heard-by : (ls : List (List ℕ)) → Coming ls → (n : ℕ) (t : State) (line : List ℕ) (k : ℕ) → n ≤ mostLines → Heard n k (heard t line) → laidOut (foldl heard (heard t line) ls) ≡ printedFrom n t (line ∷ ls)
 unfolding printedFrom
 heard-by ls coming n t line zero m h = coming (suc n) (heard t line) (h .taken refl) ∙ sym (is-done _ _ _ (h .number))
 heard-by ls coming n t line (suc k) m h =

@@ -9,7 +9,7 @@ use lib.IntN.{ℤ}
 use lib.Dec.{ltb}
 use lib.ListN.{length}
 use borrow.Author.Tests.{ltb-false}
-use Rattle.outline.specs.Numbers.{mostMonths, zFits}
+use Rattle.outline.specs.Numbers.{zFits}
 use Rattle.outline.specs.Refusals.{orElse}
 use Rattle.outline.proofs.Refusals.{is-done, is-refused, or-zero}
 use Rattle.text.specs.Lines.{linesOf}
@@ -19,6 +19,7 @@ use Rattle.refusals.proofs.Refused.{room-passes}
 use Rattle.rows.specs.Text.{refusedText}
 use Rattle.palmer_input.specs.ByLines.{State, heard}
 use Rattle.palmer_input.proofs.ByLines.{lines-stay}
+use Rattle.palmer_output.specs.Printed.{mostLines}
 use Rattle.palmer_laws.specs.Palmer.{start, rowsOf, printedFrom, palmerOf}
 use Rattle.palmer_laws.specs.Refused.{lineRefusal, toldFrom, Refuses, says-no-number, out-of-range, no-room, Said, all-rows, one-refusal}
 use Rattle.palmer_laws.proofs.Heard.{Sound, Heard, begins, hears}
@@ -56,22 +57,22 @@ unfolding judged
 says n line true e h = rw e (ranged-number n (value line) (zFits (value line)) refl (rw e at h))
 says n line false e h = says-no-number (rw e)
 
-no-room-by : (n k : ℕ) (b : Bool) → ltb n mostMonths ≡ b → n ≤ mostMonths → roomRefusal mostMonths n ≡ suc k → Refuses (suc n) (suc k)
+no-room-by : (n k : ℕ) (b : Bool) → ltb n mostLines ≡ b → n ≤ mostLines → roomRefusal mostLines n ≡ suc k → Refuses (suc n) (suc k)
 unfolding roomRefusal
 no-room-by n k true e m h = absurd (let g : 0 ≡ suc k = rw e at h in omega arith)
-no-room-by n k false e m h = no-room (sym (rw e at h)) (omega (arith, ltb-false n mostMonths e))
+no-room-by n k false e m h = no-room (sym (rw e at h)) (omega (arith, ltb-false n mostLines e))
 
-refuses-by : (n : ℕ) (line : List ℕ) (j k : ℕ) → judged line .number ≡ j → n ≤ mostMonths → orElse j (roomRefusal mostMonths n) ≡ suc k → Refuses (suc n) (suc k)
-refuses-by n line zero k p m e = no-room-by n k (ltb n mostMonths) refl m e
+refuses-by : (n : ℕ) (line : List ℕ) (j k : ℕ) → judged line .number ≡ j → n ≤ mostLines → orElse j (roomRefusal mostLines n) ≡ suc k → Refuses (suc n) (suc k)
+refuses-by n line zero k p m e = no-room-by n k (ltb n mostLines) refl m e
 refuses-by n line (suc j) k p m e = rw (p ∙ e) at (says (suc n) line (wellFormed line) refl (not-zero p refl))
 
 abbrev Ends : List (List ℕ) → Type 0
-Ends ls = (n : ℕ) (rows : List ℕ) → n ≤ mostMonths → Said rows (toldFrom n ls rows)
+Ends ls = (n : ℕ) (rows : List ℕ) → n ≤ mostLines → Said rows (toldFrom n ls rows)
 
-ends-by : (line : List ℕ) (ls : List (List ℕ)) → Ends ls → (n : ℕ) (rows : List ℕ) → n ≤ mostMonths → (k : ℕ) → lineRefusal n line ≡ k → Said rows (toldFrom n (line ∷ ls) rows)
+ends-by : (line : List ℕ) (ls : List (List ℕ)) → Ends ls → (n : ℕ) (rows : List ℕ) → n ≤ mostLines → (k : ℕ) → lineRefusal n line ≡ k → Said rows (toldFrom n (line ∷ ls) rows)
 unfolding toldFrom lineRefusal
 ends-by line ls ends n rows m zero e =
-    let r = room-passes mostMonths n (or-zero (judged line .number) (roomRefusal mostMonths n) e .1) in
+    let r = room-passes mostLines n (or-zero (judged line .number) (roomRefusal mostLines n) e .1) in
     subst (Said rows) (sym (is-done _ _ _ e)) (ends (suc n) rows r)
 ends-by line ls ends n rows m (suc k) e =
     one-refusal (suc n) (suc k) (is-refused _ _ _ (not-zero refl e) ∙ ap (refusedText (suc n)) e) (omega arith) (refuses-by n line (judged line .number) k refl m e)

@@ -1,4 +1,4 @@
--- Worked inputs, computed from the definition alone: document 01's own, an empty one, and a blank line. An input and what is printed of it are written
+-- Worked inputs, computed from the definition alone: document 01's own, an empty one, a blank line, and the last line that gives a month. An input and what is printed of it are written
 -- as their bytes. Assumes nothing.
 use mathlib.Core.Path.{_≡_, refl}
 use mathlib.Core.List.{[], _∷_}
@@ -22,6 +22,7 @@ use Rattle.drought.specs.Calls.{addZ, rowOfRun}
 use Rattle.palmer_input.specs.ByLines.{withZ, heard}
 use Rattle.palmer_output.specs.Printed.{percentAt, rowAt, rowsText}
 use Rattle.palmer_laws.specs.Palmer.{printedFrom, palmerOf}
+use Rattle.palmer_laws.specs.Refused.{lineRefusal}
 
 -- "Input -3000, 1040, 0 prints": "1 0 0 -1000 0 -1000 S", "2 347 0 -550 99 347 S" and "3 311 0 0 100 311 S"
 pub outlined : palmerOf (45 ∷ 51 ∷ 48 ∷ 48 ∷ 48 ∷ 10 ∷ 49 ∷ 48 ∷ 52 ∷ 48 ∷ 10 ∷ 48 ∷ 10 ∷ []) ≡ (49 ∷ 32 ∷ 48 ∷ 32 ∷ 48 ∷ 32 ∷ 45 ∷ 49 ∷ 48 ∷ 48 ∷ 48 ∷ 32 ∷ 48 ∷ 32 ∷ 45 ∷ 49 ∷ 48 ∷ 48 ∷ 48 ∷ 32 ∷ 83 ∷ 10 ∷ 50 ∷ 32 ∷ 51 ∷ 52 ∷ 55 ∷ 32 ∷ 48 ∷ 32 ∷ 45 ∷ 53 ∷ 53 ∷ 48 ∷ 32 ∷ 57 ∷ 57 ∷ 32 ∷ 51 ∷ 52 ∷ 55 ∷ 32 ∷ 83 ∷ 10 ∷ 51 ∷ 32 ∷ 51 ∷ 49 ∷ 49 ∷ 32 ∷ 48 ∷ 32 ∷ 48 ∷ 32 ∷ 49 ∷ 48 ∷ 48 ∷ 32 ∷ 51 ∷ 49 ∷ 49 ∷ 32 ∷ 83 ∷ 10 ∷ [])
@@ -37,3 +38,8 @@ empty = refl
 pub blank : palmerOf (10 ∷ []) ≡ (114 ∷ 101 ∷ 102 ∷ 117 ∷ 115 ∷ 101 ∷ 100 ∷ 32 ∷ 49 ∷ 32 ∷ 49 ∷ 51 ∷ 10 ∷ [])
 unfolding lastLine cut linesOf isDigit negative body oneOrMore allDigits wellFormed natural signed value zFits ranged judged withZ heard rowsText printedFrom palmerOf digitsWithin numeral integer letter rowText refusedText
 blank = refl
+
+-- "Its columns are 2,400 long": a 0 at line 2,400 gives a month, and at line 2,401 is refused with 10
+pub last-line : (lineRefusal 2399 (48 ∷ []) ≡ 0) × (lineRefusal 2400 (48 ∷ []) ≡ 10)
+unfolding isDigit negative body oneOrMore allDigits wellFormed natural signed value zFits ranged judged roomRefusal lineRefusal
+last-line = (refl, refl)

@@ -6,21 +6,20 @@ use Prim.Native.Nat.{ℕ, suc}
 use mathlib.Core.List.{List, [], _∷_}
 use lib.IntN.{pos}
 use lib.ListN.{replicate}
-use Rattle.outline.specs.Numbers.{mostMonths}
 use Rattle.outline.specs.Refusals.{unlessRefused}
 use Rattle.text.specs.Lines.{linesOf}
 use Rattle.rows.specs.Text.{refusedText}
 use Rattle.refusals.specs.Columns.{Columns, columns}
 use Rattle.palmer_input.specs.ByLines.{State, state, fresh, heard}
-use Rattle.palmer_output.specs.Printed.{rowsText}
+use Rattle.palmer_output.specs.Printed.{mostLines, rowsText}
 
 -- "Its columns are 2,400 long", and so is the list of the percents: zeros, before the first line
 abbrev pub blank : Columns
 blank =
-    columns (replicate mostMonths (pos 0)) (replicate mostMonths (pos 0)) (replicate mostMonths (pos 0)) (replicate mostMonths (pos 0)) (replicate mostMonths 0)
+    columns (replicate mostLines (pos 0)) (replicate mostLines (pos 0)) (replicate mostLines (pos 0)) (replicate mostLines (pos 0)) (replicate mostLines 0)
 
 abbrev pub start : State
-start = state fresh blank (replicate mostMonths 0)
+start = state fresh blank (replicate mostLines 0)
 
 -- the rows of all months of the run, in order
 abbrev pub rowsOf : State → List ℕ

@@ -3,17 +3,16 @@
 -- (crates/palmer_laws/proofs/Printed.antt). Assumes nothing.
 use Prim.Native.Nat.{ℕ, _+_, _*_, min}
 use mathlib.Core.List.{List}
-use Rattle.outline.specs.Numbers.{mostMonths}
 use Rattle.outline.specs.Refusals.{unlessRefused}
 use Rattle.rows.specs.Room.{mostRow}
 use Rattle.rows.specs.Text.{refusedText}
 use Rattle.runs.specs.declared.Run.{Run}
 use Rattle.refusals.specs.Columns.{Columns}
-use Rattle.palmer_output.specs.Printed.{rowsText}
+use Rattle.palmer_output.specs.Printed.{mostLines, rowsText}
 
--- the months that have rows: "A run holds 0 to 2,400 months"
+-- the months that have rows
 abbrev pub shownMonths : ℕ → ℕ
-shownMonths months = min months mostMonths
+shownMonths months = min months mostLines
 
 -- the rows of all months
 abbrev pub allRows : Run → Columns → List ℕ → List ℕ
@@ -29,4 +28,4 @@ outputOf number run cs ps = unlessRefused number (allRows run cs ps) (refusedTex
 
 -- what all rows need at most
 abbrev pub room : ℕ
-room = mostMonths * mostRow
+room = mostLines * mostRow

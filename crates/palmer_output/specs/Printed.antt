@@ -10,6 +10,10 @@ use Rattle.refusals.specs.Columns.{Columns}
 use Rattle.drought.specs.declared.Shown.{Shown}
 use Rattle.drought.specs.Calls.{rowOfRun}
 
+-- "Its columns are 2,400 long", and document 02, E9: "The printing program stays at 2,400." So many lines give a month each
+abbrev pub mostLines : ℕ
+mostLines = 2400
+
 -- the percent kept of a month
 unfoldable pub percentAt : List ℕ → ℕ → ℕ
 percentAt ps i = getD ps i 0

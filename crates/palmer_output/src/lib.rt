@@ -1,6 +1,5 @@
 // What the program `palmer` prints: the row of each month, or which line was refused. `drought` gives what a row shows, `rows`
 // lays it out. Every call here serves that program alone.
-use outline::MOST_MONTHS;
 use rows::MOST_ROW;
 use rows::Row;
 use runs::Run;
@@ -13,17 +12,20 @@ ghost use Rattle.rows.specs.Room.{laid, mostRow};
 ghost use Rattle.palmer_output.specs.Printed.{percentAt, rowAt};
 ghost use Rattle.palmer_output.specs.Output.{allRows, lineAfter, outputOf, room};
 
+// The most months that the program holds, one a line: its columns are so long.
+pub const MOST_LINES: usize = 2_400;
+
 // What all rows need at most.
-pub const ROOM: usize = MOST_MONTHS * MOST_ROW;
+pub const ROOM: usize = MOST_LINES * MOST_ROW;
 
 // The number of the line that comes after so many months, counted from 1: each line before it gave a month.
 pub fn line_after(months: u32) -> u32
     ensures { λ r. ⌜ r ≡ lineAfter months ⌝ }
 {
-    if months < MOST_MONTHS as u32 {
+    if months < MOST_LINES as u32 {
         return months + 1;
     }
-    MOST_MONTHS as u32 + 1
+    MOST_LINES as u32 + 1
 }
 
 fn percent_at(percent: &[u32], i: usize) -> u32

@@ -22,7 +22,7 @@ columns x1 x2 x3 index mark = record { x1 = x1; x2 = x2; x3 = x3; index = index;
 abbrev pub long : Columns → ℕ
 long cs = length (cs .x1)
 
--- not "the five columns .. not all of one length, or length 0 or above 2,400"
+-- not "the five columns .. not all of one length, or length 0" or above the limit
 unfoldable pub lengthsFit : ℕ → ℕ → ℕ → ℕ → ℕ → Bool
 lengthsFit x1 x2 x3 index mark = eqb x2 x1 && eqb x3 x1 && eqb index x1 && eqb mark x1 && lengthFits x1
 

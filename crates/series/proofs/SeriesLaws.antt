@@ -71,7 +71,7 @@ module _ (z index : List ℤ) (mark : List ℕ) (r : ℕ) (i : List ℤ) (m : Li
 
 -- ---- 0 "given exactly when", as the code's proof takes it
 
--- the three lists are of one length, from 1 to 2,400
+-- the three lists are of one length, from 1 to the limit
 pub record ListsFit (z index mark : ℕ) : Type 0 where
   pub index-long : index ≡ z
   pub mark-long : mark ≡ z

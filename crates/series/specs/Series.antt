@@ -17,7 +17,7 @@ abbrev pub allZFit : List ℤ → Bool
 allZFit [] = true
 allZFit (z ∷ later) = zFits z && allZFit later
 
--- not "the three lists of a whole series, not all of one length, or length 0 or above 2,400"
+-- not "the three lists of a whole series, not all of one length, or length 0" or above the limit
 unfoldable pub listsFit : ℕ → ℕ → ℕ → Bool
 listsFit z index mark = eqb index z && eqb mark z && lengthFits z
 
