@@ -1,12 +1,12 @@
 -- What each helper of a statement rules out, so that none of them can be weakened unseen: `agree` of the worked table; `Honest`, `Answers`,
 -- `Balances`, `Accepted`, the figures month after month, `calendarAfter`, `marksWith`, `Existing`, `SoilFits`, `NoneFrom` and `count` of the demands;
--- `SameFrom` of a season; `Excepted` and `TurnsAbout` of the mirror. Where a helper is about numbers, one month that it lets through stands
+-- `SameFrom` of a season; `Excepted` and `TurnsAbout` of the mirror; `firstPlaces`, `longer` and `answersTo` of longer columns. Where a helper is about numbers, one month that it lets through stands
 -- beside those that it does not. The cases of specs/Given.antt want no such lemma: each call gives a number exactly where they have it. Assumes
 -- nothing.
 use mathlib.Core.Path.{_≡_, refl, sym, subst}
 use mathlib.Core.Bool.{Bool, true, false, _&&_}
 use mathlib.Core.List.{List, [], _∷_, _++_}
-use Prim.Native.Nat.{ℕ, _≤_, _<_}
+use Prim.Native.Nat.{ℕ, _+_, _≤_, _<_}
 use native.Mathlib.Omega.{arith}
 use lib.IntN.{ℤ, pos}
 use lib.Signed.{leZ, _<ℤ_, <ℤ-irrefl}
@@ -26,10 +26,12 @@ use Rattle.refusals.specs.Columns.{Columns, columns}
 use Rattle.adding.specs.Figures.{noFigures}
 use Rattle.adding.specs.Taken.{Result, result, refusal}
 use Rattle.adding.specs.declared.Figures.{Figures}
+use Rattle.adding.specs.declared.Added.{Added}
 use Rattle.demands.specs.Months.{Ask, asked, State, standing, after, afterAll, Accepted, figuresAnswered, Station, stationNext, figuresFor, figuresOfMonths, noRow}
 use Rattle.demands.specs.Demands.{Answers, Honest, calendarAfter, Balances, Existing, by-add, marksWith}
 use Rattle.demands.specs.Seasons.{SameFrom}
 use Rattle.demands.specs.Mirror.{Excepted, TurnsAbout}
+use Rattle.demands.specs.Longer.{firstPlaces, longer, answersTo}
 use Rattle.demands.specs.Pinned.{soil}
 
 -- two numbers of which the first is above the second
@@ -151,7 +153,7 @@ chained-at s [] a later d = refl
 chained-at s (b ∷ asks) a later d = chained-at (stationNext s b) asks a later d
 
 -- ---- `calendarAfter`: after December comes January, and a year later the same month
-pub turns-of-the-year : (calendarAfter 11 1 ≡ 12) × (calendarAfter 12 1 ≡ 1) × (calendarAfter 3 0 ≡ 3) × (calendarAfter 3 12 ≡ 3) × (calendarAfter 1 2399 ≡ 12)
+pub turns-of-the-year : (calendarAfter 11 1 ≡ 12) × (calendarAfter 12 1 ≡ 1) × (calendarAfter 3 0 ≡ 3) × (calendarAfter 3 12 ≡ 3) × (calendarAfter 1 11999 ≡ 12)
 turns-of-the-year = (refl, refl, refl, refl, refl)
 
 -- ---- `marksWith`: the fourth month is added, none, itself, itself and two before it are settled; the fifth place is as it was
@@ -245,3 +247,19 @@ stays-as-it-was = (
   (λ h. apart refl (sym (h .exactly .1 (λ e. apart refl (sym (e .no-x3)))))),
   (λ h. apart refl (h .stays excepted .1)),
 )
+
+-- ---- `firstPlaces` and `longer`: of all five columns, each its own places, those of the first in front
+abbrev one-place : ℕ → Columns
+one-place n = columns (pos n ∷ []) (pos (n + 1) ∷ []) (pos (n + 2) ∷ []) (pos (n + 3) ∷ []) ((n + 4) ∷ [])
+
+abbrev two-places : Columns
+two-places = columns (pos 10 ∷ pos 20 ∷ []) (pos 11 ∷ pos 21 ∷ []) (pos 12 ∷ pos 22 ∷ []) (pos 13 ∷ pos 23 ∷ []) (14 ∷ 24 ∷ [])
+
+pub places : (longer (one-place 10) (one-place 20) ≡ two-places) × (firstPlaces 1 two-places ≡ one-place 10) × (firstPlaces 2 two-places ≡ two-places)
+places = (refl, refl, refl)
+
+-- ---- `answersTo`: of each month its own answer, from what the months before it left, refused or not
+pub answers-at : (s : State) (asks : List Ask) (a : Ask) (later : List Ask) (d : Added)
+    → getD (answersTo s (asks ++ (a ∷ later))) (length asks) d ≡ asked (afterAll s asks .run) a (afterAll s asks .columns) .answer
+answers-at s [] a later d = refl
+answers-at s (b ∷ asks) a later d = answers-at (after s b) asks a later d

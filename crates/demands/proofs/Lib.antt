@@ -19,6 +19,8 @@ pub mod OneOutcome
 pub mod WorkedMonths
 pub mod Helpers
 pub mod Seasons
+pub mod Longer
+pub mod GoesOn
 pub mod SeasonGiven
 pub mod Table
 pub mod Rejected

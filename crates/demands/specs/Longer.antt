@@ -1,0 +1,87 @@
+-- LONGER COLUMNS (document 02, E9): "Columns made for 2,400 stay usable and give the same answers; a run saved at the old limit can go on in longer
+-- columns into which its months have been copied." Said of columns of any two lengths, so that neither limit is named: the limit is
+-- `mostMonths`, and all that it decides is whether columns may be lent (`columnsFit`). `longer-columns` of proofs/GoesOn.antt proves it. Assumes nothing.
+use mathlib.Core.Path.{_≡_}
+use mathlib.Core.Bool.{true}
+use mathlib.Core.List.{List, [], _∷_, _++_}
+use Prim.Native.Nat.{ℕ, _≤_, _<_}
+use lib.IntN.{ℤ}
+use lib.ListN.{take}
+use Rattle.outline.specs.Refusals.{full}
+use Rattle.runs.specs.declared.Run.{Run}
+use Rattle.refusals.specs.Columns.{Columns, columns, long, columnsFit}
+use Rattle.adding.specs.Taken.{result}
+use Rattle.adding.specs.declared.Added.{Added}
+use Rattle.drought.specs.Calls.{rowOfRun}
+use Rattle.season.specs.Season.{seasonResult, addSeason}
+use Rattle.demands.specs.Months.{Ask, asked, State, standing, after, afterAll, Accepted}
+
+-- the first n places of each column
+abbrev pub firstPlaces : ℕ → Columns → Columns
+firstPlaces n cs = columns (take n (cs .x1)) (take n (cs .x2)) (take n (cs .x3)) (take n (cs .index)) (take n (cs .mark))
+
+-- longer columns: they begin with the places of cs, and those of `more` come after them
+abbrev pub longer : Columns → Columns → Columns
+longer cs more = columns (cs .x1 ++ more .x1) (cs .x2 ++ more .x2) (cs .x3 ++ more .x3) (cs .index ++ more .index) (cs .mark ++ more .mark)
+
+-- both may be lent
+pub record Lent (cs more : Columns) : Type 0 where
+  pub shorter : columnsFit cs ≡ true
+  pub longer : columnsFit (longer cs more) ≡ true
+
+-- two sets of columns of one length, which hold the same months of a run, and after them whatever they hold
+pub record SameMonths (r : Run) (cs ds : Columns) : Type 0 where
+  pub lent : (columnsFit cs ≡ true) × (columnsFit ds ≡ true)
+  pub one-length : long ds ≡ long cs
+  pub months : firstPlaces (r .months) ds ≡ firstPlaces (r .months) cs
+
+-- what the adds answer, month after month, refused or not
+abbrev pub answersTo : State → List Ask → List Added
+answersTo s [] = []
+answersTo s (a ∷ later) = asked (s .run) a (s .columns) .answer ∷ answersTo (after s a) later
+
+pub record LongerColumns : Type 0 where
+  -- "Columns made for 2,400 stay usable": the beginning of columns that may be lent may be lent
+  pub usable : (n : ℕ) (cs : Columns) → columnsFit cs ≡ true → 1 ≤ n → n ≤ long cs → columnsFit (firstPlaces n cs) ≡ true
+  -- "and give the same answers". AN ADD answers the same on longer columns, writes the same places, and the places after them are as they were;
+  -- the one thing that longer columns change is that they are not full yet
+  pub adds :
+      (r : Run) (a : Ask) (cs more : Columns) → Lent cs more → r .months ≤ long cs → (asked r a cs .answer .number ≡ full → ⊥)
+      → asked r a (longer cs more) ≡ result (asked r a cs .answer) (longer (asked r a cs .columns) more)
+  pub adds-on : (r : Run) (a : Ask) (cs more : Columns) → Lent cs more → asked r a cs .answer .number ≡ full → 1 ≤ long more → asked r a (longer cs more) .answer .number ≡ 0
+  -- A SEASON likewise; and one that the shorter columns stopped for their length adds more months
+  pub seasons :
+      (r : Run) (ps pes : List ℤ) (cs more : Columns) → Lent cs more → r .months ≤ long cs → (addSeason r ps pes cs .answer .number ≡ full → ⊥)
+      → addSeason r ps pes (longer cs more) ≡ seasonResult (addSeason r ps pes cs .answer) (longer (addSeason r ps pes cs .columns) more)
+  pub seasons-on :
+      (r : Run) (ps pes : List ℤ) (cs more : Columns) → Lent cs more → addSeason r ps pes cs .answer .number ≡ full → 1 ≤ long more
+      → addSeason r ps pes cs .answer .added < addSeason r ps pes (longer cs more) .answer .added
+  -- A ROW
+  pub rows : (r : Run) (i : ℕ) (cs more : Columns) → Lent cs more → r .months ≤ long cs → rowOfRun r i (longer cs more) ≡ rowOfRun r i cs
+  -- MONTHS ONE BY ONE
+  pub months :
+      (s : State) (asks : List Ask) (more : Columns) → Lent (s .columns) more → s .run .months ≤ long (s .columns) → Accepted s asks
+      → let t = standing (s .run) (longer (s .columns) more) in
+      Accepted t asks × (afterAll t asks ≡ standing (afterAll s asks .run) (longer (afterAll s asks .columns) more))
+  -- COPIED MONTHS: on any columns that hold them each call answers the same, and leaves columns that hold the same months again
+  pub copied-adds :
+      (r : Run) (a : Ask) (cs ds : Columns) → SameMonths r cs ds
+      → let b = asked r a cs in let d = asked r a ds in
+      (d .answer ≡ b .answer) × SameMonths (b .answer .run) (b .columns) (d .columns)
+  pub copied-seasons :
+      (r : Run) (ps pes : List ℤ) (cs ds : Columns) → SameMonths r cs ds
+      → let b = addSeason r ps pes cs in let d = addSeason r ps pes ds in
+      (d .answer ≡ b .answer) × SameMonths (b .answer .run) (b .columns) (d .columns)
+  pub copied-rows : (r : Run) (i : ℕ) (cs ds : Columns) → SameMonths r cs ds → rowOfRun r i ds ≡ rowOfRun r i cs
+  -- "a run saved at the old limit can go on in longer columns into which its months have been copied", as one that never stopped: months were added,
+  -- and the run goes on in columns ds, as long as `longer`, which hold its months and whatever else. What is added then is answered, refused or
+  -- not, as where all was added in the longer columns, and leaves the same run and the same months
+  pub goes-on :
+      (s : State) (asks later : List Ask) (more ds : Columns) → Lent (s .columns) more → s .run .months ≤ long (s .columns) → Accepted s asks
+      → let saved = afterAll s asks in
+      let never-stopped = afterAll (standing (s .run) (longer (s .columns) more)) asks in
+      columnsFit ds ≡ true → long ds ≡ long (longer (s .columns) more)
+      → firstPlaces (saved .run .months) ds ≡ firstPlaces (saved .run .months) (saved .columns)
+      → (answersTo (standing (saved .run) ds) later ≡ answersTo never-stopped later)
+      × (afterAll (standing (saved .run) ds) later .run ≡ afterAll never-stopped later .run)
+      × SameMonths (afterAll never-stopped later .run) (afterAll never-stopped later .columns) (afterAll (standing (saved .run) ds) later .columns)
