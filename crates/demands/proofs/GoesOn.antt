@@ -1,22 +1,19 @@
 -- Longer columns, as specs/Longer.antt states it: seasons, months one by one, and a run that goes on. A season is followed once for longer columns and
 -- for copied months (`each-alike`). Assumes nothing.
 use mathlib.Core.Path.{_≡_, refl, sym, ap, ap₂, _∙_, subst, subst₂}
-use mathlib.Core.Bool.{Bool, true, false, cond}
+use mathlib.Core.Bool.{true}
 use mathlib.Core.Logic.{⊎-elim}
 use mathlib.Core.List.{List, [], _∷_}
-use Prim.Native.Nat.{ℕ, _+_, _≤_, _<_}
+use Prim.Native.Nat.{ℕ, zero, suc, _+_, _-_, _≤_}
 use native.Mathlib.Omega.{arith}
-use lib.Dec.{eqb}
 use lib.IntN.{ℤ}
-use lib.ListN.{length}
-use Rattle.outline.specs.Refusals.{badLists, notARun, full, orElse}
-use Rattle.outline.proofs.Refusals.{or-zero, is-done, is-refused, holds-of}
+use lib.ListN.{length, drop, length-drop}
+use Rattle.outline.specs.Refusals.{full, unlessRefused}
+use Rattle.outline.proofs.Refusals.{is-done, is-refused, holds-of}
 use Rattle.runs.specs.Runs.{isRun}
 use Rattle.runs.specs.declared.Run.{Run}
 use Rattle.refusals.specs.Columns.{Columns, long, columnsFit}
-use Rattle.refusals.specs.Good.{Good}
 use Rattle.refusals.specs.Refusals.{runRefusal}
-use Rattle.refusals.proofs.Refused.{run-passes}
 use Rattle.adding.specs.Taken.{Result}
 use Rattle.adding.specs.declared.Added.{Added}
 use Rattle.adding.proofs.Readiness.{run-is}
@@ -25,12 +22,14 @@ use Rattle.season.specs.Season.{SeasonResult, seasonResult, nothing, joined, st
 use Rattle.season_month.specs.Listed.{listed}
 use Rattle.demands.specs.Months.{Ask, water, asked, State, standing, after, afterAll, Accepted}
 use Rattle.demands.specs.Demands.{numberOf}
-use Rattle.demands.specs.Longer.{firstPlaces, longer, Lent, SameMonths, answersTo, LongerColumns}
+use Rattle.demands.specs.Given.{Begins, SeasonGives, season-10}
+use Rattle.demands.specs.Longer.{firstPlaces, longer, Lent, SameMonths, answersTo, resumed, LongerColumns}
 use Rattle.demands.proofs.Took.{took, good-kept}
 use Rattle.demands.proofs.Sequence.{long-all}
 use Rattle.demands.proofs.Shown.{refused-add}
 use Rattle.demands.proofs.Given.{zero-or}
 use Rattle.demands.proofs.Seasons.{begins, refused}
+use Rattle.demands.proofs.SeasonGiven.{begins-done, season-gives}
 use Rattle.demands.proofs.Longer.{usable, first-longer, number-of, long-longer, run-longer, adds, adds-on, copied-adds, rows, copied-rows}
 
 -- ---- a season on two sets of columns between which P holds, and on which a single add answers the same, unless its number is one of `Bad`
@@ -139,57 +138,146 @@ each-adds (p ∷ ps) (pe ∷ pes) s cs =
     let i = each-adds ps pes (joined s (b .answer)) (b .columns) in
     holds-of (λ (t : SeasonResult). s .added ≤ t .answer .added) (b .answer .number) _ _ (omega (arith, i)) (omega arith)
 
-module _ (more : Columns) (some : 1 ≤ long more) where
-  abbrev Fewer : SeasonResult → SeasonResult → Type 0
-  Fewer t u = t .answer .number ≡ full → t .answer .added < u .answer .added
+-- a season with so many months more added before it, and so many settled
+abbrev plus : ℕ → ℕ → SeasonResult → SeasonResult
+plus k m t = resumed (record { number = 0; added = k; settled = m; figures = t .answer .figures; run = t .answer .run }) t
 
-  each-on : (ps pes : List ℤ) (s : Season) (cs ds : Columns) → s .number ≡ 0 → By more (s .run) cs ds → Fewer (addEach (seasonResult s cs) ps pes) (addEach (seasonResult s ds) ps pes)
+more-done : (k : ℕ) (f : SeasonResult → SeasonResult) (a b c d : SeasonResult) → a ≡ f c → b ≡ f d → unlessRefused k a b ≡ f (unlessRefused k c d)
+more-done zero f a b c d g h = g
+more-done (suc k) f a b c d g h = h
+
+each-plus : (ps pes : List ℤ) (k m : ℕ) (s : Season) (cs : Columns) → addEach (plus k m (seasonResult s cs)) ps pes ≡ plus k m (addEach (seasonResult s cs) ps pes)
+unfolding addEach
+each-plus [] pes k m s cs = refl
+each-plus (p ∷ ps) [] k m s cs = refl
+each-plus (p ∷ ps) (pe ∷ pes) k m s cs =
+    let b = asked (s .run) (water (listed p) (listed pe)) cs in
+    let e : k + s .added + 1 ≡ k + (s .added + 1) = omega arith in
+    let h : m + s .settled + b .answer .settled ≡ m + (s .settled + b .answer .settled) = omega arith in
+    more-done (b .answer .number) (plus k m) _ _ (addEach (seasonResult (joined s (b .answer)) (b .columns)) ps pes) (seasonResult (stopped s (b .answer .number)) cs)
+    (rw (e, h) (each-plus ps pes k m (joined s (b .answer)) (b .columns))) refl
+
+-- a season that stopped because the columns are full: the month at which it did, with those after it, is what longer columns go on with
+abbrev not-stopped : Season → Season
+not-stopped s = record { number = 0; added = s .added; settled = s .settled; figures = s .figures; run = s .run }
+
+record Rest (more : Columns) (ps pes : List ℤ) (s : Season) (ds : Columns) (t : SeasonResult) : Type 0 where
+  n : ℕ
+  counted : t .answer .added ≡ s .added + n
+  p : ℤ
+  pe : ℤ
+  later-ps : List ℤ
+  later-pes : List ℤ
+  ps-are : drop n ps ≡ p ∷ later-ps
+  pes-are : drop n pes ≡ pe ∷ later-pes
+  is-full : asked (t .answer .run) (water (listed p) (listed pe)) (t .columns) .answer .number ≡ full
+  lent : Lent (t .columns) more
+  goes : addEach (seasonResult s ds) ps pes ≡ addEach (seasonResult (not-stopped (t .answer)) (longer (t .columns) more)) (p ∷ later-ps) (pe ∷ later-pes)
+
+module _ (more : Columns) where
+  abbrev Goes : List ℤ → List ℤ → Season → Columns → SeasonResult → Type 0
+  Goes ps pes s ds t = t .answer .number ≡ full → Rest more ps pes s ds t
+
+  one-later : (q qe : ℤ) (ps pes : List ℤ) (s : Season) (b : Added) (ds es : Columns) (t : SeasonResult)
+      → addEach (seasonResult s ds) (q ∷ ps) (qe ∷ pes) ≡ addEach (seasonResult (joined s b) es) ps pes
+      → Rest more ps pes (joined s b) es t → Rest more (q ∷ ps) (qe ∷ pes) s ds t
+  one-later q qe ps pes s b ds es t e h =
+      record {
+        n = suc (h .n);
+        counted = omega (arith, h .counted);
+        p = h .p;
+        pe = h .pe;
+        later-ps = h .later-ps;
+        later-pes = h .later-pes;
+        ps-are = h .ps-are;
+        pes-are = h .pes-are;
+        is-full = h .is-full;
+        lent = h .lent;
+        goes = e ∙ h .goes;
+      }
+
+  each-rest : (ps pes : List ℤ) (s : Season) (cs ds : Columns) → s .number ≡ 0 → By more (s .run) cs ds → Goes ps pes s ds (addEach (seasonResult s cs) ps pes)
   unfolding addEach
-  each-on [] pes s cs ds o q = λ e. absurd (omega (arith, o, e))
-  each-on (p ∷ ps) [] s cs ds o q = λ e. absurd (omega (arith, o, e))
-  each-on (p ∷ ps) (pe ∷ pes) s cs ds o q =
+  each-rest [] pes s cs ds o q = λ e. absurd (omega (arith, o, e))
+  each-rest (p ∷ ps) [] s cs ds o q = λ e. absurd (omega (arith, o, e))
+  each-rest (p ∷ ps) (pe ∷ pes) s cs ds o q =
       let a = water (listed p) (listed pe) in
       let alone = asked (s .run) a cs in
       let other = asked (s .run) a ds in
       ⊎-elim
       (λ z. let g = by-add more (s .run) a cs ds q (λ e. let c : 0 ≡ full = sym z ∙ e in omega arith) in
       let k : other .answer .number ≡ 0 = ap (λ (x : Added). x .number) (g .0) ∙ z in
-      subst₂ Fewer (sym (is-done (alone .answer .number) _ _ z)) (sym (is-done (other .answer .number) _ _ k))
-      (subst (λ (x : Added). Fewer (addEach (seasonResult (joined s (alone .answer)) (alone .columns)) ps pes) (addEach (seasonResult (joined s x) (other .columns)) ps pes)) (sym (g .0))
-      (each-on ps pes (joined s (alone .answer)) (alone .columns) (other .columns) refl (g .1))))
-      (λ n. subst (λ (t : SeasonResult). Fewer t (addEach (seasonResult s ds) (p ∷ ps) (pe ∷ pes))) (sym (is-refused (alone .answer .number) (addEach (seasonResult (joined s (alone .answer)) (alone .columns)) ps pes) (seasonResult (stopped s (alone .answer .number)) cs) n))
-      (λ e. let k : other .answer .number ≡ 0 = rw (q .is) (adds-on (s .run) a cs more (q .lent) e some) in
-      let i = each-adds ps pes (joined s (other .answer)) (other .columns) in
-      rw (is-done (other .answer .number) (addEach (seasonResult (joined s (other .answer)) (other .columns)) ps pes) (seasonResult (stopped s (other .answer .number)) ds) k) (omega (arith, i))))
+      subst (Goes (p ∷ ps) (pe ∷ pes) s ds) (sym (is-done (alone .answer .number) _ _ z))
+      (λ e. one-later p pe ps pes s (alone .answer) ds (other .columns) _ (is-done (other .answer .number) _ _ k ∙ ap (λ (x : Added). addEach (seasonResult (joined s x) (other .columns)) ps pes) (g .0))
+      (each-rest ps pes (joined s (alone .answer)) (alone .columns) (other .columns) refl (g .1) e)))
+      (λ n. subst (Goes (p ∷ ps) (pe ∷ pes) s ds) (sym (is-refused (alone .answer .number) (addEach (seasonResult (joined s (alone .answer)) (alone .columns)) ps pes) (seasonResult (stopped s (alone .answer .number)) cs) n))
+      (λ e. record {
+        n = 0;
+        counted = omega arith;
+        p = p;
+        pe = pe;
+        later-ps = ps;
+        later-pes = pes;
+        ps-are = refl;
+        pes-are = refl;
+        is-full = e;
+        lent = q .lent;
+        goes = rw (q .is, ← o) refl;
+      }))
       (zero-or (alone .answer .number))
 
--- 1 and 7 are not 10
-not-full : (a b c : Bool) → orElse (cond a 0 badLists) (cond b (cond c 0 notARun) badLists) ≡ full → ⊥
-not-full false b c e = omega arith
-not-full true false c e = omega arith
-not-full true true false e = omega arith
-not-full true true true e = omega arith
-
 -- a season that is full has begun
-full-began : (r : Run) (ps pes : List ℤ) (cs : Columns) → addSeason r ps pes cs .answer .number ≡ full → seasonRefusal r ps pes cs ≡ 0
-unfolding seasonRefusal runRefusal
-full-began r ps pes cs e =
-    ⊎-elim (λ z. z)
-    (λ q. absurd (not-full (eqb (length ps) (length pes)) (columnsFit cs) (isRun (long cs) r) (sym (ap (λ (t : SeasonResult). t .answer .number) (refused r ps pes cs q)) ∙ e)))
-    (zero-or (seasonRefusal r ps pes cs))
+full-begins : (r : Run) (ps pes : List ℤ) (cs : Columns) → SeasonGives r ps pes cs full → Begins r ps pes cs
+full-begins r ps pes cs (season-10 b w) = b
 
-began-good : (r : Run) (ps pes : List ℤ) (cs : Columns) → seasonRefusal r ps pes cs ≡ 0 → Good r cs
-unfolding seasonRefusal
-began-good r ps pes cs z = run-passes r cs (or-zero (cond (eqb (length ps) (length pes)) 0 badLists) (runRefusal r cs) z .1)
+-- the first month of a season so far is added
+each-first : (p pe : ℤ) (ps pes : List ℤ) (s : Season) (cs : Columns) → let b = asked (s .run) (water (listed p) (listed pe)) cs in b .answer .number ≡ 0
+    → addEach (seasonResult s cs) (p ∷ ps) (pe ∷ pes) ≡ addEach (seasonResult (joined s (b .answer)) (b .columns)) ps pes
+unfolding addEach
+each-first p pe ps pes s cs z = is-done (asked (s .run) (water (listed p) (listed pe)) cs .answer .number) _ _ z
+
+resumes : (more : Columns) → 1 ≤ long more → (ps pes : List ℤ) (r : Run) (ds : Columns) (t : SeasonResult) → length ps ≡ length pes → Rest more ps pes (nothing 0 r) ds t
+    → let n = t .answer .added in
+    let u = addSeason (t .answer .run) (drop n ps) (drop n pes) (longer (t .columns) more) in
+    (addEach (seasonResult (nothing 0 r) ds) ps pes ≡ resumed (t .answer) u) × (1 ≤ u .answer .added)
+resumes more some ps pes r ds t e h =
+    let l = longer (t .columns) more in
+    let a = water (listed (h .p)) (listed (h .pe)) in
+    let b = asked (t .answer .run) a l in
+    let z = adds-on (t .answer .run) a (t .columns) more (h .lent) (h .is-full) some in
+    let n : t .answer .added ≡ h .n = omega (arith, h .counted) in
+    let m : length (h .p ∷ h .later-ps) ≡ length (h .pe ∷ h .later-pes) = sym (ap length (h .ps-are)) ∙ length-drop (h .n) ps ∙ ap (λ (k : ℕ). k - h .n) e ∙ sym (length-drop (h .n) pes) ∙ ap length (h .pes-are) in
+    let began = joined (nothing 0 (t .answer .run)) (b .answer) in
+    let v = addEach (seasonResult began (b .columns)) (h .later-ps) (h .later-pes) in
+    let u : addSeason (t .answer .run) (drop (t .answer .added) ps) (drop (t .answer .added) pes) l ≡ v =
+    rw (n, h .ps-are, h .pes-are) (
+    begins (t .answer .run) (h .p ∷ h .later-ps) (h .pe ∷ h .later-pes) l (begins-done (t .answer .run) (h .p ∷ h .later-ps) (h .pe ∷ h .later-pes) l (record { one-length = m; good = took (t .answer .run) l a z .good }))
+    ∙ each-first (h .p) (h .pe) (h .later-ps) (h .later-pes) (nothing 0 (t .answer .run)) l z
+    ) in
+    let i : t .answer .added + 1 ≡ t .answer .added + (0 + 1) = omega arith in
+    let j : t .answer .settled + b .answer .settled ≡ t .answer .settled + (0 + b .answer .settled) = omega arith in
+    let w : seasonResult (joined (not-stopped (t .answer)) (b .answer)) (b .columns) ≡ plus (t .answer .added) (t .answer .settled) (seasonResult began (b .columns)) = rw (i, j) in
+    let x = each-adds (h .later-ps) (h .later-pes) began (b .columns) in
+    rw u (
+      h .goes ∙ each-first (h .p) (h .pe) (h .later-ps) (h .later-pes) (not-stopped (t .answer)) l z
+          ∙ ap (λ (y : SeasonResult). addEach y (h .later-ps) (h .later-pes)) w
+          ∙ each-plus (h .later-ps) (h .later-pes) (t .answer .added) (t .answer .settled) began (b .columns),
+      omega (arith, x),
+    )
 
 seasons-on : (r : Run) (ps pes : List ℤ) (cs more : Columns) → Lent cs more → addSeason r ps pes cs .answer .number ≡ full → 1 ≤ long more
-    → addSeason r ps pes cs .answer .added < addSeason r ps pes (longer cs more) .answer .added
+    → let t = addSeason r ps pes cs in
+    let n = t .answer .added in
+    let u = addSeason (t .answer .run) (drop n ps) (drop n pes) (longer (t .columns) more) in
+    (addSeason r ps pes (longer cs more) ≡ resumed (t .answer) u) × (1 ≤ u .answer .added)
 seasons-on r ps pes cs more f e l =
-    let z = full-began r ps pes cs e in
-    let m = run-is r cs (began-good r ps pes cs z) .months in
+    let b = full-begins r ps pes cs (subst (SeasonGives r ps pes cs) e (season-gives r ps pes cs)) in
+    let z = begins-done r ps pes cs b in
+    let m = run-is r cs (b .good) .months in
     let k = begins-alike r ps pes cs (longer cs more) (f .shorter) (f .longer) (run-longer r cs more m) in
     let t = begins r ps pes cs z in
-    rw (t, begins r ps pes (longer cs more) (k ∙ z)) (each-on more l ps pes (nothing 0 r) cs (longer cs more) refl (begun more r cs f m) (sym (ap (λ (x : SeasonResult). x .answer .number) t) ∙ e))
+    let h = each-rest more ps pes (nothing 0 r) cs (longer cs more) refl (begun more r cs f m) (sym (ap (λ (x : SeasonResult). x .answer .number) t) ∙ e) in
+    rw (begins r ps pes (longer cs more) (k ∙ z), t) (resumes more l ps pes r (longer cs more) _ (b .one-length) h)
 
 -- ---- a run whose months were copied
 copied-seasons : (r : Run) (ps pes : List ℤ) (cs ds : Columns) → SameMonths r cs ds

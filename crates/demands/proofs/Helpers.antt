@@ -1,6 +1,6 @@
 -- What each helper of a statement rules out, so that none of them can be weakened unseen: `agree` of the worked table; `Honest`, `Answers`,
 -- `Balances`, `Accepted`, the figures month after month, `calendarAfter`, `marksWith`, `Existing`, `SoilFits`, `NoneFrom` and `count` of the demands;
--- `SameFrom` of a season; `Excepted` and `TurnsAbout` of the mirror; `firstPlaces`, `longer` and `answersTo` of longer columns. Where a helper is about numbers, one month that it lets through stands
+-- `SameFrom` of a season; `Excepted` and `TurnsAbout` of the mirror; `firstPlaces`, `longer`, `answersTo` and `resumed` of longer columns. Where a helper is about numbers, one month that it lets through stands
 -- beside those that it does not. The cases of specs/Given.antt want no such lemma: each call gives a number exactly where they have it. Assumes
 -- nothing.
 use mathlib.Core.Path.{_≡_, refl, sym, subst}
@@ -27,11 +27,13 @@ use Rattle.adding.specs.Figures.{noFigures}
 use Rattle.adding.specs.Taken.{Result, result, refusal}
 use Rattle.adding.specs.declared.Figures.{Figures}
 use Rattle.adding.specs.declared.Added.{Added}
-use Rattle.demands.specs.Months.{Ask, asked, State, standing, after, afterAll, Accepted, figuresAnswered, Station, stationNext, figuresFor, figuresOfMonths, noRow}
+use Rattle.season.specs.Season.{SeasonResult}
+use Rattle.season.specs.declared.Season.{Season}
+use Rattle.demands.specs.Months.{Ask, asked, State, standing, after, afterAll, Accepted, figuresAnswered, leftOf, Station, stationNext, figuresFor, figuresOfMonths, noRow}
 use Rattle.demands.specs.Demands.{Answers, Honest, calendarAfter, Balances, Existing, by-add, marksWith}
 use Rattle.demands.specs.Seasons.{SameFrom}
 use Rattle.demands.specs.Mirror.{Excepted, TurnsAbout}
-use Rattle.demands.specs.Longer.{firstPlaces, longer, answersTo}
+use Rattle.demands.specs.Longer.{firstPlaces, longer, answersTo, resumed}
 use Rattle.demands.specs.Pinned.{soil}
 
 -- two numbers of which the first is above the second
@@ -263,3 +265,12 @@ pub answers-at : (s : State) (asks : List Ask) (a : Ask) (later : List Ask) (d :
     → getD (answersTo s (asks ++ (a ∷ later))) (length asks) d ≡ asked (afterAll s asks .run) a (afterAll s asks .columns) .answer
 answers-at s [] a later d = refl
 answers-at s (b ∷ asks) a later d = answers-at (after s b) asks a later d
+
+-- ---- `resumed`: months added and settled are summed, and all else is the second season's
+pub resumes : (s : Season) (u : SeasonResult)
+    → (resumed s u .answer .added ≡ s .added + u .answer .added)
+    × (resumed s u .answer .settled ≡ s .settled + u .answer .settled)
+    × (resumed s u .answer .number ≡ u .answer .number)
+    × (resumed s u .answer .figures ≡ u .answer .figures)
+    × (leftOf (resumed s u) ≡ leftOf u)
+resumes s u = (refl, refl, refl, refl, refl)

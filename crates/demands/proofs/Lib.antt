@@ -19,9 +19,9 @@ pub mod OneOutcome
 pub mod WorkedMonths
 pub mod Helpers
 pub mod Seasons
+pub mod SeasonGiven
 pub mod Longer
 pub mod GoesOn
-pub mod SeasonGiven
 pub mod Table
 pub mod Rejected
 pub mod SeasonRejected

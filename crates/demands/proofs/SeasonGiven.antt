@@ -116,12 +116,13 @@ module _ (r : Run) (ps pes : List ℤ) (cs : Columns) where
   unfolding seasonRefusal
   run-none e f h = told-refused notARun (rw (eq-eqb (length ps) (length pes) e) (run-7 r cs f h)) (λ e. omega arith)
 
+  pub begins-done : Begins r ps pes cs → seasonRefusal r ps pes cs ≡ 0
+  unfolding seasonRefusal
+  begins-done b = rw (eq-eqb (length ps) (length pes) (b .one-length)) (good-passes r cs (b .good))
+
   -- and from it on
   told-first : Begins r ps pes cs → told ≡ first-of (standing r cs) months
-  unfolding seasonRefusal
-  told-first b =
-      let z : seasonRefusal r ps pes cs ≡ 0 = rw (eq-eqb (length ps) (length pes) (b .one-length)) (good-passes r cs (b .good)) in
-      ap (λ (t : SeasonResult). t .answer .number) (begins r ps pes cs z) ∙ each-number ps pes (seasonResult (nothing 0 r) cs) refl
+  told-first b = ap (λ (t : SeasonResult). t .answer .number) (begins r ps pes cs (begins-done b)) ∙ each-number ps pes (seasonResult (nothing 0 r) cs) refl
 
   season-given : (n : ℕ) → SeasonGives r ps pes cs n → told ≡ n
   season-given n (season-0 b h) = told-first b ∙ first-accepted (standing r cs) months h
@@ -143,7 +144,7 @@ module _ (r : Run) (ps pes : List ℤ) (cs : Columns) where
   season-begun : (b : Begins r ps pes cs) → SeasonGives r ps pes cs (first-of (standing r cs) months)
   season-begun b = ⊎-elim (λ p. subst (SeasonGives r ps pes cs) (sym (p .0)) (season-0 b (p .1))) (λ w. season-stops (first-of (standing r cs) months) b w) (first-gives (standing r cs) months)
 
-  season-gives : SeasonGives r ps pes cs told
+  pub season-gives : SeasonGives r ps pes cs told
   season-gives =
       if-so (eqb (length ps) (length pes))
       (λ t. let e = eqb-true (length ps) (length pes) t in

@@ -4,16 +4,17 @@
 use mathlib.Core.Path.{_≡_}
 use mathlib.Core.Bool.{true}
 use mathlib.Core.List.{List, [], _∷_, _++_}
-use Prim.Native.Nat.{ℕ, _≤_, _<_}
+use Prim.Native.Nat.{ℕ, _+_, _≤_}
 use lib.IntN.{ℤ}
-use lib.ListN.{take}
+use lib.ListN.{take, drop}
 use Rattle.outline.specs.Refusals.{full}
 use Rattle.runs.specs.declared.Run.{Run}
 use Rattle.refusals.specs.Columns.{Columns, columns, long, columnsFit}
 use Rattle.adding.specs.Taken.{result}
 use Rattle.adding.specs.declared.Added.{Added}
 use Rattle.drought.specs.Calls.{rowOfRun}
-use Rattle.season.specs.Season.{seasonResult, addSeason}
+use Rattle.season.specs.Season.{SeasonResult, seasonResult, addSeason}
+use Rattle.season.specs.declared.Season.{Season}
 use Rattle.demands.specs.Months.{Ask, asked, State, standing, after, afterAll, Accepted}
 
 -- the first n places of each column
@@ -40,6 +41,19 @@ abbrev pub answersTo : State → List Ask → List Added
 answersTo s [] = []
 answersTo s (a ∷ later) = asked (s .run) a (s .columns) .answer ∷ answersTo (after s a) later
 
+-- a season that went on after another: "settled counts summed", and how many were added; all else is the second's
+abbrev pub resumed : Season → SeasonResult → SeasonResult
+resumed s u =
+    seasonResult
+    (record {
+      number = u .answer .number;
+      added = s .added + u .answer .added;
+      settled = s .settled + u .answer .settled;
+      figures = u .answer .figures;
+      run = u .answer .run;
+    })
+    (u .columns)
+
 pub record LongerColumns : Type 0 where
   -- "Columns made for 2,400 stay usable": the beginning of columns that may be lent may be lent
   pub usable : (n : ℕ) (cs : Columns) → columnsFit cs ≡ true → 1 ≤ n → n ≤ long cs → columnsFit (firstPlaces n cs) ≡ true
@@ -49,13 +63,17 @@ pub record LongerColumns : Type 0 where
       (r : Run) (a : Ask) (cs more : Columns) → Lent cs more → r .months ≤ long cs → (asked r a cs .answer .number ≡ full → ⊥)
       → asked r a (longer cs more) ≡ result (asked r a cs .answer) (longer (asked r a cs .columns) more)
   pub adds-on : (r : Run) (a : Ask) (cs more : Columns) → Lent cs more → asked r a cs .answer .number ≡ full → 1 ≤ long more → asked r a (longer cs more) .answer .number ≡ 0
-  -- A SEASON likewise; and one that the shorter columns stopped for their length adds more months
+  -- A SEASON likewise. And one that stopped because the shorter columns are full goes on with the months that were not added, of which it adds one at
+  -- least, as the season of all its months in the longer columns
   pub seasons :
       (r : Run) (ps pes : List ℤ) (cs more : Columns) → Lent cs more → r .months ≤ long cs → (addSeason r ps pes cs .answer .number ≡ full → ⊥)
       → addSeason r ps pes (longer cs more) ≡ seasonResult (addSeason r ps pes cs .answer) (longer (addSeason r ps pes cs .columns) more)
   pub seasons-on :
       (r : Run) (ps pes : List ℤ) (cs more : Columns) → Lent cs more → addSeason r ps pes cs .answer .number ≡ full → 1 ≤ long more
-      → addSeason r ps pes cs .answer .added < addSeason r ps pes (longer cs more) .answer .added
+      → let t = addSeason r ps pes cs in
+      let n = t .answer .added in
+      let u = addSeason (t .answer .run) (drop n ps) (drop n pes) (longer (t .columns) more) in
+      (addSeason r ps pes (longer cs more) ≡ resumed (t .answer) u) × (1 ≤ u .answer .added)
   -- A ROW
   pub rows : (r : Run) (i : ℕ) (cs more : Columns) → Lent cs more → r .months ≤ long cs → rowOfRun r i (longer cs more) ≡ rowOfRun r i cs
   -- MONTHS ONE BY ONE
