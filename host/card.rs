@@ -19,7 +19,7 @@ pub const BAD_Z: u8 = 12;
 pub const ZERO_K: u8 = 21;
 
 /// What a column holds at most, how many constants a station has, and the two marks of a month.
-pub const MOST_MONTHS: usize = 2400;
+pub const MOST_MONTHS: usize = 12000;
 pub const CONSTANTS: usize = 60;
 pub const OPEN: u8 = 1;
 pub const SETTLED: u8 = 2;
@@ -28,7 +28,7 @@ pub const SETTLED: u8 = 2;
 pub fn meaning(number: u8) -> &'static str {
     match number {
         DONE => "done",
-        LENGTHS => "lists not all of one length, or length 0 or above 2,400",
+        LENGTHS => "lists not all of one length, or length 0 or above 12,000",
         NOT_SIXTY => "constants not sixty numbers",
         CONSTANT_OUT => "a constant outside its range",
         CAPACITY_OUT => "capacity outside its range",

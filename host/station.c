@@ -3,7 +3,7 @@
  *
  *   station [MONTHS] <FILE
  *
- * Without MONTHS the months are added one by one; with it, 1 to 2400, so many in a call, as by a card that was
+ * Without MONTHS the months are added one by one; with it, 1 to 12000, so many in a call, as by a card that was
  * offline.
  *
  * The file is plain text (ASCII), at most 1048576 bytes, its lines closed by a line feed; the last line, end,

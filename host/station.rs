@@ -828,8 +828,8 @@ fn station() -> Result<String, Stop> {
     };
     let text = read_input()?;
     let st = read_station(&text)?;
-    let (mut x1, mut x2, mut x3) = ([0; MOST_MONTHS], [0; MOST_MONTHS], [0; MOST_MONTHS]);
-    let (mut index, mut mark) = ([0; MOST_MONTHS], [0; MOST_MONTHS]);
+    let [mut x1, mut x2, mut x3, mut index] = [(); 4].map(|()| vec![0; MOST_MONTHS]);
+    let mut mark = vec![0; MOST_MONTHS];
     let columns = &mut Columns { x1: &mut x1, x2: &mut x2, x3: &mut x3, index: &mut index, mark: &mut mark };
     let run = start(&st)?;
     let (run, steps) =

@@ -115,7 +115,7 @@ enum {
 static inline const char *card_meaning(uint8_t number) {
     switch (number) {
     case CARD_DONE: return "done";
-    case CARD_LENGTHS: return "lists not all of one length, or length 0 or above 2,400";
+    case CARD_LENGTHS: return "lists not all of one length, or length 0 or above 12,000";
     case CARD_NOT_SIXTY: return "constants not sixty numbers";
     case CARD_CONSTANT: return "a constant outside its range";
     case CARD_CAPACITY: return "capacity outside its range";
@@ -133,7 +133,7 @@ static inline const char *card_meaning(uint8_t number) {
 }
 
 /* What a column holds at most, and how many constants a station has. */
-#define CARD_MOST_MONTHS 2400
+#define CARD_MOST_MONTHS 12000
 #define CARD_CONSTANTS 60
 
 /* The two marks of a month. */
@@ -270,11 +270,15 @@ card_started card_start(const int32_t *constants, size_t constants_length,
 /* ---- Columns -------------------------------------------------------------------------------------- */
 
 /* The five columns that hold a run's months, each with its length. They are to be of one length, 1 to
- * CARD_MOST_MONTHS, which is how many months the run can come to hold; a month takes 17 bytes in all. A
- * struct of zeros is five lists of length 0, and refused with 1.
+ * CARD_MOST_MONTHS, which is how many months the run can come to hold; a month takes 17 bytes in all, the
+ * longest columns 204,000. A struct of zeros is five lists of length 0, and refused with 1.
  *
- * Where they are full (10), copy them to the beginning of longer ones, up to CARD_MOST_MONTHS, and go on
- * with the same run; at CARD_MOST_MONTHS a new run is needed, in other columns.
+ * What a call answers and writes hangs on that length only where the months do not fit in (7) or fill it
+ * (10). So columns made for 2,400, which was the most once, stay usable and give the same answers. And a run
+ * that has filled its columns, also one that was stored so, goes on in longer ones, up to CARD_MOST_MONTHS:
+ * copy its months to their beginning and hand them in with the same run. It comes to what it would have come
+ * to there from its first month on; what stands after the months is not looked at. At CARD_MOST_MONTHS a new
+ * run is needed, in other columns.
  *
  * The calls whose names end in _in take the columns so, and are the usual way. The same calls with each
  * list by itself stand further down. card_row_in and card_row only read; card_row takes const columns. */
