@@ -43,8 +43,11 @@ ROWS = [b'month X1 X2 X3 index mark',
         b'1935-05 826 0 -4076 -4076 O']
 SEASONS = [b'season added settled index', b'1 6 6 -1793', b'2 6 5 -2140', b'3 6 3 -2617', b'4 6 10 -3755', b'5 6 6 -4968', b'6 6 5 -4076']
 
+# what a run holds
+MOST = 12000
+
 # how the months are added: one by one, and in seasons
-WAYS = [(), ('1',), ('6',), ('2400',)]
+WAYS = [(), ('1',), ('6',), (str(MOST),)]
 
 # A word that is no reading: where in it the fault is told, and the words.
 NO_READINGS = [
@@ -329,7 +332,8 @@ def end_cases():
     yield 'two faults', worded(FIRST, 1, b'abc')[0].replace(b'2.52', b'T'), FIRST, 9, b'"abc" is no number'
     yield 'two faults in a line', changed(FIRST, b'1932-06 abc T x'), FIRST, 9, b'"abc" is no number'
     yield 'a fault of the format after one that the library would refuse', worded(1, 1, b'1')[0].replace(b'2.52', b'T'), LAST, 14, b'"T" is no number'
-    yield '2,401 months and a fault', months(2401).replace(b'end', b'x'), FIRST + 2401, 1, b'"x" is no month'
+    for count in (2401, MOST + 1):
+        yield '%d months and a fault' % count, months(count).replace(b'end', b'x'), FIRST + count, 1, b'"x" is no month'
     yield '30,000 months and a fault', months(30000).replace(b'end', b'x'), FIRST + 30000, 1, b'"x" is no month'
 
 
@@ -383,12 +387,15 @@ def library_cases():
     yield 'the first of two months', worded(LAST, 1, b'-')[0].replace(b'0.53', b'101'), FIRST + 5, 14, b'PE 101' + bad
     metric = GOOD.replace(b'months inches', b'months millimetres')
     yield 'millimetres', metric.replace(b'2.52', b'2540.5'), LAST, 14, b'PE 2540.5 is refused (9: reading not acceptable), millimetres are 0 to 2540, and a missing reading is written -'
-    full = b' is refused (10: months already equal the column length), a run holds 2400'
-    yield '2,401 months', months(2401), FIRST + 2400, 1, b'1900-01' + full
-    yield '2,402 months', months(2402), FIRST + 2400, 1, b'1900-01' + full
-    yield '60,000 months', months(60000, (0, 1), (b'1 1',)), FIRST + 2400, 1, b'0200-01' + full
-    yield '2,401 months, the last one missing', months(2401).replace(b'1900-01 0.02', b'1900-01 -'), FIRST + 2400, 9, b'precipitation' + missing
-    yield '2,400 months, the last one missing', months(2400).replace(b'1899-12 2.39 0.00', b'1899-12 2.39 -'), FIRST + 2399, 14, b'PE' + missing
+    full = b' is refused (10: months already equal the column length), a run holds %d' % MOST
+    yield '12,001 months', months(MOST + 1), FIRST + MOST, 1, b'2700-01' + full
+    yield '12,002 months', months(MOST + 2), FIRST + MOST, 1, b'2700-01' + full
+    yield '12,001 months up to 9999-12', months(MOST + 1, (8999, 12)), FIRST + MOST, 1, b'9999-12' + full
+    yield '60,000 months', months(60000, (0, 1), (b'1 1',)), FIRST + MOST, 1, b'1000-01' + full
+    for count, last in ((2401, b'1900-01'), (MOST + 1, b'2700-01')):
+        yield '%d months, the last one missing' % count, months(count).replace(last + b' 0.02', last + b' -'), FIRST + count - 1, 9, b'precipitation' + missing
+    for count, last in ((2400, b'1899-12'), (MOST, b'2699-12')):
+        yield '%d months, the last one missing' % count, months(count).replace(last + b' 2.39 0.00', last + b' 2.39 -'), FIRST + count - 1, 14, b'PE' + missing
 
 
 def millimetres():
@@ -502,11 +509,14 @@ def good_files(count):
             if good(name, arguments, data) != singly[arguments]:
                 sys.exit('station: %s, arguments %r: it should print what the sample does' % (name, arguments))
             count['good'] += 1
-    for name, data, length in (('one month', months(1), 1), ('2,400 months', months(2400), 2400), ('up to 9999-12', months(30, (9997, 7)), 30), ('from 0000-01', months(30, (0, 1)), 30)):
+    ordinary = [(length, (1700, 1)) for length in (1, 2399, 2400, 2401)]
+    for length, first in ordinary + [(30, (0, 1)), (30, (9997, 7)), (MOST - 1, (0, 1)), (MOST, (9000, 1))]:
+        name, data = '%d months from %04d-%02d' % (length, *first), months(length, first)
         whole = good(name, (), data)
-        if whole.count(b'\n') != 2 * length + 2:
-            sys.exit('station: %s: %d lines' % (name, whole.count(b'\n')))
-        for arguments in WAYS + [('7',), ('0006',), ('2399',)]:
+        last = whole.split(b'\n')[-2]
+        if whole.count(b'\n') != 2 * length + 2 or not last.startswith(date(12 * first[0] + first[1] + length - 2)):
+            sys.exit('station: %s: %d lines, the last %r' % (name, whole.count(b'\n'), last))
+        for arguments in WAYS + [('7',), ('0006',), ('2399',), ('2400',), ('2401',), (str(MOST - 1),)]:
             if rows(good(name, arguments, data)) != rows(whole):
                 sys.exit('station: %s, arguments %r: the rows are not those of single months' % (name, arguments))
             count['good'] += 1
@@ -536,7 +546,7 @@ def damages(count, right):
         count['damaged, %s' % ('refused' if status else 'good')] += 1
 
 
-NO_ARGUMENTS = [('6x',), ('+6',), (' 6',), ('6 ',), ('',), ('0',), ('00',), ('-6',), ('2401',), ('99999999999999999999999',), ('18446744073709551617',), ('4294967297',),
+NO_ARGUMENTS = [('6x',), ('+6',), (' 6',), ('6 ',), ('',), ('0',), ('00',), ('-6',), (str(MOST + 1),), ('99999999999999999999999',), ('18446744073709551617',), ('4294967297',),
                 ('6.0',), ('0x6',), ('6,',), ('6\n',), ('six',), ('-',), ('--',), ('-h',), ('--help=1',), ('--HELP',), ('\u0666',), (b'\xff\n\t',), ('x' * 100,), ('1' * 100000,),
                 ('6', '6'), ('', ''), ('--help', '6'), ('6', '--help'), ('6', '6', '6')]
 
@@ -548,7 +558,7 @@ def arguments_cases(count):
             count['arguments'] += 1
     for data in (b'', GOOD):
         out, err, status = agree('help', ('--help',), data)
-        if err or status or not all(words in out for words in (b'[MONTHS] <FILE', b'samples/western-kansas-station.txt', b'README.md', b'1 to 2400', b'Status: 0 ')):
+        if err or status or not all(words in out for words in (b'[MONTHS] <FILE', b'samples/western-kansas-station.txt', b'README.md', b'1 to %d' % MOST, b'Status: 0 ')):
             sys.exit('station: --help: status %d, %r, %r' % (status, out, err))
         count['arguments'] += 1
 
@@ -578,13 +588,13 @@ def streams(count):
     """Output that cannot be written, input that cannot be read."""
     closed = b'station: standard output cannot be written\n'
     for arguments in WAYS + [('--help',)]:
-        for name, data in (('the sample', SAMPLE), ('2,400 months', months(2400))):
+        for name, data in (('the sample', SAMPLE), ('12,000 months', months(MOST))):
             for change in ('>&-', '>/dev/full'):
                 refused(name + ' ' + change, arguments, agree(name + ' ' + change, arguments, data, redirected, change), 3, closed, b'')
                 count['streams'] += 1
             refused(name + ', not read', arguments, agree(name + ', not read', arguments, data, unread, 0), 3, closed, b'')
             count['streams'] += 1
-    refused('2,400 months, read a little', (), agree('2,400 months, read a little', (), months(2400), unread, 1), 3, closed, b'')
+    refused('12,000 months, read a little', (), agree('12,000 months, read a little', (), months(MOST), unread, 1), 3, closed, b'')
     for change in ('</', '<&-', '</ >&-'):
         refused('input ' + change, (), agree('input ' + change, (), b'', redirected, change), 2, b'station: standard input cannot be read\n', b'')
     refused('an endless input', (), agree('an endless input', (), b'', redirected, '</dev/zero'), 1, b'station: the file is larger than 1048576 bytes\n', b'')

@@ -1,7 +1,7 @@
-//! Document 01 in plain Rust and in its order, with document 02's season in one call (E2), thin soils (E5) and refused
-//! zero K (E11), written from these two alone, for the library to be compared with and measured against. The sentences
-//! quoted in the comments are the documents'. It shares the library's data types and nothing else. A call borrows the run and changes it only
-//! where it does what it was asked, a season month by month.
+//! Document 01 in plain Rust and in its order, with document 02's season in one call (E2), thin soils (E5), longer lists
+//! (E9) and refused zero K (E11), written from these two alone, for the library to be compared with and measured against.
+//! The sentences quoted in the comments are the documents'. It shares the library's data types and nothing else. A call
+//! borrows the run and changes it only where it does what it was asked, a season month by month.
 #![allow(dead_code)]
 
 use crate::card::{self, Columns, Figures, MonthInches, Reading, Run, Shown, Soil, Values, Water};
@@ -9,8 +9,8 @@ use std::ops::RangeInclusive;
 
 // ---- Quantities --------------------------------------------------------------------------------------------
 
-/// "A run holds 0 to 2,400 months."
-pub const MOST_MONTHS: usize = 2_400;
+/// "Raise the limit of lent lists to 12,000 months."
+pub const MOST_MONTHS: usize = 12_000;
 /// "Z given directly: -4,000,000 to 4,000,000."
 pub const MOST_Z: i32 = 4_000_000;
 /// "C may be 100 to 30,000."
@@ -534,10 +534,10 @@ pub fn row(run: &Run, row: usize, k: &Columns) -> Result<Shown, Refusal> {
 
 /// The months of a whole series, before hindsight.
 struct Series {
-    x1: [i32; MOST_MONTHS],
-    x2: [i32; MOST_MONTHS],
-    x3: [i32; MOST_MONTHS],
-    decides: [Decides; MOST_MONTHS],
+    x1: Vec<i32>,
+    x2: Vec<i32>,
+    x3: Vec<i32>,
+    decides: Vec<Decides>,
 }
 
 /// "Whole series (a list of Z, filling a list of indexes and one of marks, equal in length, as adding them singly
@@ -551,10 +551,10 @@ pub fn whole_series(z: &[i32], index: &mut [i32], mark: &mut [u8]) -> Result<(),
         return Err(Refusal::BadZ);
     }
     let mut series = Series {
-        x1: [0; MOST_MONTHS],
-        x2: [0; MOST_MONTHS],
-        x3: [0; MOST_MONTHS],
-        decides: [Decides::Nothing; MOST_MONTHS],
+        x1: vec![0; length],
+        x2: vec![0; length],
+        x3: vec![0; length],
+        decides: vec![Decides::Nothing; length],
     };
     let mut values = Values { x1: 0, x2: 0, x3: 0, v: 0 };
     for (month, &z) in z.iter().enumerate() {
