@@ -184,18 +184,20 @@ pub fn two_fields(c: &mut Check) {
             }
         }
     }
-    for length in [0, 1, 8, MOST_MONTHS] {
+    for length in [0, 1, 8, 2_400, MOST_MONTHS] {
         let mut lists = Lists::new(&mut c.random, [length; 5], Fill::AnyBits);
         all_calls(c, &NO_RUN, &mut lists);
     }
 }
 
-/// Each column of another length than the four, beside short columns and the longest; and five of any lengths.
+/// Each column of another length than the four, beside short columns, those of the limit that was and the longest; and
+/// five of any lengths.
 pub fn lengths(c: &mut Check) {
     c.kind("columns of other lengths");
-    for length in [1, 2, 30, MOST_MONTHS] {
+    let long = [2_399, 2_400, 2_401, MOST_MONTHS - 1, MOST_MONTHS, MOST_MONTHS + 1];
+    for length in [1, 2, 30].into_iter().chain(long) {
         for column in 0..5 {
-            for other in [0, length - 1, length, length + 1, MOST_MONTHS, MOST_MONTHS + 1] {
+            for other in [0, length - 1, length, length + 1].into_iter().chain(long) {
                 let mut lengths = [length; 5];
                 lengths[column] = other;
                 let mut lists = Lists::new(&mut c.random, lengths, Fill::AnyBits);
@@ -214,11 +216,35 @@ pub fn lengths(c: &mut Check) {
     }
 }
 
+/// V at "4,000,150 x months in size" and beside it, of short runs and of those about both limits, in full columns and in
+/// the longest: 7 past it. The largest Z there leaves V at its end again.
+pub fn most_v(c: &mut Check) {
+    c.kind("V at its ends");
+    for months in [1, 2, 2_399, 2_400, 2_401, MOST_MONTHS - 1, MOST_MONTHS] {
+        for length in [months, MOST_MONTHS] {
+            let mut lists = Lists::new(&mut c.random, [length; 5], Fill::Sparse);
+            for (sign, past) in [(1, -1), (1, 0), (1, 1), (-1, -1), (-1, 0), (-1, 1)] {
+                let most = 4_000_150 * months as i64;
+                let values = Values { x1: 0, x2: 0, x3: -sign * 13_000_000, v: i64::from(sign) * (most + past) };
+                let opens = c.random.pick(&[0, 1, months]) as u32;
+                let run = Run { months: months as u32, opens, values, ..any_good_run(&mut c.random, 0) };
+                all_calls(c, &run, &mut lists);
+                let added = c.add(Add::Z(sign * MOST_Z), &run, &mut lists);
+                assert_eq!(added.number, if past > 0 { 7 } else { [0, 10][usize::from(months == length)] });
+                if added.number == 0 {
+                    assert_eq!(added.run.values.v, i64::from(sign) * (most + past + 4_000_150));
+                    all_calls(c, &added.run, &mut lists);
+                }
+            }
+        }
+    }
+}
+
 /// Runs whose last months come near the end of long columns of any content, with few and with all months open.
 pub fn long_columns(c: &mut Check, times: u64) {
     c.kind("any good run, long columns");
     for number in 0..600 * times {
-        let length = c.random.pick(&[300, MOST_MONTHS - 1, MOST_MONTHS, MOST_MONTHS]);
+        let length = c.random.pick(&[300, 2_399, 2_400, 2_401, MOST_MONTHS - 1, MOST_MONTHS, MOST_MONTHS]);
         let fill = c.random.pick(&[Fill::AnyBits, Fill::Small, Fill::Sparse, Fill::Sparse]);
         let mut lists = Lists::new(&mut c.random, [length; 5], fill);
         let mut run = any_good_run(&mut c.random, length);

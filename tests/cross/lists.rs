@@ -104,6 +104,21 @@ impl Lists {
         [k.x1.len(), k.x2.len(), k.x3.len(), k.index.len(), k.mark.len()]
     }
 
+    /// Columns of another length and of other content, with so many months of the library's copied to their beginning.
+    pub fn copied(&mut self, random: &mut Random, length: usize, months: usize) -> Lists {
+        let mut copy = Lists::new(random, [length; 5], Fill::AnyBits);
+        let from = self.library.lend();
+        for five in [&mut copy.library, &mut copy.reference, &mut copy.expected] {
+            let to = five.lend();
+            to.x1[..months].copy_from_slice(&from.x1[..months]);
+            to.x2[..months].copy_from_slice(&from.x2[..months]);
+            to.x3[..months].copy_from_slice(&from.x3[..months]);
+            to.index[..months].copy_from_slice(&from.index[..months]);
+            to.mark[..months].copy_from_slice(&from.mark[..months]);
+        }
+        copy
+    }
+
     /// Takes over from the reference what adds of so many months may write: "the new month's place in the five
     /// columns, and index and mark of the open months it settles, and nothing else".
     pub fn expect_months(&mut self, run: &Run, added: u32, settled: u32) {

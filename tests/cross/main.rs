@@ -14,6 +14,7 @@ mod card;
 mod check;
 mod conversion;
 mod lists;
+mod longer;
 mod mirror;
 mod random;
 mod read;
@@ -65,5 +66,7 @@ fn main() {
     all_calls::two_fields(&mut check);
     all_calls::lengths(&mut check);
     all_calls::long_columns(&mut check, times);
+    all_calls::most_v(&mut check);
+    longer::longer_columns(&mut check, times);
     check.print();
 }

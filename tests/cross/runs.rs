@@ -94,10 +94,11 @@ pub fn limits(run: &Run, length: usize) -> Vec<i64> {
     let ends =
         [0, 1, 12, 100, 500, 1_000, 10_000, 30_000, 50_000, 100_000, 13_000_000, 1 << 31, 1 << 32, most_v, i64::MAX];
     let [surface, underlying] = layers(run.soil.capacity).map(i64::from);
-    let own = [length as i64, 2_400, i64::from(run.months), i64::from(run.opens), surface, underlying];
+    let own = [length as i64, i64::from(run.months), i64::from(run.opens), surface, underlying];
     let mut values: Vec<i64> = ends
         .iter()
         .chain(&own)
+        .chain(&[2_400, MOST_MONTHS as i64])
         .flat_map(|&end| [end.saturating_sub(1), end, end.saturating_add(1)])
         .flat_map(|end| [end, -end])
         .collect();
@@ -109,16 +110,14 @@ pub fn limits(run: &Run, length: usize) -> Vec<i64> {
 
 /// Lengths of the five columns: all good first, then with faults.
 pub fn length_faults() -> Vec<[usize; 5]> {
-    let mut found = vec![[5; 5], [0; 5], [MOST_MONTHS + 1; 5], [MOST_MONTHS + 600; 5]];
+    let equal = [5, 2_401, MOST_MONTHS, 0, MOST_MONTHS + 1, MOST_MONTHS + 600];
+    let mut found = equal.map(|length| [length; 5]).to_vec();
     for column in 0..5 {
-        for length in [0, 4, 6] {
-            let mut lengths = [5; 5];
-            lengths[column] = length;
+        for (length, other) in [(5, 0), (5, 4), (5, 6), (2_400, 2_401), (MOST_MONTHS, MOST_MONTHS + 1)] {
+            let mut lengths = [length; 5];
+            lengths[column] = other;
             found.push(lengths);
         }
-        let mut lengths = [MOST_MONTHS; 5];
-        lengths[column] += 1;
-        found.push(lengths);
     }
     found
 }
@@ -129,8 +128,10 @@ pub fn run_faults(run: &Run) -> Vec<Run> {
     for months in [run.months, 5] {
         let good = Run { months, ..*run };
         found.push(good);
-        let faults = [(0, 6), (0, 2_500), (1, i64::from(months) + 1), (2, 0), (3, 99), (4, 1_001), (5, 29_001)];
-        for (field, value) in faults.into_iter().chain([(6, -1), (7, 1), (8, 13_000_001), (9, 1), (FIELDS, -1)]) {
+        let counts = [(0, 6), (0, 2_500), (0, MOST_MONTHS as i64 + 100), (1, i64::from(months) + 1)];
+        let soil = [(2, 0), (3, 99), (4, 1_001), (5, 29_001)];
+        let values = [(6, -1), (7, 1), (8, 13_000_001), (9, 1), (FIELDS, -1)];
+        for (field, value) in counts.into_iter().chain(soil).chain(values) {
             let mut spoiled = good;
             set_field(&mut spoiled, field, value);
             found.push(spoiled);

@@ -1,7 +1,7 @@
 //! card_add_season: against the reference, and against the library's own single adds.
 
 use crate::add::{pick_add, Way};
-use crate::add_z::{pick_z, STYLES};
+use crate::add_z::{pick_z, Style, STYLES};
 use crate::card::{self, Columns, Figures, Reading, Run, Season, Values};
 use crate::check::{differ, Call, Check};
 use crate::lists::{edged, inner, unchanged, Fill, Lists};
@@ -88,7 +88,7 @@ impl Check {
 }
 
 /// Constants by which every month's Z is P - PE: alpha and K are 10,000, and the others 0.
-const PLAIN: [i32; 60] = {
+pub const PLAIN: [i32; 60] = {
     let mut constants = [0; 60];
     let mut first = 0;
     while first < 60 {
@@ -113,8 +113,14 @@ fn season_run(random: &mut Random, length: usize, fresh: bool) -> Run {
     run
 }
 
+/// Precipitation and PE of a month whose Z, where it is P - PE, is one of this style.
+pub fn plain_month(random: &mut Random, style: Style, values: &Values) -> (i32, i32) {
+    let z = pick_z(random, style, values).clamp(-100_000, 100_000);
+    (z.max(0), (-z).max(0))
+}
+
 /// Good readings of so many months. Where the run's Z is P - PE, they are chosen for their Z.
-fn good_months(random: &mut Random, run: &Run, length: usize) -> Months {
+pub fn good_months(random: &mut Random, run: &Run, length: usize) -> Months {
     let most_p = random.pick(&[300, 4_000, 9_000, 9_000, 100_000]);
     let most_pe = random.pick(&[300, 4_000, 9_000, 9_000, 100_000]);
     let mut style = random.pick(&STYLES);
@@ -127,9 +133,9 @@ fn good_months(random: &mut Random, run: &Run, length: usize) -> Months {
         if random.one_in(change) {
             style = random.pick(&STYLES);
         }
-        let z = pick_z(random, style, &values).clamp(-100_000, 100_000);
-        values = reference::spell_month(&values, z).values;
-        (z.max(0), (-z).max(0))
+        let (p, pe) = plain_month(random, style, &values);
+        values = reference::spell_month(&values, p - pe).values;
+        (p, pe)
     });
     let (p, pe) = readings.unzip();
     Months { p, pe }
@@ -229,13 +235,17 @@ fn season_refusals(c: &mut Check) {
 
 /// Seasons as long as the columns may be, and longer than they are.
 fn long_seasons(c: &mut Check, times: u64) {
-    let groups = [("seasons, up to 400 months", 13, 400, 200), ("seasons, up to 3,000 months", 401, 3_000, 30)];
+    let groups = [
+        ("seasons, up to 400 months", 13, 400, 300),
+        ("seasons, up to 3,000 months", 401, 3_000, 45),
+        ("seasons, up to 15,000 months", 3_001, 15_000, 18),
+    ];
     for (name, least, most, amount) in groups {
         c.kind(name);
         for number in 0..amount * times {
             let season = c.random.within(least, most) as usize;
-            let most = season.min(MOST_MONTHS) as i64;
-            let length = if number % 2 == 0 { MOST_MONTHS } else { c.random.within(1, most) as usize };
+            let any = c.random.within(1, season.min(MOST_MONTHS) as i64) as usize;
+            let length = [MOST_MONTHS, any, 2_400][number as usize % 3];
             let mut lists = Lists::new(&mut c.random, [length; 5], Fill::AnyBits);
             let run = season_run(&mut c.random, length, number % 4 < 2);
             let mut months = good_months(&mut c.random, &run, season);
@@ -246,16 +256,27 @@ fn long_seasons(c: &mut Check, times: u64) {
         }
     }
     c.kind("seasons, about 2,400 months");
-    for season in [MOST_MONTHS - 1, MOST_MONTHS, MOST_MONTHS + 1, 10_000] {
-        let mut lists = Lists::new(&mut c.random, [MOST_MONTHS; 5], Fill::AnyBits);
-        let mut run = season_run(&mut c.random, MOST_MONTHS, true);
-        let months = good_months(&mut c.random, &run, season);
+    full_seasons(c, 2_400);
+    c.kind("seasons, about 12,000 months");
+    full_seasons(c, MOST_MONTHS);
+}
+
+/// Seasons that fill columns of this length but for a month, to the last, and beyond; and with a month more in one list.
+fn full_seasons(c: &mut Check, length: usize) {
+    for season in [length - 1, length, length + 1, length + 7_600] {
+        let mut lists = Lists::new(&mut c.random, [length; 5], Fill::AnyBits);
+        let mut run = season_run(&mut c.random, length, true);
+        let mut months = good_months(&mut c.random, &run, season);
+        c.season(&months, &run, &mut lists);
+        months.pe.push(700);
+        c.season(&months, &run, &mut lists);
+        (months.p, months.pe) = (months.pe, months.p);
         c.season(&months, &run, &mut lists);
         // The second month and those after it stay open until the last, which decides for all of them.
         run.constants = PLAIN;
         let mut months = Months { p: vec![0; season], pe: vec![0; season] };
         (months.p[0], months.pe[1]) = (12, 3);
-        months.p[season.min(MOST_MONTHS) - 1] = 3_000;
+        months.p[season.min(length) - 1] = 3_000;
         c.season(&months, &run, &mut lists);
     }
 }

@@ -8,12 +8,15 @@ use crate::reference::{MOST_MONTHS, MOST_Z};
 use crate::runs::{good_constants, good_soil};
 
 pub fn series(c: &mut Check, times: u64) {
+    let limit = MOST_MONTHS as i64;
     let groups = [
         ("series, 1 and 2 months", 1, 2, 2_000),
         ("series, up to 60 months", 3, 60, 8_000),
         ("series, up to 400 months", 61, 400, 1_000),
         ("series, up to 2,399 months", 401, 2_399, 40),
         ("series, 2,400 months", 2_400, 2_400, 30),
+        ("series, up to 11,999 months", 2_401, limit - 1, 8),
+        ("series, 12,000 months", limit, limit, 8),
     ];
     for (name, least, most, amount) in groups {
         c.kind(name);
@@ -65,8 +68,8 @@ fn one_series(c: &mut Check, length: usize, way: Way) {
 /// Runs whose months stay open until the last one, which decides for all of them or not.
 pub fn open_to_the_last(c: &mut Check, times: u64) {
     c.kind("series, open to the last month");
-    for number in 0..6 * times {
-        let length = if number % 2 == 0 { MOST_MONTHS } else { c.random.within(2, 600) as usize };
+    for number in 0..9 * times {
+        let length = [MOST_MONTHS, 2_400, c.random.within(2, 600) as usize][number as usize % 3];
         let mut lists = Lists::new(&mut c.random, [length; 5], Fill::AnyBits);
         let constants = good_constants(&mut c.random);
         let mut run = c.start(&constants, [6_000, 0, 0, 1]).run;

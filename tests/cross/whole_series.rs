@@ -45,7 +45,7 @@ impl Check {
 /// Lists of Z for the whole series alone.
 pub fn whole_lists(c: &mut Check, times: u64) {
     c.kind("whole series, months left open");
-    for length in [1, 2, 3, 4, 1_000, MOST_MONTHS] {
+    for length in [1, 2, 3, 4, 1_000, 2_399, 2_400, 2_401, MOST_MONTHS - 1, MOST_MONTHS] {
         for (first, second) in [(12, -3), (-12, 3), (2_998, -1), (-2_998, 1)] {
             let mut z = vec![0; length];
             z[0] = first;
@@ -59,8 +59,8 @@ pub fn whole_lists(c: &mut Check, times: u64) {
         }
     }
     c.kind("whole series, random");
-    for _ in 0..5_000 * times {
-        let most = c.random.pick(&[4, 60, 400, 400, 2_400]);
+    for _ in 0..6_000 * times {
+        let most = c.random.pick(&[4, 60, 400, 400, 2_400, MOST_MONTHS as i64]);
         let length = c.random.within(1, most) as usize;
         let change = c.random.pick(&[3, 12, 60, 1_500]);
         let mut style = c.random.pick(&STYLES);
@@ -85,7 +85,7 @@ pub fn whole_lists(c: &mut Check, times: u64) {
 
 pub fn whole_refusals(c: &mut Check) {
     c.kind("several refusals, whole series");
-    let lengths = [0, 1, 2, 3, MOST_MONTHS - 1, MOST_MONTHS, MOST_MONTHS + 1];
+    let lengths = [0, 1, 2, 3, 2_399, 2_400, 2_401, MOST_MONTHS - 1, MOST_MONTHS, MOST_MONTHS + 1];
     for z in lengths {
         for index in lengths {
             for mark in lengths {
