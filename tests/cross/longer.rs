@@ -147,15 +147,16 @@ impl Pair {
         self.run = straight.run;
     }
 
-    /// Takes a step in both, and compares all that it may have written.
-    fn both(&mut self, c: &mut Check, step: &Step) {
+    /// Takes a step in both, compares all that it may have written, and hands its number back.
+    fn both(&mut self, c: &mut Check, step: &Step) -> u8 {
         let moved = step.take(c, &self.run, &mut self.moved);
         let straight = step.take(c, &self.run, &mut self.straight);
         let first = (self.run.months - self.run.opens) as usize;
         self.compare(step, moved, straight, first..straight.run.months as usize);
+        straight.number
     }
 
-    /// Steps until there are so many months.
+    /// Steps until there are so many months, for which there is room.
     fn fill(&mut self, c: &mut Check, record: Record, until: usize) {
         while (self.run.months as usize) < until {
             let room = until - self.run.months as usize;
@@ -164,7 +165,10 @@ impl Pair {
                 0 => record.one(&mut c.random, &self.run),
                 _ => record.season(&mut c.random, &self.run, season),
             };
-            self.both(c, &step);
+            let number = self.both(c, &step);
+            if number != 0 {
+                differ(step.call(), &(step, self.run, "where there is room"), &number, &0);
+            }
         }
     }
 
@@ -206,7 +210,7 @@ fn full(c: &mut Check, run: &Run, lists: &mut Lists) {
     for step in [Step::One(Add::Z(12)), Step::One(month), Step::One(inches), season] {
         let answer = step.take(c, run, lists);
         if (answer.number, answer.added, answer.run) != (10, 0, *run) {
-            differ(step.call(), &(step, run, lists.lengths(), "in full columns"), &answer, &"10");
+            differ(step.call(), &(step, run, lists.lengths(), "in full columns"), &answer, &10);
         }
     }
 }

@@ -44,9 +44,20 @@ pub fn worked_months(c: &mut Check) {
     assert_eq!((s6.settled, s6.figures.index), (4, 2091));
     assert_eq!(lists.library.lend().index[..4], [1197, -487, -970, 2091]);
     assert_eq!(c.whole(&[-3000, 1040, 0], 3, 3), (0, vec![-1000, 347, 311], vec![2; 3]));
+    longest_lists(c, &constants);
     more_water(c, &constants, &mut lists);
     thin_water(c, &constants, &mut lists);
     turned_spells(c, &constants, &mut lists);
+}
+
+/// Document 02, of longer lists: "1 now begins above 12,000."
+fn longest_lists(c: &mut Check, constants: &[i32]) {
+    let run = c.start(constants, [6000, 0, 0, 1]).run;
+    for (length, number) in [(2400, 0), (2401, 0), (12_000, 0), (12_001, 1)] {
+        let mut lists = Lists::new(&mut c.random, [length; 5], Fill::AnyBits);
+        assert_eq!(c.add(Add::Z(0), &run, &mut lists).number, number);
+        assert_eq!(c.whole(&vec![0; length], length, length).0, number);
+    }
 }
 
 /// Two months of a soil of 100, from document 02's thin soils, worked out by hand: one that dries, one that overflows.
