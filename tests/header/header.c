@@ -293,7 +293,7 @@ static call good_call(int kind) {
 
 static void try_meanings(void) {
     static const char *const words[13] = {
-        "done", "lists not all of one length, or length 0 or above 2,400", "constants not sixty numbers",
+        "done", "lists not all of one length, or length 0 or above 12,000", "constants not sixty numbers",
         "a constant outside its range", "capacity outside its range",
         "a start storage negative or above its layer", "start month not 1 to 12", "not a run",
         "reading missing", "reading not acceptable", "months already equal the column length",
@@ -312,6 +312,7 @@ static void try_sizes(void) {
     check("sizes", sizeof(card_added) == 368, "card_added is not 368 bytes");
     check("sizes", sizeof(card_season) == 376, "card_season is not 376 bytes");
     check("sizes", sizeof(lists) == 17 * MONTHS, "a month is not 17 bytes in the columns");
+    check("sizes", CARD_MOST_MONTHS == 12000 && 17 * CARD_MOST_MONTHS == 204000, "the longest columns");
 }
 
 /* The columns with length 0 for each in the set, at the address that they have, or at NULL. */
@@ -529,6 +530,85 @@ static void try_a_run(void) {
         check_number("row", a.number, CARD_DONE);
         check("row", a.shown.index == t.library.index[row] && a.shown.mark == t.library.mark[row] &&
               a.shown.x3 == t.library.x3[row], "not what the columns hold");
+    }
+}
+
+/* ---- Long columns --------------------------------------------------------------------------------- */
+
+/* As long as columns may be, and a place more. */
+typedef struct long_lists {
+    int32_t x1[CARD_MOST_MONTHS + 1], x2[CARD_MOST_MONTHS + 1], x3[CARD_MOST_MONTHS + 1];
+    int32_t index[CARD_MOST_MONTHS + 1];
+    uint8_t mark[CARD_MOST_MONTHS + 1];
+} long_lists;
+
+static card_columns lent_long(long_lists *of, size_t length) {
+    return card_columns_of(of->x1, of->x2, of->x3, of->index, of->mark, length);
+}
+
+/* Every call by the length of its lists: 2,400 and its sides are lengths as others are, and 1 begins above 12,000. */
+static void try_lengths(void) {
+    static const size_t lengths[] = {2399, 2400, 2401, 11999, 12000, 12001};
+    static long_lists held;
+    static int32_t z[CARD_MOST_MONTHS + 1];
+    card_run run = station();
+    for (size_t i = 0; i < sizeof lengths / sizeof *lengths; i++) {
+        size_t n = lengths[i];
+        for (int kind = 0; kind < KINDS; kind++) {
+            answer a = by_columns(good_call(kind), run, lent_long(&held, n));
+            uint8_t good = kind == ROW ? CARD_NO_ROW : CARD_DONE;
+            check_number(KIND_NAMES[kind], a.number, n > 12000 ? CARD_LENGTHS : good);
+        }
+        uint8_t number = card_whole_series(z, n, held.index, n, held.mark, n);
+        check_number("whole series", number, n > 12000 ? CARD_LENGTHS : CARD_DONE);
+    }
+}
+
+static void check_full(card_run run, card_columns k) {
+    for (int kind = WATER; kind <= SEASON; kind++) {
+        answer a = by_columns(good_call(kind), run, k);
+        check_refused("full columns", &a, CARD_FULL, run);
+    }
+}
+
+static void copy_months(long_lists *to, const long_lists *from, size_t months) {
+    memcpy(to->x1, from->x1, months * sizeof *to->x1);
+    memcpy(to->x2, from->x2, months * sizeof *to->x2);
+    memcpy(to->x3, from->x3, months * sizeof *to->x3);
+    memcpy(to->index, from->index, months * sizeof *to->index);
+    memcpy(to->mark, from->mark, months * sizeof *to->mark);
+}
+
+/* Adds months in both sets of columns until the first is full; all answers must be the same. */
+static card_run fill_beside(card_run run, card_columns k, card_columns straight) {
+    while (run.months < k.x1_length) {
+        call c = good_call(k.x1_length - run.months < 3 ? Z : drawn(WATER, SEASON));
+        answer a = by_columns(c, run, k), b = by_columns(c, run, straight);
+        check_number("longer columns", a.number, CARD_DONE);
+        check_same("longer columns", &a, &b);
+        run = a.run;
+    }
+    check_full(run, k);
+    return run;
+}
+
+/* A run fills columns of 2,400, and goes on in the longest with its months copied there: it comes to what it comes to
+ * there from its first month on. */
+static void try_longer(void) {
+    static long_lists shorter, longer, straight;
+    card_columns all = lent_long(&straight, CARD_MOST_MONTHS);
+    card_run run = fill_beside(station(), lent_long(&shorter, 2400), all);
+    memset(&longer, 77, sizeof longer);
+    copy_months(&longer, &shorter, run.months);
+    run = fill_beside(run, lent_long(&longer, CARD_MOST_MONTHS), all);
+    check_full(run, all);
+    check("longer columns", longer.index[CARD_MOST_MONTHS] == 0x4d4d4d4d, "a place was written that was not lent");
+    for (size_t row = 0; row < run.months; row++) {
+        call c = good_call(ROW);
+        c.row = row;
+        answer a = by_columns(c, run, lent_long(&longer, CARD_MOST_MONTHS)), b = by_columns(c, run, all);
+        check_number("longer columns", a.number, CARD_DONE);
+        check_same("longer columns", &a, &b);
     }
 }
 
@@ -768,6 +848,8 @@ int main(void) {
     try_zeros();
     try_unequal();
     try_a_run();
+    try_lengths();
+    try_longer();
     try_pointers();
     try_soils();
     try_thin();
