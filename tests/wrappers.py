@@ -229,6 +229,8 @@ def arguments():
             status, out, err = ran(words + [option])
             if status != 0 or words[0].encode() not in out.split(b'\n')[0] or err:
                 sys.exit('wrappers: %s %s: %r' % (words[0], option, (status, out, err)))
+    if b'MONTHS at a time (1 to 12000)' not in ran(['station', '--help'])[1]:
+        sys.exit('wrappers: station --help does not say how many months a call takes')
     for words, said in WRONG:
         asked(' '.join(words), ran(words), 2, b'', said)
     with open(os.path.join(TOP, 'samples', 'western-kansas-station.txt'), 'rb') as f:
