@@ -190,8 +190,8 @@ pub fn two_fields(c: &mut Check) {
     }
 }
 
-/// Each column of another length than the four, beside short columns, those of the limit that was and the longest; and
-/// five of any lengths.
+/// Each column of another length than the four, beside short columns, those about 2,400 and the longest; and five of any
+/// lengths.
 pub fn lengths(c: &mut Check) {
     c.kind("columns of other lengths");
     let long = [2_399, 2_400, 2_401, MOST_MONTHS - 1, MOST_MONTHS, MOST_MONTHS + 1];
@@ -216,8 +216,8 @@ pub fn lengths(c: &mut Check) {
     }
 }
 
-/// V at "4,000,150 x months in size" and beside it, of short runs and of those about both limits, in full columns and in
-/// the longest: 7 past it. The largest Z there leaves V at its end again.
+/// V at "4,000,150 x months in size" and beside it, of short runs, those about 2,400 and the longest, in full columns and
+/// in the longest: past it 7. From its end the largest Z leads to the end of one month more.
 pub fn most_v(c: &mut Check) {
     c.kind("V at its ends");
     for months in [1, 2, 2_399, 2_400, 2_401, MOST_MONTHS - 1, MOST_MONTHS] {
@@ -230,7 +230,8 @@ pub fn most_v(c: &mut Check) {
                 let run = Run { months: months as u32, opens, values, ..any_good_run(&mut c.random, 0) };
                 all_calls(c, &run, &mut lists);
                 let added = c.add(Add::Z(sign * MOST_Z), &run, &mut lists);
-                assert_eq!(added.number, if past > 0 { 7 } else { [0, 10][usize::from(months == length)] });
+                let good = if months < length { 0 } else { 10 };
+                assert_eq!(added.number, if past > 0 { 7 } else { good });
                 if added.number == 0 {
                     assert_eq!(added.run.values.v, i64::from(sign) * (most + past + 4_000_150));
                     all_calls(c, &added.run, &mut lists);
@@ -243,7 +244,7 @@ pub fn most_v(c: &mut Check) {
 /// Runs whose last months come near the end of long columns of any content, with few and with all months open.
 pub fn long_columns(c: &mut Check, times: u64) {
     c.kind("any good run, long columns");
-    for number in 0..600 * times {
+    for number in 0..1_050 * times {
         let length = c.random.pick(&[300, 2_399, 2_400, 2_401, MOST_MONTHS - 1, MOST_MONTHS, MOST_MONTHS]);
         let fill = c.random.pick(&[Fill::AnyBits, Fill::Small, Fill::Sparse, Fill::Sparse]);
         let mut lists = Lists::new(&mut c.random, [length; 5], fill);

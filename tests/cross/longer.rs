@@ -1,7 +1,7 @@
 //! A run in columns of two lengths. While the shorter ones have room, both come to the same. Where they are full it goes on
 //! in longer ones of other content, to whose beginning its months were copied, beside the run that never stopped: every
-//! answer, every place of a month and every row are the same. It is the library's own answers that are compared so, each
-//! of them after it was held to the reference.
+//! answer, every place of a month and every row are the same. So the library is held to itself, after each call was held to
+//! the reference.
 
 use crate::add::{pick_add, Add, Way};
 use crate::add_z::{pick_z, Style, STYLES};
