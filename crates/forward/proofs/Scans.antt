@@ -10,6 +10,7 @@ use lib.ListN.{length, take, drop, set, getD, replicate, length-set, take-append
 use lib.Seq.{take-all, drop-cons}
 use Rattle.outline.specs.Numbers.{mostU, mostMonths}
 use Rattle.ending.specs.Bounds.{mostV}
+use Rattle.spells.specs.Chance.{withoutChance}
 use Rattle.spells.specs.declared.Running.{Running}
 use Rattle.spells.specs.declared.SpellMonth.{SpellMonth}
 use Rattle.spells.specs.declared.Decision.the-variants.{Decides}
@@ -169,11 +170,11 @@ module _ {zs index₀ : List ℤ} {mark₀ : List ℕ} {v₀ : Running} {from : 
           ap (rows v₀) (part-rest zs from at (g .index-is .low))
           ∙ rw (drop-cons zs at (pos 0) l, rows-append nextValues rowOfZ v₀ (part from at zs) (z ∷ drop (suc at) zs), ← g .state, add-one at) refl
 
-      coded : (m : SpellMonth) (k : ℕ) → m ≡ r → k ≡ decisionNumber (m .decision) → r .decision ≡ decisionOf k
+      coded : (m : SpellMonth) (k : ℕ) → m ≡ withoutChance r → k ≡ decisionNumber (m .decision) → r .decision ≡ decisionOf k
       coded m k e f = rw (f, e) (sym (number-is (r .decision)))
 
       -- a month that decides nothing is passed
-      pub scan-next : (m : SpellMonth) (k a : ℕ) → m ≡ r → k ≡ decisionNumber (m .decision) → k ≡ 0 → a ≡ sideNumber (nonzero (m .after .x1)) (nonzero (m .after .x2)) 0
+      pub scan-next : (m : SpellMonth) (k a : ℕ) → m ≡ withoutChance r → k ≡ decisionNumber (m .decision) → k ≡ 0 → a ≡ sideNumber (nonzero (m .after .x1)) (nonzero (m .after .x2)) 0
           → Scanning zs index₀ mark₀ v₀ from (set index at (m .index)) (set mark at a) (m .after) k (at + 1)
       scan-next m k a e f o c =
           rw (c, e)
@@ -190,7 +191,7 @@ module _ {zs index₀ : List ℤ} {mark₀ : List ℕ} {v₀ : Running} {from : 
           })
 
       -- a month that decides ends the group
-      pub left-decides : (m : SpellMonth) (k : ℕ) → m ≡ r → k ≡ decisionNumber (m .decision) → (k ≡ 0 → ⊥)
+      pub left-decides : (m : SpellMonth) (k : ℕ) → m ≡ withoutChance r → k ≡ decisionNumber (m .decision) → (k ≡ 0 → ⊥)
           → Left zs (set index at (m .index)) (set mark at 2) (v₀ .x1) (v₀ .x2) (m .after) from k at
       left-decides m k e f o =
           let d : r .decision ≡ Decides (withOf k) = coded m k e f ∙ decision-some k o in

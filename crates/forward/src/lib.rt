@@ -69,7 +69,7 @@ pub fn look_forward(z: &[i32], index: &mut [i32], mark: &mut [u8])
         let mut by: u8 = 0;
         let mut at = from;
         'deciding: while at < n {
-            let s = spells::step(v, z[at]);
+            let s = spells::step_without_chance(v, z[at]);
             v = s.after;
             let d = s.decision;
             let e = s.index;

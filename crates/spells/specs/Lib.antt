@@ -2,5 +2,6 @@
 pub mod Values
 pub mod Spells
 pub mod Decisions
--- What only a proof wants: running values as "not a run" lets them through, as facts (ValuesFit).
+-- What only a proof wants: running values as "not a run" lets them through, as facts (ValuesFit), and a month without its chance (Chance).
 pub mod ValuesFit
+pub mod Chance

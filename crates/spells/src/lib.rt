@@ -1,7 +1,7 @@
 // One month of spells: X1, X2, X3, V, the chance of an ending, and what the month decides with.
 //
-// `step`, `raised_next` and `lowered_next` are for the crates above, which hold the running values and Z in range
-// before they call. Whether a spell in force has ended is the crate `ending`'s.
+// `step`, `step_without_chance`, `raised_next` and `lowered_next` are for the crates above, which hold the running values
+// and Z in range before they call. Whether a spell in force has ended is the crate `ending`'s.
 use outline::FOUNDS;
 use outline::IN_FORCE;
 ghost use mathlib.Core.Path.{_≡_};
@@ -9,6 +9,7 @@ ghost use Prim.Native.Nat.{_≤_};
 ghost use lib.IntN.{natAbs};
 ghost use Rattle.exact.specs.Next.{nextOf};
 ghost use Rattle.outline.specs.Numbers.{mostX, mostZ};
+ghost use Rattle.spells.specs.Chance.{withoutChance};
 ghost use Rattle.spells.specs.ValuesFit.{SidesFit, ValuesFit};
 ghost use Rattle.spells.specs.Decisions.{withNumber, decisionNumber};
 ghost use Rattle.spells.specs.Spells.{raised, lowered, largerInSize, provisional, steadyMonth, abatingMonth, founded, unfounded, tried, noSpell, stepOf};
@@ -229,4 +230,25 @@ pub fn step(s: Running, z: i32) -> SpellMonth
         percent = 100;
     }
     no_spell(s, z, percent)
+}
+
+// One month of spells without its chance, with a percent of 0: a whole series shows none. For the crates above, which hold
+// the running values and Z in range.
+pub fn step_without_chance(s: Running, z: i32) -> SpellMonth
+    requires { ⌜ ValuesFit s ⌝ }
+    requires { ⌜ natAbs z ≤ mostZ ⌝ }
+    ensures { λ r. ⌜ r ≡ withoutChance (stepOf s z) ⌝ }
+{
+    let wet = s.x3 > IN_FORCE;
+    let dry = s.x3 < 0 - IN_FORCE;
+    if wet | dry {
+        if ending::is_steady(wet, s.v, z) {
+            return steady(s.x3, z);
+        }
+        if !ending::has_ended(wet, s.x3, z) {
+            let v = ending::kept_v(wet, s.v, z);
+            return abating(s, v, z, 0);
+        }
+    }
+    no_spell(s, z, 0)
 }

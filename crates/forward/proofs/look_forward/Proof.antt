@@ -36,20 +36,20 @@ deciding-holds c =
     let mo = c .before .before .before in
     (refl, scan-first (mo .months .inv .1) (c .before .before .months-test .taken))
 
-mul-step : tie.Need-mul-step Inv-deciding μ-deciding Inv-months μ-months
-mul-step c = omega arith
+mul-step-without-chance : tie.Need-mul-step-without-chance Inv-deciding μ-deciding Inv-months μ-months
+mul-step-without-chance c = omega arith
 
-shared-slice-copy-out-step :
-    tie.Need-shared-slice-copy-out-step Inv-deciding μ-deciding Inv-months μ-months
-shared-slice-copy-out-step c = omega arith
+shared-slice-copy-out-step-without-chance :
+    tie.Need-shared-slice-copy-out-step-without-chance Inv-deciding μ-deciding Inv-months μ-months
+shared-slice-copy-out-step-without-chance c = omega arith
 
-step-requires : tie.Need-step-requires Inv-deciding μ-deciding Inv-months μ-months
-step-requires c κs =
+step-without-chance-requires : tie.Need-step-without-chance-requires Inv-deciding μ-deciding Inv-months μ-months
+step-without-chance-requires c κs =
     let ad = c .before .before in
     let mo = ad .before .before .before .before in
     let s = mo .before .before in
     let z = now (s .args .z) in
-    let zt : SFits w32 (getD z (ad .deciding .at) (pos 0)) = record { sfits = c .step-arg .given } in (
+    let zt : SFits w32 (getD z (ad .deciding .at) (pos 0)) = record { sfits = c .step-without-chance-arg .given } in (
       scan-fits (mo .months .inv .1) (ad .deciding .inv .1) (s .pre .0 .0),
       rw (toZ-ofZ zt) (s .pre .1 (ad .deciding .at) (omega arith)),
     )
@@ -87,15 +87,15 @@ deciding-again c =
     let mo = ad .before .before .before .before in
     let s = mo .before .before in
     let z = now (s .args .z) in
-    let m = st .step .result in
-    let zt : SFits w32 (getD z (ad .deciding .at) (pos 0)) = record { sfits = st .before .step-arg .given } in
+    let m = st .step-without-chance .result in
+    let zt : SFits w32 (getD z (ad .deciding .at) (pos 0)) = record { sfits = st .before .step-without-chance-arg .given } in
     let za : SFits w32 (m .after .x1) = record { sfits = search (needs, c .before .before .struct-told4 .given) } in
     let zb : SFits w32 (m .after .x2) = record { sfits = search (needs, c .before .struct-told5 .given) } in
     let ze : SFits w32 (m .index) = record { sfits = search (needs, dn .before .struct-told3 .given) } in (
       refl,
       rw (toZ-ofZ ze)
           (scan-next (mo .months .inv .1) (ad .deciding .inv .1) (s .pre .1) (st .before .before .deciding-test .taken) m (dn .decision-number .result) (c .told .result)
-          (rw (toZ-ofZ zt) at (st .step .ensures)) (dn .decision-number .ensures) (c .before .before .before .if1 .left) (rw (toZ-ofZ za, toZ-ofZ zb) at (c .told .ensures))),
+          (rw (toZ-ofZ zt) at (st .step-without-chance .ensures)) (dn .decision-number .ensures) (c .before .before .before .if1 .left) (rw (toZ-ofZ za, toZ-ofZ zb) at (c .told .ensures))),
     )
 
 -- where the two ways out of the scan meet
@@ -165,9 +165,9 @@ look-forward-spec =
     μ-months
     months-holds
     deciding-holds
-    mul-step
-    shared-slice-copy-out-step
-    step-requires
+    mul-step-without-chance
+    shared-slice-copy-out-step-without-chance
+    step-without-chance-requires
     mul-e
     slice-set-from-e
     decision-number-requires
