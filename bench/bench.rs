@@ -13,7 +13,7 @@ mod card;
 mod reference;
 mod stack;
 
-use card::{Columns, MonthInches, Reading, Run};
+use card::{Columns, MonthInches, Reading, Run, MOST_MONTHS};
 use reference::{Added, Refusal, Season};
 use std::hint::black_box;
 use std::time::{Duration, Instant};
@@ -32,7 +32,8 @@ fn main() {
         ["time", kind, side] => time(find(kind, side)),
         [kind, side, rounds] => {
             let rounds = rounds.parse().unwrap_or_else(|_| usage());
-            println!("{}", work(find(kind, side).1, &mut Inputs::new(), rounds));
+            let (mut inputs, _, round) = find(kind, side);
+            println!("{}", work(round, &mut inputs, rounds));
         }
         _ => usage(),
     }
@@ -51,8 +52,8 @@ type Round = fn(&mut Inputs) -> u32;
 /// The library that is linked; the reference in place; a reading by way of a double; a call that only hands over.
 type Sides = &'static [(&'static str, Round)];
 
-/// A kind's name, the operations in a round, its sides, and what an operation is.
-type Kind = (&'static str, usize, Sides, &'static str);
+/// A kind's name, the months of its columns, the operations in a round, its sides, and what an operation is.
+type Kind = (&'static str, usize, usize, Sides, &'static str);
 
 const fn both(library: Round, rust: Round) -> [(&'static str, Round); 2] {
     [("library", library), ("rust", rust)]
@@ -63,32 +64,34 @@ const fn with_double(library: Round, rust: Round, double: Round) -> [(&'static s
 }
 
 #[rustfmt::skip]
-const KINDS: [Kind; 15] = [
-    ("add-water", MONTHS, &both(add::water_library, add::water_rust), "add water, two readings"),
-    ("add-inches", MONTHS, &both(add::inches_library, add::inches_rust), "add water, two binary32 inches"),
-    ("add-z", MONTHS, &both(add::z_library, add::z_rust), "add a Z"),
-    ("handed", MONTHS, &[("handed", handed::over)], "a run handed in and back, no more"),
-    ("season-6", MONTHS, &both(season::six_library, season::six_rust), "a month of a season of 6"),
-    ("season-2400", MONTHS, &both(season::all_library, season::all_rust), "a month of a season of 2,400"),
-    ("row", MONTHS, &both(row::library, row::rust), "show a row"),
-    ("start", MONTHS, &both(start::library, start::rust), "start a run"),
-    ("series-240", 1, &both(series::few_library, series::few_rust), "whole series, 240 ordinary months"),
-    ("series-240-open", 1, &both(series::few_open_library, series::few_open_rust), "whole series, 240 months left open"),
-    ("series-2400", 1, &both(series::library, series::rust), "whole series, 2,400 ordinary months"),
-    ("series-2400-open", 1, &both(series::open_library, series::open_rust), "whole series, 2,400 months left open"),
-    ("read-inches", READINGS, &with_double(read::inches_library, read::inches_rust, read::inches_double), "read inches"),
-    ("read-mm", READINGS, &with_double(read::mm_library, read::mm_rust, read::mm_double), "read millimetres"),
-    ("read-whole", READINGS, &both(read::whole_library, read::whole_rust), "read whole thousandths"),
+const KINDS: [Kind; 17] = [
+    ("add-water", MONTHS, MONTHS, &both(add::water_library, add::water_rust), "add water, two readings"),
+    ("add-inches", MONTHS, MONTHS, &both(add::inches_library, add::inches_rust), "add water, two binary32 inches"),
+    ("add-z", MONTHS, MONTHS, &both(add::z_library, add::z_rust), "add a Z"),
+    ("handed", MONTHS, MONTHS, &[("handed", handed::over)], "a run handed in and back, no more"),
+    ("season-6", MONTHS, MONTHS, &both(season::six_library, season::six_rust), "a month of a season of 6"),
+    ("season-2400", MONTHS, MONTHS, &both(season::all_library, season::all_rust), "a month of a season of 2,400"),
+    ("row", MONTHS, MONTHS, &both(row::library, row::rust), "show a row"),
+    ("start", MONTHS, MONTHS, &both(start::library, start::rust), "start a run"),
+    ("series-240", FEW_MONTHS, 1, &both(series::library, series::rust), "whole series, 240 ordinary months"),
+    ("series-240-open", FEW_MONTHS, 1, &both(series::open_library, series::open_rust), "whole series, 240 months left open"),
+    ("series-2400", MONTHS, 1, &both(series::library, series::rust), "whole series, 2,400 ordinary months"),
+    ("series-2400-open", MONTHS, 1, &both(series::open_library, series::open_rust), "whole series, 2,400 months left open"),
+    ("series-12000", MOST_MONTHS, 1, &both(series::library, series::rust), "whole series, 12,000 ordinary months"),
+    ("series-12000-open", MOST_MONTHS, 1, &both(series::open_library, series::open_rust), "whole series, 12,000 months left open"),
+    ("read-inches", MONTHS, READINGS, &with_double(read::inches_library, read::inches_rust, read::inches_double), "read inches"),
+    ("read-mm", MONTHS, READINGS, &with_double(read::mm_library, read::mm_rust, read::mm_double), "read millimetres"),
+    ("read-whole", MONTHS, READINGS, &both(read::whole_library, read::whole_rust), "read whole thousandths"),
 ];
 
 /// Kinds that add the same months.
 const SAME_MONTHS: [&str; 4] = ["add-water", "add-inches", "season-6", "season-2400"];
 
-/// The operations in a round of this kind, and the round of this side.
-fn find(kind: &str, side: &str) -> (usize, Round) {
-    let (_, operations, sides, _) = KINDS.iter().find(|found| found.0 == kind).unwrap_or_else(|| usage());
+/// The inputs of this kind, the operations in a round, and the round of this side.
+fn find(kind: &str, side: &str) -> (Inputs, usize, Round) {
+    let (_, months, operations, sides, _) = KINDS.iter().find(|found| found.0 == kind).unwrap_or_else(|| usage());
     let (_, round) = sides.iter().find(|found| found.0 == side).unwrap_or_else(|| usage());
-    (*operations, *round)
+    (Inputs::new(*months), *operations, *round)
 }
 
 fn work(round: Round, inputs: &mut Inputs, rounds: u64) -> u64 {
@@ -97,7 +100,7 @@ fn work(round: Round, inputs: &mut Inputs, rounds: u64) -> u64 {
 }
 
 fn list() {
-    for (name, operations, sides, what) in KINDS {
+    for (name, _, operations, sides, what) in KINDS {
         let sides: Vec<&str> = sides.iter().map(|side| side.0).collect();
         println!("{name} {operations} {} {what}", sides.join(","));
     }
@@ -105,8 +108,8 @@ fn list() {
 
 fn check() {
     let mut months = Vec::new();
-    for (name, _, sides, _) in KINDS {
-        let sums: Vec<u64> = sides.iter().map(|side| work(side.1, &mut Inputs::new(), 1)).collect();
+    for (name, columns, _, sides, _) in KINDS {
+        let sums: Vec<u64> = sides.iter().map(|side| work(side.1, &mut Inputs::new(columns), 1)).collect();
         agree(name, &sums);
         if SAME_MONTHS.contains(&name) {
             months.push(sums[0]);
@@ -114,7 +117,7 @@ fn check() {
         println!("{name} {}", sums[0]);
     }
     agree(&SAME_MONTHS.join(", "), &months);
-    read::check(&Inputs::new());
+    read::check(&Inputs::new(MONTHS));
 }
 
 fn agree(what: &str, sums: &[u64]) {
@@ -125,8 +128,7 @@ fn agree(what: &str, sums: &[u64]) {
 }
 
 /// The least of three measurements, each at least a twentieth of a second long.
-fn time((operations, round): (usize, Round)) {
-    let mut inputs = Inputs::new();
+fn time((mut inputs, operations, round): (Inputs, usize, Round)) {
     let (mut rounds, mut measured, mut least) = (1, 0, f64::INFINITY);
     while measured < 3 {
         let start = Instant::now();
@@ -150,8 +152,9 @@ struct Inputs {
     water: Vec<(i32, i32)>,
     /// The same months as the two lists of a season.
     season: (Vec<i32>, Vec<i32>),
+    /// Ordinary Z, as many as the columns have months.
     z: Vec<i32>,
-    /// Z that leave every month after the first open.
+    /// As many Z that leave every month after the first open.
     open: Vec<i32>,
     inches: Vec<f32>,
     mm: Vec<f32>,
@@ -174,7 +177,9 @@ fn measures(state: &mut u64, ordinary: i32, most: f32) -> Vec<f32> {
 }
 
 impl Inputs {
-    fn new() -> Inputs {
+    /// Inputs for columns of so many months. Water and readings are the same for all, and so are the Z that two of them
+    /// both have: those above MONTHS are drawn last.
+    fn new(months: usize) -> Inputs {
         let state = &mut 1;
         // About what the months of a year would evaporate.
         let pe = [100, 200, 800, 1_800, 3_400, 4_800, 5_700, 5_000, 3_400, 1_800, 700, 200];
@@ -184,11 +189,13 @@ impl Inputs {
         };
         let water: Vec<(i32, i32)> = (0..MONTHS).map(&mut month).collect();
         let season = water.iter().copied().unzip();
-        let z = (0..MONTHS).map(|_| random(state, -3_000, 3_000)).collect();
-        let mut open = vec![0; MONTHS];
-        open[..2].copy_from_slice(&[12, -3]);
+        let ordinary = |state: &mut u64| random(state, -3_000, 3_000);
+        let mut z: Vec<i32> = (0..MONTHS).map(|_| ordinary(state)).collect();
         let (inches, mm) = (measures(state, 12, 100.0), measures(state, 300, 2_540.0));
-        Inputs { run: fresh_run(), water, season, z, open, inches, mm, lists: Lists::new(MONTHS) }
+        z.resize_with(months, || ordinary(state));
+        let mut open = vec![0; months];
+        open[..2].copy_from_slice(&[12, -3]);
+        Inputs { run: fresh_run(), water, season, z, open, inches, mm, lists: Lists::new(months) }
     }
 }
 
@@ -411,28 +418,12 @@ mod series {
     fn by_rust(z: &[i32], lists: &mut Lists) -> u32 {
         let whole: fn(&[i32], &mut [i32], &mut [u8]) -> Result<(), Refusal> = black_box(reference::whole_series);
         let k = lists.lend();
-        u32::from(whole(z, &mut k.index[..z.len()], &mut k.mark[..z.len()]).is_err())
+        u32::from(whole(z, k.index, k.mark).is_err())
     }
 
     fn by_library(z: &[i32], lists: &mut Lists) -> u32 {
         let k = lists.lend();
-        u32::from(card::whole_series(z, &mut k.index[..z.len()], &mut k.mark[..z.len()]))
-    }
-
-    pub fn few_library(inputs: &mut Inputs) -> u32 {
-        by_library(&inputs.z[..FEW_MONTHS], &mut inputs.lists)
-    }
-
-    pub fn few_rust(inputs: &mut Inputs) -> u32 {
-        by_rust(&inputs.z[..FEW_MONTHS], &mut inputs.lists)
-    }
-
-    pub fn few_open_library(inputs: &mut Inputs) -> u32 {
-        by_library(&inputs.open[..FEW_MONTHS], &mut inputs.lists)
-    }
-
-    pub fn few_open_rust(inputs: &mut Inputs) -> u32 {
-        by_rust(&inputs.open[..FEW_MONTHS], &mut inputs.lists)
+        u32::from(card::whole_series(z, k.index, k.mark))
     }
 
     pub fn library(inputs: &mut Inputs) -> u32 {

@@ -157,14 +157,15 @@ fn deepest_start() -> usize {
     tries.map(deep).into_iter().fold(0, usize::max)
 }
 
+/// Of ordinary months, of months left open to the end, of such months that the last one settles, and of refused ones.
 fn deepest_whole_series() -> usize {
-    let inputs = Inputs::new();
-    let refused = vec![i32::MAX; MONTHS];
-    let mut lists = Lists::new(MONTHS);
+    let Inputs { z, open, mut lists, .. } = Inputs::new(MOST_MONTHS);
+    let settled = |last| [&open[..MOST_MONTHS - 1], &[last]].concat();
+    let (wet, dry, refused) = (settled(3_000), settled(-3_000), vec![i32::MAX; MOST_MONTHS]);
     let k = lists.lend();
     let mut deepest = 0;
-    for z in [&inputs.z, &inputs.open, &refused] {
-        for n in [0, 1, 2, 10, 100, 1_000, MONTHS] {
+    for z in [&z, &open, &wet, &dry, &refused] {
+        for n in [0, 1, 2, 10, 100, 1_000, MONTHS, MOST_MONTHS] {
             let mut call = || {
                 let (index, mark) = (k.index.as_mut_ptr(), k.mark.as_mut_ptr());
                 black_box(unsafe { probe_whole_series(z.as_ptr(), n, index, n, mark, n) });
