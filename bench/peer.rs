@@ -1,6 +1,7 @@
 //! The hand-written reference behind exactly include/card.h: the header's own names, extern "C", a run by value in and
 //! out, each list as pointer and length, the same refusals. It is linked in the library's place, so the program that
-//! calls the one or the other is the same.
+//! calls the one or the other is the same. Its whole series is bench/series.rs: it has no list of its own, as the
+//! library's has none.
 //!
 //! It gets what a Rust library behind this header would have: -C opt-level=3 for plain x86-64, as the library's own
 //! compiler has it, one codegen unit, and panics that abort. A run that comes in by value is the call's own: it is
@@ -10,6 +11,7 @@
 mod card;
 #[path = "../tests/cross/reference.rs"]
 mod reference;
+mod series;
 
 use card::{Added, Answer, Columns, Figures, MonthInches, Reading, Run, Season, Shown, Soil, Started, Values};
 use reference::Refusal;
@@ -110,6 +112,6 @@ pub unsafe extern "C" fn card_row(run: Run, row: usize, x1: *mut i32, n1: usize,
 #[no_mangle]
 #[rustfmt::skip]
 pub unsafe extern "C" fn card_whole_series(z: *const i32, nz: usize, index: *mut i32, ni: usize, mark: *mut u8, nm: usize) -> u8 {
-    let answer = reference::whole_series(from_raw_parts(z, nz), from_raw_parts_mut(index, ni), from_raw_parts_mut(mark, nm));
+    let answer = series::whole_series(from_raw_parts(z, nz), from_raw_parts_mut(index, ni), from_raw_parts_mut(mark, nm));
     answer.map_or_else(|refusal| refusal as u8, |()| card::DONE)
 }
