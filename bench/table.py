@@ -29,9 +29,16 @@ READERS = [os.environ['DIVISION'].split(), [os.path.join(OUT, 'division-rust')]]
 PLACE = ['24', '04']
 YEARS = (2, 8)
 
-# What `held` asks: at most so many times the instructions of Rust behind the same interface, and less stack than this.
+# The kinds of whole series that are told by the month, ordinary and left open, and from how many months to how many
+# they grow.
+SERIES = ('series-%d', 'series-%d-open')
+GROWN = (2400, 12000)
+
+# What `held` asks: at most so many times the instructions of Rust behind the same interface, at most so many times those
+# of the shorter series, and less stack than this.
 MOST = Fraction(1)
 MOST_OF = dict.fromkeys(('season-6', 'start', 'division'), Fraction(102, 100))
+MOST_GROWTH = Fraction(52, 10)
 STACK_UNDER = {'add water': 1000, 'whole series': 1000}
 
 WIDTHS = (-37, 10, 12, 8, 10, 8, 10, 11, 10)
@@ -182,13 +189,37 @@ def stacks():
         yield Row(call, 'stack of ' + call, [int(figure), int(theirs.split()[-1]), None])
 
 
-def show_seasons(counted):
+# ---- Below the table ---------------------------------------------------------------------------------------
+
+
+def show_under(what, figures):
+    """Something else that is said of a row, for each of its three figures."""
+    library, same, place = ('%.2f' % figure for figure in figures)
+    show([what, library, same, '', place])
+
+
+def show_seasons(rows):
     """A month of a season, as a share of a single add."""
-    rows = {row.name: row for row in counted}
     for name in ('season-6', 'season-2400'):
-        pairs = zip(rows[name].figures, rows['add-water'].figures)
-        library, same, place = (ratio(month, single) for month, single in pairs)
-        show([rows[name].what, library, same, '', place])
+        show_under(rows[name].what, share(rows[name], rows['add-water']))
+
+
+def show_months(rows):
+    """A month of a whole series."""
+    for row, months in ((rows[kind % months], months) for kind in SERIES for months in GROWN):
+        show_under(row.what, [figure / months for figure in row.figures])
+
+
+def grown(rows):
+    """Each longer series, and how many times the instructions of the shorter one it takes."""
+    for kind in SERIES:
+        shorter, longer = (rows[kind % months] for months in GROWN)
+        yield longer.what, share(longer, shorter)
+
+
+def share(row, other):
+    """Each figure of a row in those of another."""
+    return [ours / theirs for ours, theirs in zip(row.figures, other.figures)]
 
 
 # ---- The whole ---------------------------------------------------------------------------------------------
@@ -201,7 +232,7 @@ def agree():
         stop('the library and bench/peer.rs come to different sums:\n%s\n%s' % tuple(sums))
 
 
-def hold(counted, stacked):
+def hold(counted, growth, stacked):
     """Says what is not as asked, with status 1, or how much is."""
     faults = []
     rows = [row for row in counted if None not in (row.library, row.same)]
@@ -210,12 +241,16 @@ def hold(counted, stacked):
         if row.library > most * row.same:
             times = float(row.library / row.same)
             faults.append('%s: %.5f times as many instructions, at most %.2f asked' % (row.what, times, most))
+    for what, (library, _, _) in growth:
+        if library > MOST_GROWTH:
+            faults.append('%s: %.5f times as many as the shorter one, at most %.1f asked' % (what, library, MOST_GROWTH))
     for row in stacked:
         if row.library >= STACK_UNDER.get(row.name, row.library + 1):
             faults.append('%s: %d bytes, less than %d asked' % (row.what, row.library, STACK_UNDER[row.name]))
     if faults:
         stop('\nbench: '.join(['not held:'] + faults))
-    print('held: %d ratios to Rust behind the same interface, and %d stacks' % (len(rows), len(STACK_UNDER)))
+    counts = (len(rows), len(growth), len(STACK_UNDER))
+    print('held: %d ratios to Rust behind the same interface, %d growths and %d stacks' % counts)
 
 
 def main():
@@ -223,13 +258,20 @@ def main():
     for heads in HEADS:
         show(heads)
     counted = shown(operations()) + shown(division())
+    rows = {row.name: row for row in counted}
     show(['of a single add of water'])
-    show_seasons(counted)
+    show_seasons(rows)
+    show(['instructions a month'])
+    show_months(rows)
+    show(['times those of {:,} months'.format(GROWN[0])])
+    growth = list(grown(rows))
+    for what, figures in growth:
+        show_under(what, figures)
     show(['bytes'])
     shown(sizes())
     stacked = shown(stacks())
     if sys.argv[1:] == ['held']:
-        hold(counted, stacked)
+        hold(counted, growth, stacked)
 
 
 if __name__ == '__main__':
