@@ -1,7 +1,12 @@
 //! The whole series of bench/peer.rs: no list besides those that are lent, and linear in the months.
 
+/// The reference again, for this file alone: with one caller its month is compiled in place, and without the percent,
+/// which a whole series does not show.
+#[path = "../tests/cross/reference.rs"]
+mod reference;
+
 use crate::card::{Values, OPEN, SETTLED};
-use crate::reference::{next, spell_month, Course, Decides, Refusal, MOST_MONTHS, MOST_Z};
+use reference::{next, spell_month, Course, Decides, Refusal, MOST_MONTHS, MOST_Z};
 
 /// Answers, refuses and writes as reference::whole_series does.
 pub fn whole_series(z: &[i32], index: &mut [i32], mark: &mut [u8]) -> Result<(), Refusal> {
