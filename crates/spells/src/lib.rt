@@ -6,9 +6,10 @@ use outline::FOUNDS;
 use outline::IN_FORCE;
 ghost use mathlib.Core.Path.{_≡_};
 ghost use Prim.Native.Nat.{_≤_};
-ghost use lib.IntN.{natAbs};
+ghost use lib.IntN.{pos, natAbs, negℤ};
+ghost use lib.Signed.{ltZ};
 ghost use Rattle.exact.specs.Next.{nextOf};
-ghost use Rattle.outline.specs.Numbers.{mostX, mostZ};
+ghost use Rattle.outline.specs.Numbers.{mostX, mostZ, inForceBeyond};
 ghost use Rattle.spells.specs.Chance.{withoutChance};
 ghost use Rattle.spells.specs.ValuesFit.{SidesFit, ValuesFit};
 ghost use Rattle.spells.specs.Decisions.{withNumber, decisionNumber};
@@ -208,6 +209,20 @@ fn no_spell(s: Running, z: i32, percent: u32) -> SpellMonth
     try_both(x1, x2, percent)
 }
 
+// A wet spell is in force.
+fn is_wet(x3: i32) -> bool
+    ensures { λ b. ⌜ b ≡ ltZ (pos inForceBeyond) x3 ⌝ }
+{
+    x3 > IN_FORCE
+}
+
+// A drought is in force.
+fn is_dry(x3: i32) -> bool
+    ensures { λ b. ⌜ b ≡ ltZ x3 (negℤ (pos inForceBeyond)) ⌝ }
+{
+    x3 < 0 - IN_FORCE
+}
+
 // One month of spells: a spell in force, a drought or where `wet` a wet spell, is steady, abates or has just ended, and
 // without one X1 and X2 are tried. For the crates above, which hold the running values and Z in range.
 pub fn step(s: Running, z: i32) -> SpellMonth
@@ -216,9 +231,8 @@ pub fn step(s: Running, z: i32) -> SpellMonth
     ensures { λ r. ⌜ r ≡ stepOf s z ⌝ }
 {
     let mut percent: u32 = 0;
-    let wet = s.x3 > IN_FORCE;
-    let dry = s.x3 < 0 - IN_FORCE;
-    if wet | dry {
+    let wet = is_wet(s.x3);
+    if wet | is_dry(s.x3) {
         if ending::is_steady(wet, s.v, z) {
             return steady(s.x3, z);
         }
@@ -239,9 +253,8 @@ pub fn step_without_chance(s: Running, z: i32) -> SpellMonth
     requires { ⌜ natAbs z ≤ mostZ ⌝ }
     ensures { λ r. ⌜ r ≡ withoutChance (stepOf s z) ⌝ }
 {
-    let wet = s.x3 > IN_FORCE;
-    let dry = s.x3 < 0 - IN_FORCE;
-    if wet | dry {
+    let wet = is_wet(s.x3);
+    if wet | is_dry(s.x3) {
         if ending::is_steady(wet, s.v, z) {
             return steady(s.x3, z);
         }

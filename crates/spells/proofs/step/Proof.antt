@@ -20,12 +20,25 @@ use Rattle.spells.proofs.Choices.{isWet, ending-steady, ending-ended, e
 use Rattle.spells.proofs.step.Statement.{statement}
 use Rattle.spells.proofs.step.Tie as tie
 
-sub-dry : tie.Need-sub-dry
-sub-dry c = search needs
+is-wet-requires : tie.Need-is-wet-requires
+is-wet-requires c κs = search needs
+
+is-dry-requires : tie.Need-is-dry-requires
+is-dry-requires c κs = search needs
 
 -- X3 is an `i32`
-small : (c : tie.After-struct-told) → SFits w32 (c .before .before .args .s .x3)
+small : (c : tie.After-struct-told) → SFits w32 (c .before .args .s .x3)
 small c = search needs
+
+-- whether a wet spell is in force, and whether a drought is
+wet-is : (c : tie.After-is-wet) → c .is-wet .result ≡ isWet (c .before .before .args .s)
+wet-is c = let f = small (c .before) in simp toZ-ofZ at (c .is-wet .ensures)
+
+dry-is : (c : tie.After-is-dry) → c .is-dry .result ≡ ltZ (c .before .before .before .before .args .s .x3) (negsuc 499)
+dry-is c = let f = small (c .before .before .before) in simp toZ-ofZ at (c .is-dry .ensures)
+
+either-is : (c : tie.After-is-dry) → (let s = c .before .before .before .before .args .s in (isWet s || ltZ (s .x3) (negsuc 499)) ≡ (c .before .before .is-wet .result || c .is-dry .result))
+either-is c = ap₂ _||_ (sym (wet-is (c .before .before))) (sym (dry-is c))
 
 is-steady-requires : tie.Need-is-steady-requires
 is-steady-requires c κs = search needs
@@ -35,23 +48,22 @@ steady-requires c κs = search needs
 
 -- a spell is in force
 in-force : (c : tie.Then1) → (let s = c .before .before .before .before .before .args .s in (isWet s || ltZ (s .x3) (negsuc 499)) ≡ true)
-in-force c = let f = small (c .before .before .before) in simp toZ-ofZ at (c .if1 .taken)
+in-force c = either-is (c .before) ∙ c .if1 .taken
 
 -- what the two tests answer
 steady-is : (c : tie.After-is-steady) → (let s = c .before .before .before .before .before .before .before .args in c .is-steady .result ≡ leZ (vOf (turn (isWet (s .s)) (s .s .v)) (turn (isWet (s .s)) (s .z))) (pos 0))
 steady-is c =
     let s = c .before .before .before .before .before .before .before in
-    let fx = small (c .before .before .before .before .before) in
     let fv = fits-within w64 (s .args .s .v) mostV (s .pre .0 .v-size) (omega arith) in
     let fz = s .fits .z in
-    simp toZ-ofZ at (c .is-steady .ensures)
+    rw (wet-is (c .before .before .before .before .before)) at (simp toZ-ofZ at (c .is-steady .ensures))
 
 returns : tie.Need-returns
 unfolding endingMonth
 returns c =
     let t = c .before .before .before in
     let s = t .before .before .before .before .before .before .before in
-    let fx = small (t .before .before .before .before .before) in
+    let fx = small (t .before .before .before .before .before .before) in
     let fz = s .fits .z in
     (simp toZ-ofZ at (c .steady .ensures))
     ∙ sym (step-ending (s .args .s) (s .args .z) steady (in-force (t .before .before)) (ending-steady _ _ _ (sym (steady-is t) ∙ c .before .before .if2 .taken)))
@@ -65,9 +77,9 @@ not-steady c = sym (steady-is (c .before)) ∙ c .if2 .left
 ended-is : (c : tie.After-has-ended) → (let s = c .before .before .before .before .before .before .before .before .before .before .args in c .has-ended .result ≡ leZ (eOf (turn (isWet (s .s)) (s .s .x3))) (pos 1000 *ℤ uOf (turn (isWet (s .s)) (s .z))))
 ended-is c =
     let s = c .before .before .before .before .before .before .before .before .before .before in
-    let fx = small (c .before .before .before .before .before .before .before .before) in
+    let fx = small (c .before .before .before .before .before .before .before .before .before) in
     let fz = s .fits .z in
-    simp toZ-ofZ at (c .has-ended .ensures)
+    rw (wet-is (c .before .before .before .before .before .before .before .before)) at (simp toZ-ofZ at (c .has-ended .ensures))
 
 kept-v-requires : tie.Need-kept-v-requires
 kept-v-requires c κs = search needs
@@ -82,20 +94,19 @@ abating-requires c κs = search needs
 v-is : (c : tie.After-kept-v) → (let s = c .before .before .before .before .before .before .before .before .before .before .before .before .before .args in c .kept-v .result ≡ turn (isWet (s .s)) (vOf (turn (isWet (s .s)) (s .s .v)) (turn (isWet (s .s)) (s .z))))
 v-is c =
     let s = c .before .before .before .before .before .before .before .before .before .before .before .before .before in
-    let fx = small (c .before .before .before .before .before .before .before .before .before .before .before) in
     let fv = fits-within w64 (s .args .s .v) mostV (s .pre .0 .v-size) (omega arith) in
     let fz = s .fits .z in
-    simp toZ-ofZ at (c .kept-v .ensures)
+    rw (wet-is (c .before .before .before .before .before .before .before .before .before .before .before)) at (simp toZ-ofZ at (c .kept-v .ensures))
 
 percent-is : (c : tie.After-chance)
     → (let s = c .before .before .before .before .before .before .before .before .before .before .before .before .before .before .before .before .args in
     c .chance .result ≡ percentOf (vOf (turn (isWet (s .s)) (s .s .v)) (turn (isWet (s .s)) (s .z))) (qOf (turn (isWet (s .s)) (s .s .x3)) (turn (isWet (s .s)) (s .s .v))))
 percent-is c =
     let s = c .before .before .before .before .before .before .before .before .before .before .before .before .before .before .before .before in
-    let fx = small (c .before .before .before .before .before .before .before .before .before .before .before .before .before .before) in
+    let fx = small (c .before .before .before .before .before .before .before .before .before .before .before .before .before .before .before) in
     let fv = fits-within w64 (s .args .s .v) mostV (s .pre .0 .v-size) (omega arith) in
     let fz = s .fits .z in
-    simp toZ-ofZ at (c .chance .ensures)
+    rw (wet-is (c .before .before .before .before .before .before .before .before .before .before .before .before .before .before)) at (simp toZ-ofZ at (c .chance .ensures))
 
 returns-2 : tie.Need-returns-2
 unfolding endingMonth
@@ -124,8 +135,7 @@ no-spell-requires c κs = search needs
 unforced : (c : tie.Else1) → (let s = c .before .before .before .before .before .args in noSpell (s .s) (s .z) 0 ≡ stepOf (s .s) (s .z))
 unforced c =
     let s = c .before .before .before .before .before .args in
-    let f = small (c .before .before .before) in
-    sym (step-unforced (s .s) (s .z) (simp toZ-ofZ at (c .if1 .left)))
+    sym (step-unforced (s .s) (s .z) (either-is (c .before) ∙ c .if1 .left))
 
 returns-3 : tie.Need-returns-3
 returns-3 c =
@@ -144,7 +154,8 @@ pub step-spec : {M : Type 1} → statement M
 step-spec =
     tie.close
     (tie.spec
-    sub-dry
+    is-wet-requires
+    is-dry-requires
     is-steady-requires
     steady-requires
     returns

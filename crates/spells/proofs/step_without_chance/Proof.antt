@@ -1,6 +1,6 @@
 -- `spells::step_without_chance` meets its contract, as `spells::step` does: the tests are the same, and each case's month without its chance is
 -- the definition's. Assumes nothing.
-use mathlib.Core.Path.{_≡_, sym, ap, _∙_}
+use mathlib.Core.Path.{_≡_, sym, ap, ap₂, _∙_}
 use mathlib.Core.Logic.{⊎-elim}
 use mathlib.Core.Bool.{true, false, _||_}
 use native.Mathlib.Omega.{arith}
@@ -21,12 +21,25 @@ use Rattle.spells.proofs.Choices.{isWet, ending-steady, ending-ended, e
 use Rattle.spells.proofs.step_without_chance.Statement.{statement}
 use Rattle.spells.proofs.step_without_chance.Tie as tie
 
-sub-dry : tie.Need-sub-dry
-sub-dry c = search needs
+is-wet-requires : tie.Need-is-wet-requires
+is-wet-requires c κs = search needs
+
+is-dry-requires : tie.Need-is-dry-requires
+is-dry-requires c κs = search needs
 
 -- X3 is an `i32`
-small : (c : tie.After-struct-told) → SFits w32 (c .before .before .args .s .x3)
+small : (c : tie.After-struct-told) → SFits w32 (c .before .args .s .x3)
 small c = search needs
+
+-- whether a wet spell is in force, and whether a drought is
+wet-is : (c : tie.After-is-wet) → c .is-wet .result ≡ isWet (c .before .before .args .s)
+wet-is c = let f = small (c .before) in simp toZ-ofZ at (c .is-wet .ensures)
+
+dry-is : (c : tie.After-is-dry) → c .is-dry .result ≡ ltZ (c .before .before .before .before .args .s .x3) (negsuc 499)
+dry-is c = let f = small (c .before .before .before) in simp toZ-ofZ at (c .is-dry .ensures)
+
+either-is : (c : tie.After-is-dry) → (let s = c .before .before .before .before .args .s in (isWet s || ltZ (s .x3) (negsuc 499)) ≡ (c .before .before .is-wet .result || c .is-dry .result))
+either-is c = ap₂ _||_ (sym (wet-is (c .before .before))) (sym (dry-is c))
 
 is-steady-requires : tie.Need-is-steady-requires
 is-steady-requires c κs = search needs
@@ -36,23 +49,22 @@ steady-requires c κs = search needs
 
 -- a spell is in force
 in-force : (c : tie.Then1) → (let s = c .before .before .before .before .before .args .s in (isWet s || ltZ (s .x3) (negsuc 499)) ≡ true)
-in-force c = let f = small (c .before .before .before) in simp toZ-ofZ at (c .if1 .taken)
+in-force c = either-is (c .before) ∙ c .if1 .taken
 
 -- what the two tests answer
 steady-is : (c : tie.After-is-steady) → (let s = c .before .before .before .before .before .before .before .args in c .is-steady .result ≡ leZ (vOf (turn (isWet (s .s)) (s .s .v)) (turn (isWet (s .s)) (s .z))) (pos 0))
 steady-is c =
     let s = c .before .before .before .before .before .before .before in
-    let fx = small (c .before .before .before .before .before) in
     let fv = fits-within w64 (s .args .s .v) mostV (s .pre .0 .v-size) (omega arith) in
     let fz = s .fits .z in
-    simp toZ-ofZ at (c .is-steady .ensures)
+    rw (wet-is (c .before .before .before .before .before)) at (simp toZ-ofZ at (c .is-steady .ensures))
 
 returns : tie.Need-returns
 unfolding endingMonth
 returns c =
     let t = c .before .before .before in
     let s = t .before .before .before .before .before .before .before in
-    let fx = small (t .before .before .before .before .before) in
+    let fx = small (t .before .before .before .before .before .before) in
     let fz = s .fits .z in
     (simp toZ-ofZ at (c .steady .ensures))
     ∙ steady-bare _ _
@@ -67,9 +79,9 @@ not-steady c = sym (steady-is (c .before)) ∙ c .if2 .left
 ended-is : (c : tie.After-has-ended) → (let s = c .before .before .before .before .before .before .before .before .before .before .args in c .has-ended .result ≡ leZ (eOf (turn (isWet (s .s)) (s .s .x3))) (pos 1000 *ℤ uOf (turn (isWet (s .s)) (s .z))))
 ended-is c =
     let s = c .before .before .before .before .before .before .before .before .before .before in
-    let fx = small (c .before .before .before .before .before .before .before .before) in
+    let fx = small (c .before .before .before .before .before .before .before .before .before) in
     let fz = s .fits .z in
-    simp toZ-ofZ at (c .has-ended .ensures)
+    rw (wet-is (c .before .before .before .before .before .before .before .before)) at (simp toZ-ofZ at (c .has-ended .ensures))
 
 kept-v-requires : tie.Need-kept-v-requires
 kept-v-requires c κs = search needs
@@ -81,10 +93,9 @@ abating-requires c κs = search needs
 v-is : (c : tie.After-kept-v) → (let s = c .before .before .before .before .before .before .before .before .before .before .before .before .before .args in c .kept-v .result ≡ turn (isWet (s .s)) (vOf (turn (isWet (s .s)) (s .s .v)) (turn (isWet (s .s)) (s .z))))
 v-is c =
     let s = c .before .before .before .before .before .before .before .before .before .before .before .before .before in
-    let fx = small (c .before .before .before .before .before .before .before .before .before .before .before) in
     let fv = fits-within w64 (s .args .s .v) mostV (s .pre .0 .v-size) (omega arith) in
     let fz = s .fits .z in
-    simp toZ-ofZ at (c .kept-v .ensures)
+    rw (wet-is (c .before .before .before .before .before .before .before .before .before .before .before)) at (simp toZ-ofZ at (c .kept-v .ensures))
 
 returns-2 : tie.Need-returns-2
 unfolding endingMonth
@@ -114,8 +125,7 @@ no-spell-requires c κs = search needs
 unforced : (c : tie.Else1) → (let s = c .before .before .before .before .before .args in noSpell (s .s) (s .z) 0 ≡ stepOf (s .s) (s .z))
 unforced c =
     let s = c .before .before .before .before .before .args in
-    let f = small (c .before .before .before) in
-    sym (step-unforced (s .s) (s .z) (simp toZ-ofZ at (c .if1 .left)))
+    sym (step-unforced (s .s) (s .z) (either-is (c .before) ∙ c .if1 .left))
 
 returns-3 : tie.Need-returns-3
 returns-3 c =
@@ -134,7 +144,8 @@ pub step-without-chance-spec : {M : Type 1} → statement M
 step-without-chance-spec =
     tie.close
     (tie.spec
-    sub-dry
+    is-wet-requires
+    is-dry-requires
     is-steady-requires
     steady-requires
     returns
