@@ -67,12 +67,12 @@
  *
  *     card_read               8
  *     card_start            312
- *     card_add_water        848
- *     card_add_inches       832
- *     card_add_z            672
- *     card_add_season      1232
+ *     card_add_water        760
+ *     card_add_inches       744
+ *     card_add_z            584
+ *     card_add_season      1144
  *     card_row              376
- *     card_whole_series     160
+ *     card_whole_series      88
  *
  * It is counted from the return address, which is included, down to the lowest word of 8 bytes that was
  * written by the call or by what it calls, memcpy and memset included. Not counted is what the caller
