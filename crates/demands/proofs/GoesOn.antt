@@ -20,17 +20,17 @@ use Rattle.adding.proofs.Readiness.{run-is}
 use Rattle.season.specs.declared.Season.{Season}
 use Rattle.season.specs.Season.{SeasonResult, seasonResult, nothing, joined, stopped, addEach, seasonRefusal, addSeason}
 use Rattle.season_month.specs.Listed.{listed}
-use Rattle.demands.specs.Months.{Ask, water, asked, State, standing, after, afterAll, Accepted}
+use Rattle.demands.specs.Months.{Ask, water, asked, State, standing, after, afterAll, Accepted, answersTo}
 use Rattle.demands.specs.Demands.{numberOf}
 use Rattle.demands.specs.Given.{Begins, SeasonGives, season-10}
-use Rattle.demands.specs.Longer.{firstPlaces, longer, Lent, SameMonths, answersTo, resumed, LongerColumns}
+use Rattle.demands.specs.Longer.{firstPlaces, longer, Lent, SameMonths, resumed, LongerColumns}
 use Rattle.demands.proofs.Took.{took, good-kept}
 use Rattle.demands.proofs.Sequence.{long-all}
 use Rattle.demands.proofs.Shown.{refused-add}
 use Rattle.demands.proofs.Given.{zero-or}
 use Rattle.demands.proofs.Seasons.{begins, refused}
 use Rattle.demands.proofs.SeasonGiven.{begins-done, season-gives}
-use Rattle.demands.proofs.Longer.{usable, first-longer, number-of, long-longer, run-longer, adds, adds-on, copied-adds, rows, copied-rows}
+use Rattle.demands.proofs.Longer.{usable, first-longer, number-of, long-longer, run-longer, run-copied, adds, adds-on, copied-adds, rows, copied-rows}
 
 -- ---- a season on two sets of columns between which P holds, and on which a single add answers the same, unless its number is one of `Bad`
 module _ (P : Run → Columns → Columns → Type 0) (Bad : ℕ → Type 0) (done : Bad 0 → ⊥)
@@ -284,7 +284,7 @@ copied-seasons : (r : Run) (ps pes : List ℤ) (cs ds : Columns) → SameMonths 
     → let b = addSeason r ps pes cs in let d = addSeason r ps pes ds in
     (d .answer ≡ b .answer) × SameMonths (b .answer .run) (b .columns) (d .columns)
 copied-seasons r ps pes cs ds m =
-    let k = begins-alike r ps pes cs ds (m .lent .0) (m .lent .1) (ap (λ (n : ℕ). isRun n r) (m .one-length)) in
+    let k = begins-alike r ps pes cs ds (m .lent .0) (m .lent .1) (run-copied r cs ds m) in
     ⊎-elim
     (λ z. rw (begins r ps pes cs z, begins r ps pes ds (k ∙ z)) (each-alike SameMonths (λ (n : ℕ). ⊥) (λ e. e) (λ r a cs ds q n. copied-adds r a cs ds q) ps pes (nothing 0 r) cs ds m (λ e. e)))
     (λ q. rw (refused r ps pes cs q, refused r ps pes ds (λ z. q (sym k ∙ z))) (ap (λ (n : ℕ). nothing n r) k, m))

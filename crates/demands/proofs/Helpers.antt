@@ -1,6 +1,6 @@
 -- What each helper of a statement rules out, so that none of them can be weakened unseen: `agree` of the worked table; `Honest`, `Answers`,
--- `Balances`, `Accepted`, the figures month after month, `calendarAfter`, `marksWith`, `Existing`, `SoilFits`, `NoneFrom` and `count` of the demands;
--- `SameFrom` of a season; `Excepted` and `TurnsAbout` of the mirror; `firstPlaces`, `longer`, `answersTo` and `resumed` of longer columns. Where a helper is about numbers, one month that it lets through stands
+-- `Balances`, `Accepted`, the answers and the figures month after month, `calendarAfter`, `marksWith`, `Existing`, `SoilFits`, `NoneFrom` and `count` of the demands;
+-- `SameFrom` of a season; `Excepted` and `TurnsAbout` of the mirror; `firstPlaces`, `longer` and `resumed` of longer columns. Where a helper is about numbers, one month that it lets through stands
 -- beside those that it does not. The cases of specs/Given.antt want no such lemma: each call gives a number exactly where they have it. Assumes
 -- nothing.
 use mathlib.Core.Path.{_≡_, refl, sym, subst}
@@ -29,11 +29,11 @@ use Rattle.adding.specs.declared.Figures.{Figures}
 use Rattle.adding.specs.declared.Added.{Added}
 use Rattle.season.specs.Season.{SeasonResult}
 use Rattle.season.specs.declared.Season.{Season}
-use Rattle.demands.specs.Months.{Ask, asked, State, standing, after, afterAll, Accepted, figuresAnswered, leftOf, Station, stationNext, figuresFor, figuresOfMonths, noRow}
+use Rattle.demands.specs.Months.{Ask, asked, State, standing, after, afterAll, Accepted, answersTo, figuresAnswered, leftOf, Station, stationNext, figuresFor, figuresOfMonths, noRow}
 use Rattle.demands.specs.Demands.{Answers, Honest, calendarAfter, Balances, Existing, by-add, marksWith}
 use Rattle.demands.specs.Seasons.{SameFrom}
 use Rattle.demands.specs.Mirror.{Excepted, TurnsAbout}
-use Rattle.demands.specs.Longer.{firstPlaces, longer, answersTo, resumed}
+use Rattle.demands.specs.Longer.{firstPlaces, longer, resumed}
 use Rattle.demands.specs.Pinned.{soil}
 
 -- two numbers of which the first is above the second
@@ -142,6 +142,12 @@ pub accepted-each :
     → asked (afterAll s asks .run) a (afterAll s asks .columns) .answer .number ≡ 0
 accepted-each s [] a later h = h .0
 accepted-each s (b ∷ asks) a later h = accepted-each (after s b) asks a later (h .1)
+
+-- ---- `answersTo`: of each month its own answer, from what the months before it left, refused or not
+pub answers-at : (s : State) (asks : List Ask) (a : Ask) (later : List Ask) (d : Added)
+    → getD (answersTo s (asks ++ (a ∷ later))) (length asks) d ≡ asked (afterAll s asks .run) a (afterAll s asks .columns) .answer
+answers-at s [] a later d = refl
+answers-at s (b ∷ asks) a later d = answers-at (after s b) asks a later d
 
 -- ---- `figuresAnswered` and `figuresOfMonths`: of each month its own, from what the months before it left
 pub answered-at : (s : State) (asks : List Ask) (a : Ask) (later : List Ask) (d : Figures)
@@ -259,12 +265,6 @@ two-places = columns (pos 10 ∷ pos 20 ∷ []) (pos 11 ∷ pos 21 ∷ []) (pos 
 
 pub places : (longer (one-place 10) (one-place 20) ≡ two-places) × (firstPlaces 1 two-places ≡ one-place 10) × (firstPlaces 2 two-places ≡ two-places)
 places = (refl, refl, refl)
-
--- ---- `answersTo`: of each month its own answer, from what the months before it left, refused or not
-pub answers-at : (s : State) (asks : List Ask) (a : Ask) (later : List Ask) (d : Added)
-    → getD (answersTo s (asks ++ (a ∷ later))) (length asks) d ≡ asked (afterAll s asks .run) a (afterAll s asks .columns) .answer
-answers-at s [] a later d = refl
-answers-at s (b ∷ asks) a later d = answers-at (after s b) asks a later d
 
 -- ---- `resumed`: months added and settled are summed, and all else is the second season's
 pub resumes : (s : Season) (u : SeasonResult)

@@ -181,13 +181,14 @@ module _ (n : ℕ) (cs : Columns) (f : columnsFit cs ≡ true) (l : n < long cs)
       let c = columns-are cs f in
       rw (take-suc-set (cs .x1) n (s .after .x1) l, take-suc-set (cs .x2) n (s .after .x2) (omega (arith, c .0)), take-suc-set (cs .x3) n (s .after .x3) (omega (arith, c .1)), front (held .index) (cs .index) (c .2) i, front (held .mark) (cs .mark) (c .3) m)
 
-module _ (r : Run) (a : Ask) (cs ds : Columns) (m : SameMonths r cs ds) where
-  is-run : isRun (long ds) r ≡ isRun (long cs) r
-  is-run = ap (λ (n : ℕ). isRun n r) (m .one-length)
+-- a run for the one is one for the other
+pub run-copied : (r : Run) (cs ds : Columns) → SameMonths r cs ds → isRun (long ds) r ≡ isRun (long cs) r
+run-copied r cs ds m = ap (λ (n : ℕ). isRun n r) (m .one-length)
 
+module _ (r : Run) (a : Ask) (cs ds : Columns) (m : SameMonths r cs ds) where
   same-number : numberOf r a ds ≡ numberOf r a cs
   same-number =
-      number-too r a cs ds (m .lent .0) (m .lent .1) is-run (λ h. omega (arith, m .one-length)) (λ _ e. e ∙ sym (m .one-length))
+      number-too r a cs ds (m .lent .0) (m .lent .1) (run-copied r cs ds m) (λ h. omega (arith, m .one-length)) (λ _ e. e ∙ sym (m .one-length))
 
   held : heldBy r ds ≡ heldBy r cs
   held = held-same (r .months) cs ds (m .months) (r .opens)
@@ -247,4 +248,4 @@ rows r i cs more f l =
     rows-alike r i cs (longer cs more) (f .shorter) (f .longer) (run-longer r cs more l) (first-longer (r .months) cs more (f .shorter) l)
 
 pub copied-rows : (r : Run) (i : ℕ) (cs ds : Columns) → SameMonths r cs ds → rowOfRun r i ds ≡ rowOfRun r i cs
-copied-rows r i cs ds m = rows-alike r i cs ds (m .lent .0) (m .lent .1) (ap (λ (n : ℕ). isRun n r) (m .one-length)) (m .months)
+copied-rows r i cs ds m = rows-alike r i cs ds (m .lent .0) (m .lent .1) (run-copied r cs ds m) (m .months)

@@ -3,7 +3,7 @@
 -- `mostMonths`, and all that it decides is whether columns may be lent (`columnsFit`). `longer-columns` of proofs/GoesOn.antt proves it. Assumes nothing.
 use mathlib.Core.Path.{_≡_}
 use mathlib.Core.Bool.{true}
-use mathlib.Core.List.{List, [], _∷_, _++_}
+use mathlib.Core.List.{List, _++_}
 use Prim.Native.Nat.{ℕ, _+_, _≤_}
 use lib.IntN.{ℤ}
 use lib.ListN.{take, drop}
@@ -11,11 +11,10 @@ use Rattle.outline.specs.Refusals.{full}
 use Rattle.runs.specs.declared.Run.{Run}
 use Rattle.refusals.specs.Columns.{Columns, columns, long, columnsFit}
 use Rattle.adding.specs.Taken.{result}
-use Rattle.adding.specs.declared.Added.{Added}
 use Rattle.drought.specs.Calls.{rowOfRun}
 use Rattle.season.specs.Season.{SeasonResult, seasonResult, addSeason}
 use Rattle.season.specs.declared.Season.{Season}
-use Rattle.demands.specs.Months.{Ask, asked, State, standing, after, afterAll, Accepted}
+use Rattle.demands.specs.Months.{Ask, asked, State, standing, afterAll, Accepted, answersTo}
 
 -- the first n places of each column
 abbrev pub firstPlaces : ℕ → Columns → Columns
@@ -35,11 +34,6 @@ pub record SameMonths (r : Run) (cs ds : Columns) : Type 0 where
   pub lent : (columnsFit cs ≡ true) × (columnsFit ds ≡ true)
   pub one-length : long ds ≡ long cs
   pub months : firstPlaces (r .months) ds ≡ firstPlaces (r .months) cs
-
--- what the adds answer, month after month, refused or not
-abbrev pub answersTo : State → List Ask → List Added
-answersTo s [] = []
-answersTo s (a ∷ later) = asked (s .run) a (s .columns) .answer ∷ answersTo (after s a) later
 
 -- a season that went on after another: "settled counts summed", and how many were added; all else is the second's
 abbrev pub resumed : Season → SeasonResult → SeasonResult

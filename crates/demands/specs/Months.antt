@@ -2,7 +2,7 @@
 -- a month give, which know nothing of runs or columns. The statements of this crate speak in these words. Assumes nothing.
 use Prim.Native.Nat.{ℕ}
 use mathlib.Core.Path.{_≡_}
-use mathlib.Core.List.{List, [], _∷_}
+use mathlib.Core.List.{List, [], _∷_, map}
 use lib.IntN.{ℤ, pos}
 use Rattle.door.specs.Readings.{reading, month}
 use Rattle.door.specs.declared.Reading.{Reading}
@@ -22,6 +22,7 @@ use Rattle.refusals.specs.Columns.{Columns}
 use Rattle.adding.specs.Figures.{waterFigures, noWater, figuresOf}
 use Rattle.drought.specs.Calls.{addWater, addInches, addZ}
 use Rattle.adding.specs.Taken.{Result, soilAfter}
+use Rattle.adding.specs.declared.Added.{Added}
 use Rattle.adding.specs.declared.Figures.{Figures}
 use Rattle.adding.specs.declared.WaterFigures.{WaterFigures}
 use Rattle.season.specs.Season.{SeasonResult}
@@ -63,10 +64,14 @@ abbrev pub Accepted : State → List Ask → Type 0
 Accepted s [] = Unit {0}
 Accepted s (a ∷ later) = (asked (s .run) a (s .columns) .answer .number ≡ 0) × Accepted (after s a) later
 
--- what the adds answer, month after month
+-- what the adds answer, month after month, refused or not
+abbrev pub answersTo : State → List Ask → List Added
+answersTo s [] = []
+answersTo s (a ∷ later) = asked (s .run) a (s .columns) .answer ∷ answersTo (after s a) later
+
+-- the figures of that
 abbrev pub figuresAnswered : State → List Ask → List Figures
-figuresAnswered s [] = []
-figuresAnswered s (a ∷ later) = asked (s .run) a (s .columns) .answer .figures ∷ figuresAnswered (after s a) later
+figuresAnswered s asks = map (λ (b : Added). b .figures) (answersTo s asks)
 
 -- the months of a season's two lists
 abbrev pub monthsOf : List ℤ → List ℤ → List Ask
