@@ -4,6 +4,7 @@ use mathlib.Core.Path.{_≡_}
 use mathlib.Core.List.{List}
 use Prim.Native.Nat.{ℕ, _≤_}
 use lib.IntN.{ℤ, natAbs}
+use lib.ListN.{set}
 use mir.Syntax.{w32}
 use mir.Val.{SFits}
 use Rattle.outline.specs.Numbers.{mostZ}
@@ -16,7 +17,11 @@ use Rattle.water.specs.declared.Month.{Month}
 use Rattle.water.proofs.Theorems.{z-acceptable}
 use Rattle.calendar.specs.Calendar.{constantsAt}
 use Rattle.calendar.proofs.CalendarLaws.{constants-at-fit}
+use Rattle.records.specs.Record.{waterRecord, numbersOf}
+use Rattle.records.specs.Recordable.{Recordable}
+use Rattle.records.proofs.Fitting.{recordable}
 use Rattle.refusals.specs.Columns.{Columns}
+use Rattle.refusals.specs.Book.{Book, columnsOf, bookOf}
 use Rattle.runs.specs.Progress.{runOf}
 use Rattle.runs.specs.declared.Progress.{Progress}
 use Rattle.adding.specs.Figures.{waterFigures}
@@ -38,13 +43,19 @@ module _ (at : Progress) (ks : List ℤ) where
     pub is : m ≡ waterOf (runOf at ks) p pe
     pub bounded : natAbs (m .z) ≤ mostZ
     pub fits : SFits w32 (m .z)
+    -- and whose record can be kept
+    pub kept : Recordable (at .soil) p pe m
 
   pub measured : (k : Constants) → k ≡ constantsAt ks (at .calendar) → Watered (runOf at ks) → (p pe : ℕ) → (p ≤ mostReading) × (pe ≤ mostReading) → (m : Month) → m ≡ monthOf (at .soil) p pe k → Measured p pe m
   measured k e w p pe b m f =
       let z : natAbs (m .z) ≤ mostZ = rw f (z-acceptable (at .soil) p pe k (w .soil) (b .0) (b .1) (fit k e w)) in
-      record { is = rw e at f; bounded = z; fits = search held }
+      record { is = rw e at f; bounded = z; fits = search held; kept = rw f (recordable (at .soil) p pe k (w .soil) (b .0) (b .1) (fit k e w)) }
 
-  -- the month with its spells, put together
-  pub measured-is : (p pe : ℕ) (m : Month) → Measured p pe m → (cs ds : Columns) (s : Spelled) → Spells (at .months) (at .opens) (at .values) (m .z) cs s ds → (t : MonthAdded) → t ≡ monthAdded at (soilAfter (at .soil) m) (waterFigures p pe m) (m .z) s → result (addedOf t ks) ds ≡ takenWater (runOf at ks) p pe cs
+  -- the month with its spells, put together, and its record and V written
+  pub measured-is : (p pe : ℕ) (m : Month) → Measured p pe m → (cs : Book) (ds : Columns) (s : Spelled) → Spells (at .months) (at .opens) (at .values) (m .z) (columnsOf cs) s ds
+      → (records : List (List ℤ)) → records ≡ set (cs .records) (at .months) (numbersOf (waterRecord (at .soil) p pe m))
+      → (v : List ℤ) → v ≡ set (cs .v) (at .months) (s .values .v)
+      → (t : MonthAdded) → t ≡ monthAdded at (soilAfter (at .soil) m) (waterFigures p pe m) (m .z) s
+      → result (addedOf t ks) (bookOf ds records v) ≡ takenWater (runOf at ks) p pe cs
   unfolding takenWater
-  measured-is p pe m i cs ds s h t e = rw (← i .is, e) (taken-is at (soilAfter (at .soil) m) (waterFigures p pe m) (m .z) cs s ds h ks)
+  measured-is p pe m i cs ds s h records f v g t e = rw (← i .is, e) (taken-is at (soilAfter (at .soil) m) (waterFigures p pe m) (m .z) (waterRecord (at .soil) p pe m) cs s ds records v h f g ks)

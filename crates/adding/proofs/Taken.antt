@@ -19,7 +19,10 @@ use Rattle.spells.specs.Decisions.{decisionNumber}
 use Rattle.hindsight.specs.Months.{rowFor, markFor}
 use Rattle.hindsight.proofs.Numbers.{number-is, mark-of}
 use Rattle.runs.specs.declared.Progress.{Progress}
+use Rattle.records.specs.Record.{numbersOf}
+use Rattle.records.specs.declared.Record.{Record}
 use Rattle.refusals.specs.Columns.{Columns, columns}
+use Rattle.refusals.specs.Book.{Book, columnsOf, bookOf}
 use Rattle.adding.specs.Taken.{heldIn, taken}
 use Rattle.adding.specs.Progress.{monthAdded, Takes}
 use Rattle.adding.specs.Spelled.{Spells}
@@ -72,9 +75,10 @@ module _ (months opens : ℕ) (cs : Columns) (s : SpellMonth) (by : ℕ) where
         columns-are = rw (← e, g .0, g .1, g .2, a .index-is, a .mark-is);
       }
 
--- put together with the run's storages, calendar and constants it is `taken`
-pub taken-is : (at : Progress) (soil : Soil) (w : WaterFigures) (z : ℤ) (cs : Columns) (t : Spelled) (after : Columns)
-    → Spells (at .months) (at .opens) (at .values) z cs t after → Takes at soil w z cs (monthAdded at soil w z t) after
+-- put together with the run's storages, calendar and constants, and with its record and V written, it is `taken`
+pub taken-is : (at : Progress) (soil : Soil) (w : WaterFigures) (z : ℤ) (kept : Record) (cs : Book) (t : Spelled) (after : Columns) (records : List (List ℤ)) (v : List ℤ)
+    → Spells (at .months) (at .opens) (at .values) z (columnsOf cs) t after → records ≡ set (cs .records) (at .months) (numbersOf kept) → v ≡ set (cs .v) (at .months) (t .values .v)
+    → Takes at soil w z kept cs (monthAdded at soil w z t) (bookOf after records v)
 unfolding taken
-taken-is at soil w z cs t after p k =
-    rw (p .values-are, p .opens-are, p .settled-are, p .percent-is, p .index-is, p .mark-is, p .columns-are)
+taken-is at soil w z kept cs t after records v p e f k =
+    rw (e, f, p .values-are, p .opens-are, p .settled-are, p .percent-is, p .index-is, p .mark-is, p .columns-are)

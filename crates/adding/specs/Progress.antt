@@ -6,7 +6,8 @@ use Prim.Native.Nat.{ℕ, suc}
 use lib.IntN.{ℤ}
 use Rattle.water.specs.declared.Soil.{Soil}
 use Rattle.calendar.specs.Calendar.{nextCalendar}
-use Rattle.refusals.specs.Columns.{Columns}
+use Rattle.records.specs.declared.Record.{Record}
+use Rattle.refusals.specs.Book.{Book}
 use Rattle.adding.specs.Figures.{noFigures}
 use Rattle.adding.specs.Taken.{result, taken}
 use Rattle.adding.specs.declared.WaterFigures.{WaterFigures}
@@ -52,5 +53,5 @@ abbrev pub notAdded : ℕ → Progress → MonthAdded
 notAdded k at = record { number = k; settled = 0; figures = noFigures; progress = at }
 
 -- a month that is added, whatever the run's constants: its answer and the columns that it leaves are those of `taken`
-abbrev pub Takes : Progress → Soil → WaterFigures → ℤ → Columns → MonthAdded → Columns → Type 0
-Takes at soil w z cs t ds = (k : List ℤ) → result (addedOf t k) ds ≡ taken (runOf at k) soil w z cs
+abbrev pub Takes : Progress → Soil → WaterFigures → ℤ → Record → Book → MonthAdded → Book → Type 0
+Takes at soil w z kept cs t ds = (k : List ℤ) → result (addedOf t k) ds ≡ taken (runOf at k) soil w z kept cs

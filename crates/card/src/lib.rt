@@ -6,6 +6,7 @@ use adding::Added;
 use door::MonthInches;
 use door::Reading;
 use drought::Shown;
+use records::RecordNumbers;
 use runs::Run;
 use season::Season;
 use starts::Started;
@@ -13,7 +14,7 @@ ghost use mathlib.Core.Path.{_≡_};
 ghost use Rattle.door.specs.Readings.{reading};
 ghost use Rattle.starts.specs.Start.{startOf};
 ghost use Rattle.series.specs.Series.{filled, wholeSeries};
-ghost use Rattle.refusals.specs.Columns.{columns};
+ghost use Rattle.refusals.specs.Book.{book};
 ghost use Rattle.drought.specs.Calls.{addWater, addInches, addZ, rowOfRun};
 ghost use Rattle.adding.specs.Taken.{result};
 ghost use Rattle.season.specs.Season.{seasonResult, addSeason};
@@ -102,12 +103,14 @@ pub extern "C" fn card_add_water(
     x3: &mut [i32],
     index: &mut [i32],
     mark: &mut [u8],
+    records: &mut [RecordNumbers],
+    v: &mut [i64],
 ) -> Added
-    ensures { λ a. ⌜ result a (columns (now (x1 .exit)) (now (x2 .exit)) (now (x3 .exit)) (now (index .exit)) (now (mark .exit))) ≡ addWater run (readingOfC p) (readingOfC pe) (columns (now (x1 .entry)) (now (x2 .entry)) (now (x3 .entry)) (now (index .entry)) (now (mark .entry))) ⌝ }
+    ensures { λ a. ⌜ result a (book (now (x1 .exit)) (now (x2 .exit)) (now (x3 .exit)) (now (index .exit)) (now (mark .exit)) (now (records .exit)) (now (v .exit))) ≡ addWater run (readingOfC p) (readingOfC pe) (book (now (x1 .entry)) (now (x2 .entry)) (now (x3 .entry)) (now (index .entry)) (now (mark .entry)) (now (records .entry)) (now (v .entry))) ⌝ }
 {
     let a = reading_of(p);
     let b = reading_of(pe);
-    drought::add_water(run, a, b, x1, x2, x3, index, mark)
+    drought::add_water(run, a, b, x1, x2, x3, index, mark, records, v)
 }
 
 // Adds a month of water, from two binary32 inches: 1, 7, 9, 10.
@@ -120,10 +123,12 @@ pub extern "C" fn card_add_inches(
     x3: &mut [i32],
     index: &mut [i32],
     mark: &mut [u8],
+    records: &mut [RecordNumbers],
+    v: &mut [i64],
 ) -> Added
-    ensures { λ a. ⌜ result a (columns (now (x1 .exit)) (now (x2 .exit)) (now (x3 .exit)) (now (index .exit)) (now (mark .exit))) ≡ addInches run q (columns (now (x1 .entry)) (now (x2 .entry)) (now (x3 .entry)) (now (index .entry)) (now (mark .entry))) ⌝ }
+    ensures { λ a. ⌜ result a (book (now (x1 .exit)) (now (x2 .exit)) (now (x3 .exit)) (now (index .exit)) (now (mark .exit)) (now (records .exit)) (now (v .exit))) ≡ addInches run q (book (now (x1 .entry)) (now (x2 .entry)) (now (x3 .entry)) (now (index .entry)) (now (mark .entry)) (now (records .entry)) (now (v .entry))) ⌝ }
 {
-    drought::add_inches(run, q, x1, x2, x3, index, mark)
+    drought::add_inches(run, q, x1, x2, x3, index, mark, records, v)
 }
 
 // Adds a Z: 1, 7, 12, 10.
@@ -136,10 +141,12 @@ pub extern "C" fn card_add_z(
     x3: &mut [i32],
     index: &mut [i32],
     mark: &mut [u8],
+    records: &mut [RecordNumbers],
+    v: &mut [i64],
 ) -> Added
-    ensures { λ a. ⌜ result a (columns (now (x1 .exit)) (now (x2 .exit)) (now (x3 .exit)) (now (index .exit)) (now (mark .exit))) ≡ addZ run z (columns (now (x1 .entry)) (now (x2 .entry)) (now (x3 .entry)) (now (index .entry)) (now (mark .entry))) ⌝ }
+    ensures { λ a. ⌜ result a (book (now (x1 .exit)) (now (x2 .exit)) (now (x3 .exit)) (now (index .exit)) (now (mark .exit)) (now (records .exit)) (now (v .exit))) ≡ addZ run z (book (now (x1 .entry)) (now (x2 .entry)) (now (x3 .entry)) (now (index .entry)) (now (mark .entry)) (now (records .entry)) (now (v .entry))) ⌝ }
 {
-    drought::add_z(run, z, x1, x2, x3, index, mark)
+    drought::add_z(run, z, x1, x2, x3, index, mark, records, v)
 }
 
 // Adds months of water in whole thousandths, -1 for missing, in order until one is refused: 1, 7, then as each
@@ -154,10 +161,12 @@ pub extern "C" fn card_add_season(
     x3: &mut [i32],
     index: &mut [i32],
     mark: &mut [u8],
+    records: &mut [RecordNumbers],
+    v: &mut [i64],
 ) -> Season
-    ensures { λ s. ⌜ seasonResult s (columns (now (x1 .exit)) (now (x2 .exit)) (now (x3 .exit)) (now (index .exit)) (now (mark .exit))) ≡ addSeason run (now (p .entry)) (now (pe .entry)) (columns (now (x1 .entry)) (now (x2 .entry)) (now (x3 .entry)) (now (index .entry)) (now (mark .entry))) ⌝ }
+    ensures { λ s. ⌜ seasonResult s (book (now (x1 .exit)) (now (x2 .exit)) (now (x3 .exit)) (now (index .exit)) (now (mark .exit)) (now (records .exit)) (now (v .exit))) ≡ addSeason run (now (p .entry)) (now (pe .entry)) (book (now (x1 .entry)) (now (x2 .entry)) (now (x3 .entry)) (now (index .entry)) (now (mark .entry)) (now (records .entry)) (now (v .entry))) ⌝ }
 {
-    season::add_season(run, p, pe, x1, x2, x3, index, mark)
+    season::add_season(run, p, pe, x1, x2, x3, index, mark, records, v)
 }
 
 // Shows a month's row, from 0 on: 1, 7, 11.
@@ -170,10 +179,12 @@ pub extern "C" fn card_row(
     x3: &[i32],
     index: &[i32],
     mark: &[u8],
+    records: &[RecordNumbers],
+    v: &[i64],
 ) -> Shown
-    ensures { λ r. ⌜ r ≡ rowOfRun run i (columns (now (x1 .entry)) (now (x2 .entry)) (now (x3 .entry)) (now (index .entry)) (now (mark .entry))) ⌝ }
+    ensures { λ r. ⌜ r ≡ rowOfRun run i (book (now (x1 .entry)) (now (x2 .entry)) (now (x3 .entry)) (now (index .entry)) (now (mark .entry)) (now (records .entry)) (now (v .entry))) ⌝ }
 {
-    drought::row(run, i, x1, x2, x3, index, mark)
+    drought::row(run, i, x1, x2, x3, index, mark, records, v)
 }
 
 // The whole series of a list of Z: fills indexes and marks. 1, 12.

@@ -19,7 +19,7 @@ use Rattle.spell_laws.specs.Reached.{Reached}
 use Rattle.spell_laws.proofs.Reached.{fresh-reached, dry-over, wet-over}
 use Rattle.hindsight.specs.Coded.{stateOf}
 use Rattle.hindsight.specs.Months.{nextValues}
-use Rattle.refusals.specs.Columns.{long, columnsFit}
+use Rattle.refusals.specs.Book.{long, columnsFit}
 use Rattle.adding.specs.declared.Figures.{Figures}
 use Rattle.demands.specs.Months.{Ask, anomaly, asked, State, Accepted}
 use Rattle.demands.specs.Demands.{Fresh, first, now}

@@ -19,13 +19,12 @@ use Rattle.door.specs.Outcome.{accepted, refused}
 use Rattle.door.specs.Readings.{mostReading, mostInches, mostMillimetres, whole, converted, inches, millimetres, reading, month}
 use Rattle.door.specs.declared.Reading.{Reading}
 use Rattle.door.specs.declared.Reading.the-variants.{Whole, Inches, Millimetres, Missing}
-use Rattle.runs.specs.Runs.{isRun}
 use Rattle.runs.specs.declared.Run.{Run}
 use Rattle.series.specs.Series.{allZFit, listsFit, seriesRefusal, wholeSeries}
 use Rattle.series.proofs.SeriesLaws.{number-of}
-use Rattle.refusals.specs.Columns.{Columns, long, columnsFit}
+use Rattle.refusals.specs.Book.{Book, long, columnsFit}
 use Rattle.refusals.specs.Good.{Good}
-use Rattle.refusals.specs.Refusals.{runRefusal, roomRefusal, waterRefusal, zRefusal, rowRefusal}
+use Rattle.refusals.specs.Refusals.{isRunOf, runRefusal, roomRefusal, waterRefusal, zRefusal, rowRefusal}
 use Rattle.refusals.proofs.Refused.{good-passes}
 use Rattle.adding.proofs.Readiness.{run-is}
 use Rattle.drought.specs.Calls.{shown, notShown, rowOfRun}
@@ -185,11 +184,11 @@ or-more : (a b c : ℕ) → orElse a (orElse b c) ≡ orElse (orElse a b) c
 or-more zero b c = refl
 or-more (suc a) b c = refl
 
-pub run-1 : (r : Run) (cs : Columns) → columnsFit cs ≡ false → runRefusal r cs ≡ badLists
+pub run-1 : (r : Run) (cs : Book) → columnsFit cs ≡ false → runRefusal r cs ≡ badLists
 unfolding runRefusal
 run-1 r cs f = rw f
 
-pub run-7 : (r : Run) (cs : Columns) → columnsFit cs ≡ true → isRun (long cs) r ≡ false → runRefusal r cs ≡ notARun
+pub run-7 : (r : Run) (cs : Book) → columnsFit cs ≡ true → isRunOf cs r ≡ false → runRefusal r cs ≡ notARun
 unfolding runRefusal
 run-7 r cs f h = rw (f, h)
 
@@ -198,10 +197,10 @@ unfolding roomRefusal
 room-by n months = refl
 
 -- the columns and the run: 1, 7, or what comes after them
-pub by-run : {A : Type 0} (r : Run) (cs : Columns) → (columnsFit cs ≡ false → A) → (columnsFit cs ≡ true → isRun (long cs) r ≡ false → A) → (Good r cs → A) → A
-by-run r cs one seven good = if-so (columnsFit cs) (λ f. if-so (isRun (long cs) r) (λ h. good (record { fit = f; run = h })) (seven f)) one
+pub by-run : {A : Type 0} (r : Run) (cs : Book) → (columnsFit cs ≡ false → A) → (columnsFit cs ≡ true → isRunOf cs r ≡ false → A) → (Good r cs → A) → A
+by-run r cs one seven good = if-so (columnsFit cs) (λ f. if-so (isRunOf cs r) (λ h. good (record { fit = f; run = h })) (seven f)) one
 
-module _ (r : Run) (a : Ask) (cs : Columns) where
+module _ (r : Run) (a : Ask) (cs : Book) where
   abbrev pub given : ℕ
   given = asked r a cs .answer .number
 
@@ -217,7 +216,7 @@ module _ (r : Run) (a : Ask) (cs : Columns) where
   number-1 : columnsFit cs ≡ false → given ≡ badLists
   number-1 f = number-is ∙ rw (run-1 r cs f)
 
-  number-7 : columnsFit cs ≡ true → isRun (long cs) r ≡ false → given ≡ notARun
+  number-7 : columnsFit cs ≡ true → isRunOf cs r ≡ false → given ≡ notARun
   number-7 f h = number-is ∙ rw (run-7 r cs f h)
 
   -- what the month is refused with by itself, and what is left where it is not
@@ -259,7 +258,7 @@ which (water p pe) n g k = ⊎-elim inl (λ e. inr (inl e)) (month-which p pe n 
 which (both-inches q) n g k = ⊎-elim inl (λ e. inr (inl e)) (month-which (Inches (q .p)) (Inches (q .pe)) n g k)
 which (anomaly z) n g k = inr (inr (z-which z n g k))
 
-pub add-gives : (r : Run) (a : Ask) (cs : Columns) → AddGives r a cs (asked r a cs .answer .number)
+pub add-gives : (r : Run) (a : Ask) (cs : Book) → AddGives r a cs (asked r a cs .answer .number)
 add-gives r a cs =
     by-run r cs
     (λ f. subst (AddGives r a cs) (sym (number-1 r a cs f)) (add-1 f))
@@ -269,11 +268,11 @@ add-gives r a cs =
     (λ h. subst (AddGives r a cs) (sym (number-itself r a cs g h)) (add-itself r a cs (itself a) g (itself-gives a) (which a (itself a) (itself-gives a) h)))
     (zero-or (itself a)))
 
-pub adds-exactly : (r : Run) (a : Ask) (cs : Columns) (n : ℕ) → (asked r a cs .answer .number ≡ n) ↔ AddGives r a cs n
+pub adds-exactly : (r : Run) (a : Ask) (cs : Book) (n : ℕ) → (asked r a cs .answer .number ≡ n) ↔ AddGives r a cs n
 adds-exactly r a cs = exactly (AddGives r a cs) (asked r a cs .answer .number) (add-gives r a cs) (add-given r a cs)
 
 -- ---- a row
-module _ (r : Run) (i : ℕ) (cs : Columns) where
+module _ (r : Run) (i : ℕ) (cs : Book) where
   abbrev pub told : ℕ
   told = rowOfRun r i cs .number
 
@@ -296,7 +295,7 @@ module _ (r : Run) (i : ℕ) (cs : Columns) where
   unfolding rowRefusal
   row-is-1 f = row-by ∙ rw (run-1 r cs f)
 
-  row-is-7 : columnsFit cs ≡ true → isRun (long cs) r ≡ false → told ≡ notARun
+  row-is-7 : columnsFit cs ≡ true → isRunOf cs r ≡ false → told ≡ notARun
   unfolding rowRefusal
   row-is-7 f h = row-by ∙ rw (run-7 r cs f h)
 

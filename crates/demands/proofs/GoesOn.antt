@@ -10,10 +10,9 @@ use lib.IntN.{ℤ}
 use lib.ListN.{length, drop, length-drop}
 use Rattle.outline.specs.Refusals.{full, unlessRefused}
 use Rattle.outline.proofs.Refusals.{is-done, is-refused, holds-of}
-use Rattle.runs.specs.Runs.{isRun}
 use Rattle.runs.specs.declared.Run.{Run}
-use Rattle.refusals.specs.Columns.{Columns, long, columnsFit}
-use Rattle.refusals.specs.Refusals.{runRefusal}
+use Rattle.refusals.specs.Book.{Book, long, columnsFit}
+use Rattle.refusals.specs.Refusals.{isRunOf, runRefusal}
 use Rattle.adding.specs.Taken.{Result}
 use Rattle.adding.specs.declared.Added.{Added}
 use Rattle.adding.proofs.Readiness.{run-is}
@@ -33,12 +32,12 @@ use Rattle.demands.proofs.SeasonGiven.{begins-done, season-gives}
 use Rattle.demands.proofs.Longer.{usable, first-longer, number-of, long-longer, run-longer, run-copied, adds, adds-on, copied-adds, rows, copied-rows}
 
 -- ---- a season on two sets of columns between which P holds, and on which a single add answers the same, unless its number is one of `Bad`
-module _ (P : Run → Columns → Columns → Type 0) (Bad : ℕ → Type 0) (done : Bad 0 → ⊥)
-    (add : (r : Run) (a : Ask) (cs ds : Columns) → P r cs ds → (Bad (asked r a cs .answer .number) → ⊥) → (asked r a ds .answer ≡ asked r a cs .answer) × P (asked r a cs .answer .run) (asked r a cs .columns) (asked r a ds .columns)) where
+module _ (P : Run → Book → Book → Type 0) (Bad : ℕ → Type 0) (done : Bad 0 → ⊥)
+    (add : (r : Run) (a : Ask) (cs ds : Book) → P r cs ds → (Bad (asked r a cs .answer .number) → ⊥) → (asked r a ds .answer ≡ asked r a cs .answer) × P (asked r a cs .answer .run) (asked r a cs .columns) (asked r a ds .columns)) where
   abbrev Alike : SeasonResult → SeasonResult → Type 0
   Alike t u = (Bad (t .answer .number) → ⊥) → (u .answer ≡ t .answer) × P (t .answer .run) (t .columns) (u .columns)
 
-  each-alike : (ps pes : List ℤ) (s : Season) (cs ds : Columns) → P (s .run) cs ds → Alike (addEach (seasonResult s cs) ps pes) (addEach (seasonResult s ds) ps pes)
+  each-alike : (ps pes : List ℤ) (s : Season) (cs ds : Book) → P (s .run) cs ds → Alike (addEach (seasonResult s cs) ps pes) (addEach (seasonResult s ds) ps pes)
   unfolding addEach
   each-alike [] pes s cs ds q = λ b. (refl, q)
   each-alike (p ∷ ps) [] s cs ds q = λ b. (refl, q)
@@ -57,16 +56,16 @@ module _ (P : Run → Columns → Columns → Type 0) (Bad : ℕ → Type 0) (do
       let g = add (s .run) a cs ds q (λ h. b (subst (λ (t : SeasonResult). Bad (t .answer .number)) (sym e) h)) in
       let k : other .answer .number ≡ alone .answer .number = ap (λ (x : Added). x .number) (g .0) in
       let d = is-refused (other .answer .number) (addEach (seasonResult (joined s (other .answer)) (other .columns)) ps pes) (seasonResult (stopped s (other .answer .number)) ds) (λ z. n (sym k ∙ z)) in
-      rw (e, d) (ap (stopped s) k, q))
+      subst₂ (λ (t u : SeasonResult). (u .answer ≡ t .answer) × P (t .answer .run) (t .columns) (u .columns)) (sym e) (sym d) (ap (stopped s) k, q))
       (zero-or (alone .answer .number))
 
 -- 1 and 7 before the first month, asked alike
-begins-alike : (r : Run) (ps pes : List ℤ) (cs ds : Columns) → columnsFit cs ≡ true → columnsFit ds ≡ true → isRun (long ds) r ≡ isRun (long cs) r → seasonRefusal r ps pes ds ≡ seasonRefusal r ps pes cs
+begins-alike : (r : Run) (ps pes : List ℤ) (cs ds : Book) → columnsFit cs ≡ true → columnsFit ds ≡ true → isRunOf ds r ≡ isRunOf cs r → seasonRefusal r ps pes ds ≡ seasonRefusal r ps pes cs
 unfolding seasonRefusal runRefusal
 begins-alike r ps pes cs ds f g is = rw (f, g, is)
 
 -- ---- what an add leaves, accepted or refused
-module _ (r : Run) (a : Ask) (cs : Columns) (f : columnsFit cs ≡ true) where
+module _ (r : Run) (a : Ask) (cs : Book) (f : columnsFit cs ≡ true) where
   fit-after : columnsFit (asked r a cs .columns) ≡ true
   fit-after =
       ⊎-elim
@@ -83,20 +82,20 @@ module _ (r : Run) (a : Ask) (cs : Columns) (f : columnsFit cs ≡ true) where
 
 -- ---- months and seasons on longer columns
 -- ds are longer than cs by `more`, and cs have the run's months
-record By (more : Columns) (r : Run) (cs ds : Columns) : Type 0 where
+record By (more : Book) (r : Run) (cs ds : Book) : Type 0 where
   is : ds ≡ longer cs more
   lent : Lent cs more
   there : r .months ≤ long cs
 
-module _ (more : Columns) where
-  begun : (r : Run) (cs : Columns) → Lent cs more → r .months ≤ long cs → By more r cs (longer cs more)
+module _ (more : Book) where
+  begun : (r : Run) (cs : Book) → Lent cs more → r .months ≤ long cs → By more r cs (longer cs more)
   begun r cs f l = record { is = refl; lent = f; there = l }
 
   -- an add that is not full
-  by-add : (r : Run) (a : Ask) (cs ds : Columns) → By more r cs ds → (asked r a cs .answer .number ≡ full → ⊥) → (asked r a ds .answer ≡ asked r a cs .answer) × By more (asked r a cs .answer .run) (asked r a cs .columns) (asked r a ds .columns)
+  by-add : (r : Run) (a : Ask) (cs ds : Book) → By more r cs ds → (asked r a cs .answer .number ≡ full → ⊥) → (asked r a ds .answer ≡ asked r a cs .answer) × By more (asked r a cs .answer .run) (asked r a cs .columns) (asked r a ds .columns)
   by-add r a cs ds b n =
       let e = adds r a cs more (b .lent) (b .there) n in
-      subst (λ (d : Columns). (asked r a d .answer ≡ asked r a cs .answer) × By more (asked r a cs .answer .run) (asked r a cs .columns) (asked r a d .columns)) (sym (b .is)) (
+      subst (λ (d : Book). (asked r a d .answer ≡ asked r a cs .answer) × By more (asked r a cs .answer .run) (asked r a cs .columns) (asked r a d .columns)) (sym (b .is)) (
         ap (λ (x : Result). x .answer) e,
         record {
           is = ap (λ (x : Result). x .columns) e;
@@ -105,10 +104,10 @@ module _ (more : Columns) where
         },
       )
 
-  seasons : (r : Run) (ps pes : List ℤ) (cs : Columns) → Lent cs more → r .months ≤ long cs → (addSeason r ps pes cs .answer .number ≡ full → ⊥)
+  seasons : (r : Run) (ps pes : List ℤ) (cs : Book) → Lent cs more → r .months ≤ long cs → (addSeason r ps pes cs .answer .number ≡ full → ⊥)
       → addSeason r ps pes (longer cs more) ≡ seasonResult (addSeason r ps pes cs .answer) (longer (addSeason r ps pes cs .columns) more)
   seasons r ps pes cs f l n =
-      let k = begins-alike r ps pes cs (longer cs more) (f .shorter) (f .longer) (run-longer r cs more l) in
+      let k = begins-alike r ps pes cs (longer cs more) (f .shorter) (f .longer) (run-longer r cs more (f .shorter) l) in
       ⊎-elim
       (λ z. let t = begins r ps pes cs z in
       let g = each-alike (By more) (λ (m : ℕ). m ≡ full) (λ e. omega arith) by-add ps pes (nothing 0 r) cs (longer cs more) (begun r cs f l) (λ e. n (ap (λ (x : SeasonResult). x .answer .number) t ∙ e)) in
@@ -119,7 +118,7 @@ module _ (more : Columns) where
       (zero-or (seasonRefusal r ps pes cs))
 
   -- months one by one
-  all-by : (asks : List Ask) (r : Run) (cs ds : Columns) → By more r cs ds → Accepted (standing r cs) asks
+  all-by : (asks : List Ask) (r : Run) (cs ds : Book) → By more r cs ds → Accepted (standing r cs) asks
       → let s = afterAll (standing r cs) asks in let t = afterAll (standing r ds) asks in
       Accepted (standing r ds) asks × (t .run ≡ s .run) × By more (s .run) (s .columns) (t .columns)
   all-by [] r cs ds b h = (tt, refl, b)
@@ -129,7 +128,7 @@ module _ (more : Columns) where
       (let i = all-by later (asked r a cs .answer .run) (asked r a cs .columns) (asked r a ds .columns) (g .1) (h .1) in ((h .0, i .0), i .1, i .2))
 
 -- ---- a season that goes on where the shorter columns are full
-each-adds : (ps pes : List ℤ) (s : Season) (cs : Columns) → s .added ≤ addEach (seasonResult s cs) ps pes .answer .added
+each-adds : (ps pes : List ℤ) (s : Season) (cs : Book) → s .added ≤ addEach (seasonResult s cs) ps pes .answer .added
 unfolding addEach
 each-adds [] pes s cs = omega arith
 each-adds (p ∷ ps) [] s cs = omega arith
@@ -146,7 +145,7 @@ more-done : (k : ℕ) (f : SeasonResult → SeasonResult) (a b c d : SeasonResul
 more-done zero f a b c d g h = g
 more-done (suc k) f a b c d g h = h
 
-each-plus : (ps pes : List ℤ) (k m : ℕ) (s : Season) (cs : Columns) → addEach (plus k m (seasonResult s cs)) ps pes ≡ plus k m (addEach (seasonResult s cs) ps pes)
+each-plus : (ps pes : List ℤ) (k m : ℕ) (s : Season) (cs : Book) → addEach (plus k m (seasonResult s cs)) ps pes ≡ plus k m (addEach (seasonResult s cs) ps pes)
 unfolding addEach
 each-plus [] pes k m s cs = refl
 each-plus (p ∷ ps) [] k m s cs = refl
@@ -161,7 +160,7 @@ each-plus (p ∷ ps) (pe ∷ pes) k m s cs =
 abbrev not-stopped : Season → Season
 not-stopped s = record { number = 0; added = s .added; settled = s .settled; figures = s .figures; run = s .run }
 
-record Rest (more : Columns) (ps pes : List ℤ) (s : Season) (ds : Columns) (t : SeasonResult) : Type 0 where
+record Rest (more : Book) (ps pes : List ℤ) (s : Season) (ds : Book) (t : SeasonResult) : Type 0 where
   n : ℕ
   counted : t .answer .added ≡ s .added + n
   p : ℤ
@@ -174,11 +173,11 @@ record Rest (more : Columns) (ps pes : List ℤ) (s : Season) (ds : Columns) (t 
   lent : Lent (t .columns) more
   goes : addEach (seasonResult s ds) ps pes ≡ addEach (seasonResult (not-stopped (t .answer)) (longer (t .columns) more)) (p ∷ later-ps) (pe ∷ later-pes)
 
-module _ (more : Columns) where
-  abbrev Goes : List ℤ → List ℤ → Season → Columns → SeasonResult → Type 0
+module _ (more : Book) where
+  abbrev Goes : List ℤ → List ℤ → Season → Book → SeasonResult → Type 0
   Goes ps pes s ds t = t .answer .number ≡ full → Rest more ps pes s ds t
 
-  one-later : (q qe : ℤ) (ps pes : List ℤ) (s : Season) (b : Added) (ds es : Columns) (t : SeasonResult)
+  one-later : (q qe : ℤ) (ps pes : List ℤ) (s : Season) (b : Added) (ds es : Book) (t : SeasonResult)
       → addEach (seasonResult s ds) (q ∷ ps) (qe ∷ pes) ≡ addEach (seasonResult (joined s b) es) ps pes
       → Rest more ps pes (joined s b) es t → Rest more (q ∷ ps) (qe ∷ pes) s ds t
   one-later q qe ps pes s b ds es t e h =
@@ -196,7 +195,7 @@ module _ (more : Columns) where
         goes = e ∙ h .goes;
       }
 
-  each-rest : (ps pes : List ℤ) (s : Season) (cs ds : Columns) → s .number ≡ 0 → By more (s .run) cs ds → Goes ps pes s ds (addEach (seasonResult s cs) ps pes)
+  each-rest : (ps pes : List ℤ) (s : Season) (cs ds : Book) → s .number ≡ 0 → By more (s .run) cs ds → Goes ps pes s ds (addEach (seasonResult s cs) ps pes)
   unfolding addEach
   each-rest [] pes s cs ds o q = λ e. absurd (omega (arith, o, e))
   each-rest (p ∷ ps) [] s cs ds o q = λ e. absurd (omega (arith, o, e))
@@ -227,16 +226,16 @@ module _ (more : Columns) where
       (zero-or (alone .answer .number))
 
 -- a season that is full has begun
-full-begins : (r : Run) (ps pes : List ℤ) (cs : Columns) → SeasonGives r ps pes cs full → Begins r ps pes cs
+full-begins : (r : Run) (ps pes : List ℤ) (cs : Book) → SeasonGives r ps pes cs full → Begins r ps pes cs
 full-begins r ps pes cs (season-10 b w) = b
 
 -- the first month of a season so far is added
-each-first : (p pe : ℤ) (ps pes : List ℤ) (s : Season) (cs : Columns) → let b = asked (s .run) (water (listed p) (listed pe)) cs in b .answer .number ≡ 0
+each-first : (p pe : ℤ) (ps pes : List ℤ) (s : Season) (cs : Book) → let b = asked (s .run) (water (listed p) (listed pe)) cs in b .answer .number ≡ 0
     → addEach (seasonResult s cs) (p ∷ ps) (pe ∷ pes) ≡ addEach (seasonResult (joined s (b .answer)) (b .columns)) ps pes
 unfolding addEach
 each-first p pe ps pes s cs z = is-done (asked (s .run) (water (listed p) (listed pe)) cs .answer .number) _ _ z
 
-resumes : (more : Columns) → 1 ≤ long more → (ps pes : List ℤ) (r : Run) (ds : Columns) (t : SeasonResult) → length ps ≡ length pes → Rest more ps pes (nothing 0 r) ds t
+resumes : (more : Book) → 1 ≤ long more → (ps pes : List ℤ) (r : Run) (ds : Book) (t : SeasonResult) → length ps ≡ length pes → Rest more ps pes (nothing 0 r) ds t
     → let n = t .answer .added in
     let u = addSeason (t .answer .run) (drop n ps) (drop n pes) (longer (t .columns) more) in
     (addEach (seasonResult (nothing 0 r) ds) ps pes ≡ resumed (t .answer) u) × (1 ≤ u .answer .added)
@@ -265,7 +264,7 @@ resumes more some ps pes r ds t e h =
       omega (arith, x),
     )
 
-seasons-on : (r : Run) (ps pes : List ℤ) (cs more : Columns) → Lent cs more → addSeason r ps pes cs .answer .number ≡ full → 1 ≤ long more
+seasons-on : (r : Run) (ps pes : List ℤ) (cs more : Book) → Lent cs more → addSeason r ps pes cs .answer .number ≡ full → 1 ≤ long more
     → let t = addSeason r ps pes cs in
     let n = t .answer .added in
     let u = addSeason (t .answer .run) (drop n ps) (drop n pes) (longer (t .columns) more) in
@@ -274,13 +273,13 @@ seasons-on r ps pes cs more f e l =
     let b = full-begins r ps pes cs (subst (SeasonGives r ps pes cs) e (season-gives r ps pes cs)) in
     let z = begins-done r ps pes cs b in
     let m = run-is r cs (b .good) .months in
-    let k = begins-alike r ps pes cs (longer cs more) (f .shorter) (f .longer) (run-longer r cs more m) in
+    let k = begins-alike r ps pes cs (longer cs more) (f .shorter) (f .longer) (run-longer r cs more (f .shorter) m) in
     let t = begins r ps pes cs z in
     let h = each-rest more ps pes (nothing 0 r) cs (longer cs more) refl (begun more r cs f m) (sym (ap (λ (x : SeasonResult). x .answer .number) t) ∙ e) in
     rw (begins r ps pes (longer cs more) (k ∙ z), t) (resumes more l ps pes r (longer cs more) _ (b .one-length) h)
 
 -- ---- a run whose months were copied
-copied-seasons : (r : Run) (ps pes : List ℤ) (cs ds : Columns) → SameMonths r cs ds
+copied-seasons : (r : Run) (ps pes : List ℤ) (cs ds : Book) → SameMonths r cs ds
     → let b = addSeason r ps pes cs in let d = addSeason r ps pes ds in
     (d .answer ≡ b .answer) × SameMonths (b .answer .run) (b .columns) (d .columns)
 copied-seasons r ps pes cs ds m =
@@ -290,7 +289,7 @@ copied-seasons r ps pes cs ds m =
     (λ q. rw (refused r ps pes cs q, refused r ps pes ds (λ z. q (sym k ∙ z))) (ap (λ (n : ℕ). nothing n r) k, m))
     (zero-or (seasonRefusal r ps pes cs))
 
-all-same : (later : List Ask) (r : Run) (cs ds : Columns) → SameMonths r cs ds
+all-same : (later : List Ask) (r : Run) (cs ds : Book) → SameMonths r cs ds
     → let s = afterAll (standing r cs) later in let t = afterAll (standing r ds) later in
     (answersTo (standing r ds) later ≡ answersTo (standing r cs) later) × (t .run ≡ s .run) × SameMonths (s .run) (s .columns) (t .columns)
 all-same [] r cs ds m = (refl, refl, m)
@@ -300,7 +299,7 @@ all-same (a ∷ later) r cs ds m =
     subst (λ (x : Added). let t = standing (x .run) (asked r a ds .columns) in (_≡_ {A = List Added} (x ∷ answersTo t later) (answersTo (standing r cs) (a ∷ later))) × (afterAll t later .run ≡ afterAll s later .run) × SameMonths (afterAll s later .run) (afterAll s later .columns) (afterAll t later .columns)) (sym (g .0))
     (let i = all-same later (s .run) (s .columns) (asked r a ds .columns) (g .1) in (ap (λ (l : List Added). asked r a cs .answer ∷ l) (i .0), i .1, i .2))
 
-goes-on : (s : State) (asks later : List Ask) (more ds : Columns) → Lent (s .columns) more → s .run .months ≤ long (s .columns) → Accepted s asks
+goes-on : (s : State) (asks later : List Ask) (more ds : Book) → Lent (s .columns) more → s .run .months ≤ long (s .columns) → Accepted s asks
     → let saved = afterAll s asks in
     let never-stopped = afterAll (standing (s .run) (longer (s .columns) more)) asks in
     columnsFit ds ≡ true → long ds ≡ long (longer (s .columns) more)
@@ -320,7 +319,7 @@ goes-on s asks later more ds f l h g n e =
     } in
     rw t (all-same later (saved .run) (longer (saved .columns) more) ds m)
 
-months : (s : State) (asks : List Ask) (more : Columns) → Lent (s .columns) more → s .run .months ≤ long (s .columns) → Accepted s asks
+months : (s : State) (asks : List Ask) (more : Book) → Lent (s .columns) more → s .run .months ≤ long (s .columns) → Accepted s asks
     → let t = standing (s .run) (longer (s .columns) more) in
     Accepted t asks × (afterAll t asks ≡ standing (afterAll s asks .run) (longer (afterAll s asks .columns) more))
 months s asks more f l h =

@@ -1,20 +1,25 @@
 -- What each helper of a statement rules out, so that none of them can be weakened unseen: `agree` of the worked table; `Honest`, `Answers`,
--- `Balances`, `Accepted`, the answers and the figures month after month, `calendarAfter`, `marksWith`, `Existing`, `SoilFits`, `NoneFrom` and `count` of the demands;
--- `SameFrom` of a season; `Excepted` and `TurnsAbout` of the mirror; `firstPlaces`, `longer` and `resumed` of longer columns. Where a helper is about numbers, one month that it lets through stands
--- beside those that it does not. The cases of specs/Given.antt want no such lemma: each call gives a number exactly where they have it. Assumes
--- nothing.
-use mathlib.Core.Path.{_≡_, refl, sym, subst}
+-- `Balances`, `Accepted`, the answers and the figures month after month, `calendarAfter`, `marksWith`, `Existing`, `SoilFits`, `NoneFrom` and
+-- `count` of the demands; `SameFrom` of a season; `Excepted` and `TurnsAbout` of the mirror; `firstPlaces`, `longer` and `resumed` of longer columns;
+-- the records and V month after month, `RecordBalances`, `ZOnly`, `waterMark`, `recordBy` and `LastRowEnds` of rows that show the water. Where a
+-- helper is about numbers, one month that it lets through stands beside those that it does not. The cases of specs/Given.antt want no such lemma:
+-- each call gives a number exactly where they have it. Assumes nothing.
+use mathlib.Core.Path.{_≡_, refl, sym, ap, subst}
 use mathlib.Core.Bool.{Bool, true, false, _&&_}
+use mathlib.Core.Logic.{_↔_}
 use mathlib.Core.List.{List, [], _∷_, _++_}
 use Prim.Native.Nat.{ℕ, _+_, _≤_, _<_}
 use native.Mathlib.Omega.{arith}
-use lib.IntN.{ℤ, pos}
+use lib.IntN.{ℤ, pos, natAbs}
 use lib.Signed.{leZ, _<ℤ_, <ℤ-irrefl}
 use lib.ListN.{length, getD}
 use Rattle.outline.proofs.Tests.{each}
 use Rattle.exact.specs.Worked.{Row as Line, _gives_, minus, agree}
 use Rattle.exact.proofs.Z.{le-yes, le-no, ≤ℤ-antisym}
 use Rattle.water.specs.Layers.{surfaceHolds, underlyingHolds, SoilFits}
+use Rattle.door.specs.declared.Reading.{Reading}
+use Rattle.door.specs.declared.MonthInches.{MonthInches}
+use Rattle.spells.specs.Spells.{stepOf}
 use Rattle.spells.specs.declared.With.{With}
 use Rattle.spells.specs.declared.Decision.the-variants.{Decides}
 use Rattle.hindsight.specs.Rule.{X, Row, Shown}
@@ -22,19 +27,22 @@ use Rattle.hindsight.specs.Coded.{stateOf}
 use Rattle.hindsight_laws.specs.Counts.{NoneFrom, count}
 use Rattle.starts.specs.Start.{runForZ}
 use Rattle.runs.specs.declared.Run.{Run}
-use Rattle.refusals.specs.Columns.{Columns, columns}
+use Rattle.records.specs.Record.{numbersOf}
+use Rattle.records.specs.declared.Record.{Record}
+use Rattle.refusals.specs.Book.{Book, book}
 use Rattle.adding.specs.Figures.{noFigures}
 use Rattle.adding.specs.Taken.{Result, result, refusal}
 use Rattle.adding.specs.declared.Figures.{Figures}
 use Rattle.adding.specs.declared.Added.{Added}
 use Rattle.season.specs.Season.{SeasonResult}
 use Rattle.season.specs.declared.Season.{Season}
-use Rattle.demands.specs.Months.{Ask, asked, State, standing, after, afterAll, Accepted, answersTo, figuresAnswered, leftOf, Station, stationNext, figuresFor, figuresOfMonths, noRow}
+use Rattle.demands.specs.Months.{Ask, asked, State, standing, after, afterAll, Accepted, answersTo, figuresAnswered, leftOf, water, inches, anomaly, Station, zFor, stationNext, figuresFor, figuresOfMonths, recordFor, recordsOfMonths, vOfMonths, noRow}
 use Rattle.demands.specs.Demands.{Answers, Honest, calendarAfter, Balances, Existing, by-add, marksWith}
 use Rattle.demands.specs.Seasons.{SameFrom}
 use Rattle.demands.specs.Mirror.{Excepted, TurnsAbout}
 use Rattle.demands.specs.Longer.{firstPlaces, longer, resumed}
-use Rattle.demands.specs.Pinned.{soil}
+use Rattle.demands.specs.Recorded.{RecordBalances, waterMark, ZOnly, recordBy, LastRowEnds}
+use Rattle.demands.specs.Pinned.{endingIn, soil}
 
 -- two numbers of which the first is above the second
 apart : {a b : ℤ} → leZ a b ≡ false → a ≡ b → ⊥
@@ -67,11 +75,11 @@ pub honest : (k : ℕ) → (k ≡ 1 → ⊥) → (k ≡ 7 → ⊥) → Honest k
 honest k a b = (a, b)
 
 -- what an add leaves, of its parts
-abbrev of : ℕ → ℕ → Figures → Run → Columns → Result
+abbrev of : ℕ → ℕ → Figures → Run → Book → Result
 of number settled figures run cs = result (record { number = number; settled = settled; figures = figures; run = run }) cs
 
 -- ---- `Answers`: no other number; and of a refused call nothing but its refusal, with the run and the columns given
-module _ (r : Run) (cs : Columns) (k : ℕ) (b : Result) where
+module _ (r : Run) (cs : Book) (k : ℕ) (b : Result) where
   pub answers-number : Answers r cs k b → b .answer .number ≡ k
   answers-number h = h .0
 
@@ -111,7 +119,7 @@ month p et ro ss su =
       };
       run = storing ss su;
     })
-    (columns [] [] [] [] [])
+    (book [] [] [] [] [] [] [])
 
 pub balances : Balances (storing 500 2000) (month 1000 400 300 600 2200)
 balances = refl
@@ -160,6 +168,17 @@ pub chained-at : (s : Station) (asks : List Ask) (a : Ask) (later : List Ask) (d
 chained-at s [] a later d = refl
 chained-at s (b ∷ asks) a later d = chained-at (stationNext s b) asks a later d
 
+-- ---- `recordsOfMonths` and `vOfMonths`: likewise of each month its own
+pub record-at : (s : Station) (asks : List Ask) (a : Ask) (later : List Ask) (d : Record)
+    → getD (recordsOfMonths s (asks ++ (a ∷ later))) (length asks) d ≡ recordFor (stateOf stationNext s asks) a
+record-at s [] a later d = refl
+record-at s (b ∷ asks) a later d = record-at (stationNext s b) asks a later d
+
+pub v-at : (s : Station) (asks : List Ask) (a : Ask) (later : List Ask) (d : ℤ)
+    → getD (vOfMonths s (asks ++ (a ∷ later))) (length asks) d ≡ stepOf (stateOf stationNext s asks .values) (zFor (stateOf stationNext s asks) a) .after .v
+v-at s [] a later d = refl
+v-at s (b ∷ asks) a later d = v-at (stationNext s b) asks a later d
+
 -- ---- `calendarAfter`: after December comes January, and a year later the same month
 pub turns-of-the-year : (calendarAfter 11 1 ≡ 12) × (calendarAfter 12 1 ≡ 1) × (calendarAfter 3 0 ≡ 3) × (calendarAfter 3 12 ≡ 3) × (calendarAfter 1 11999 ≡ 12)
 turns-of-the-year = (refl, refl, refl, refl, refl)
@@ -172,7 +191,7 @@ pub marks-written :
 marks-written = (refl, refl, refl)
 
 -- ---- `Existing`: every run that a call hands back, the given one too
-pub exists-on : (r : Run) (asks : List Ask) (cs : Columns) → Existing r → Existing (afterAll (standing r cs) asks .run)
+pub exists-on : (r : Run) (asks : List Ask) (cs : Book) → Existing r → Existing (afterAll (standing r cs) asks .run)
 exists-on r [] cs e = e
 exists-on r (a ∷ later) cs e = let b = asked r a cs in exists-on (b .answer .run) later (b .columns) (by-add r a cs e)
 
@@ -202,25 +221,30 @@ one-decides rows i j w p q e h = let n = h j noRow p q in let k : _≡_ {A = ℕ
 pub counts : (count 2 (2 ∷ 1 ∷ 2 ∷ 0 ∷ []) ≡ 2) × (count 1 (2 ∷ 1 ∷ 2 ∷ 0 ∷ []) ≡ 1) × (count 3 (2 ∷ 1 ∷ 2 ∷ 0 ∷ []) ≡ 0)
 counts = (refl, refl, refl)
 
--- ---- `SameFrom`: none of the five columns changed at the place itself
-abbrev two : ℤ → ℤ → ℤ → ℤ → ℕ → Columns
-two x1 x2 x3 index mark = columns (pos 0 ∷ x1 ∷ []) (pos 0 ∷ x2 ∷ []) (pos 0 ∷ x3 ∷ []) (pos 0 ∷ index ∷ []) (0 ∷ mark ∷ [])
+-- ---- `SameFrom`: none of the five columns, no number of a record and no V changed at the place itself
+abbrev two : ℤ → ℤ → ℤ → ℤ → ℕ → ℤ → ℤ → Book
+two x1 x2 x3 index mark number v =
+    book (pos 0 ∷ x1 ∷ []) (pos 0 ∷ x2 ∷ []) (pos 0 ∷ x3 ∷ []) (pos 0 ∷ index ∷ []) (0 ∷ mark ∷ []) ((pos 0 ∷ []) ∷ (number ∷ []) ∷ []) (pos 0 ∷ v ∷ [])
 
-abbrev Changed : ℤ → ℤ → ℤ → ℤ → ℕ → Type 0
-Changed x1 x2 x3 index mark = SameFrom 1 (two (pos 0) (pos 0) (pos 0) (pos 0) 0) (two x1 x2 x3 index mark) → ⊥
+abbrev Changed : ℤ → ℤ → ℤ → ℤ → ℕ → ℤ → ℤ → Type 0
+Changed x1 x2 x3 index mark number v = SameFrom 1 (two (pos 0) (pos 0) (pos 0) (pos 0) 0 (pos 0) (pos 0)) (two x1 x2 x3 index mark number v) → ⊥
 
 pub changed :
-    Changed (pos 1) (pos 0) (pos 0) (pos 0) 0
-    × Changed (pos 0) (pos 1) (pos 0) (pos 0) 0
-    × Changed (pos 0) (pos 0) (pos 1) (pos 0) 0
-    × Changed (pos 0) (pos 0) (pos 0) (pos 1) 0
-    × Changed (pos 0) (pos 0) (pos 0) (pos 0) 1
+    Changed (pos 1) (pos 0) (pos 0) (pos 0) 0 (pos 0) (pos 0)
+    × Changed (pos 0) (pos 1) (pos 0) (pos 0) 0 (pos 0) (pos 0)
+    × Changed (pos 0) (pos 0) (pos 1) (pos 0) 0 (pos 0) (pos 0)
+    × Changed (pos 0) (pos 0) (pos 0) (pos 1) 0 (pos 0) (pos 0)
+    × Changed (pos 0) (pos 0) (pos 0) (pos 0) 1 (pos 0) (pos 0)
+    × Changed (pos 0) (pos 0) (pos 0) (pos 0) 0 (pos 1) (pos 0)
+    × Changed (pos 0) (pos 0) (pos 0) (pos 0) 0 (pos 0) (pos 1)
 changed = (
   (λ h. apart refl (h .x1 1 (omega arith))),
   (λ h. apart refl (h .x2 1 (omega arith))),
   (λ h. apart refl (h .x3 1 (omega arith))),
   (λ h. apart refl (h .index 1 (omega arith))),
   (λ h. let e = h .mark 1 (omega arith) in omega arith),
+  (λ h. apart refl (ap (λ (n : List ℤ). getD n 0 (pos 0)) (h .records 1 (omega arith)))),
+  (λ h. apart refl (h .v 1 (omega arith))),
 )
 
 -- ---- `Excepted`: an open month with X1 224, X2 -224 and X3 0; not a settled one, nor with an X3, nor with sizes that differ, nor with both 0
@@ -256,12 +280,14 @@ stays-as-it-was = (
   (λ h. apart refl (h .stays excepted .1)),
 )
 
--- ---- `firstPlaces` and `longer`: of all five columns, each its own places, those of the first in front
-abbrev one-place : ℕ → Columns
-one-place n = columns (pos n ∷ []) (pos (n + 1) ∷ []) (pos (n + 2) ∷ []) (pos (n + 3) ∷ []) ((n + 4) ∷ [])
+-- ---- `firstPlaces` and `longer`: of all seven lists, each its own places, those of the first in front
+abbrev one-place : ℕ → Book
+one-place n =
+    book (pos n ∷ []) (pos (n + 1) ∷ []) (pos (n + 2) ∷ []) (pos (n + 3) ∷ []) ((n + 4) ∷ []) ((pos (n + 5) ∷ []) ∷ []) (pos (n + 6) ∷ [])
 
-abbrev two-places : Columns
-two-places = columns (pos 10 ∷ pos 20 ∷ []) (pos 11 ∷ pos 21 ∷ []) (pos 12 ∷ pos 22 ∷ []) (pos 13 ∷ pos 23 ∷ []) (14 ∷ 24 ∷ [])
+abbrev two-places : Book
+two-places =
+    book (pos 10 ∷ pos 20 ∷ []) (pos 11 ∷ pos 21 ∷ []) (pos 12 ∷ pos 22 ∷ []) (pos 13 ∷ pos 23 ∷ []) (14 ∷ 24 ∷ []) ((pos 15 ∷ []) ∷ (pos 25 ∷ []) ∷ []) (pos 16 ∷ pos 26 ∷ [])
 
 pub places : (longer (one-place 10) (one-place 20) ≡ two-places) × (firstPlaces 1 two-places ≡ one-place 10) × (firstPlaces 2 two-places ≡ two-places)
 places = (refl, refl, refl)
@@ -274,3 +300,80 @@ pub resumes : (s : Season) (u : SeasonResult)
     × (resumed s u .answer .figures ≡ u .answer .figures)
     × (leftOf (resumed s u) ≡ leftOf u)
 resumes s u = (refl, refl, refl, refl, refl)
+
+-- ---- `RecordBalances`: of amounts it is the balance itself, so that `balances`, `loses` and `gains` above are of a record too
+abbrev water-record : ℕ → ℕ → ℕ → ℕ → ℕ → ℕ → ℕ → Record
+water-record p et ro ss su surface underlying =
+    record {
+      z = pos 0;
+      p = pos p;
+      pe = pos 0;
+      et = pos et;
+      r = pos 0;
+      l = pos 0;
+      ro = pos ro;
+      ss = pos ss;
+      su = pos su;
+      surface = pos surface;
+      underlying = pos underlying;
+      water = pos 1;
+    }
+
+pub record-balances : (p et ro ss su surface underlying : ℕ)
+    → RecordBalances (water-record p et ro ss su surface underlying) ↔ Balances (storing ss su) (month p et ro surface underlying)
+record-balances p et ro ss su surface underlying = (ap natAbs, ap pos)
+
+-- ---- `ZOnly`: all of a record but the storages, which are carried
+pub z-only-is : (z : ℤ) (m : Record) → ZOnly z m → numbersOf m ≡ z ∷ pos 0 ∷ pos 0 ∷ pos 0 ∷ pos 0 ∷ pos 0 ∷ pos 0 ∷ m .ss ∷ m .su ∷ m .ss ∷ m .su ∷ pos 0 ∷ []
+z-only-is z m h = rw (h .its-z, h .p, h .pe, h .et, h .r, h .l, h .ro, h .surface, h .underlying, h .no-water)
+
+-- ---- `waterMark`: of water by either call, and of a Z
+pub marks : (p pe : Reading) (q : MonthInches) (z : ℤ) → (waterMark (water p pe) ≡ pos 1) × (waterMark (inches q) ≡ pos 1) × (waterMark (anomaly z) ≡ pos 0)
+marks p pe q z = (refl, refl, refl)
+
+-- ---- `recordBy`: each number of an answer that a record has, of numbers that all differ
+abbrev numbered : Added
+numbered =
+    record {
+      number = 1;
+      settled = 2;
+      figures = record {
+        water = record { p = 11; pe = 12; ls = 13; lu = 14; et = 15; r = 16; ro = 17; pr = 18; pro = 19; pl = 20; cafec = pos 21 };
+        z = pos 10;
+        percent = 22;
+        x1 = pos 23;
+        x2 = pos 24;
+        x3 = pos 25;
+        index = pos 26;
+        mark = 28;
+      };
+      run = storing 33 34;
+    }
+
+pub by-answer :
+    numbersOf (recordBy (storing 31 32) (anomaly (pos 0)) numbered)
+    ≡ pos 10 ∷ pos 11 ∷ pos 12 ∷ pos 15 ∷ pos 16 ∷ pos 27 ∷ pos 17 ∷ pos 31 ∷ pos 32 ∷ pos 33 ∷ pos 34 ∷ pos 0 ∷ []
+by-answer = refl
+
+-- ---- `LastRowEnds`: the run of one month stands at 600 and 2,200; its record ends there, and no other amount, nor a negative one, does
+abbrev keeping : ℤ → ℤ → Book
+keeping surface underlying = book [] [] [] [] [] (endingIn surface underlying ∷ endingIn (pos 0) (pos 0) ∷ []) []
+
+pub ends-there : LastRowEnds (storing 600 2200) (keeping (pos 600) (pos 2200))
+ends-there n e = let z : n ≡ 0 = omega arith in rw z (refl, refl)
+
+pub ends-elsewhere :
+    (LastRowEnds (storing 600 2200) (keeping (pos 599) (pos 2200)) → ⊥)
+    × (LastRowEnds (storing 600 2200) (keeping (pos 601) (pos 2200)) → ⊥)
+    × (LastRowEnds (storing 600 2200) (keeping (pos 600) (pos 2199)) → ⊥)
+    × (LastRowEnds (storing 600 2200) (keeping (pos 600) (pos 2201)) → ⊥)
+    × (LastRowEnds (storing 600 2200) (keeping (minus 600) (pos 2200)) → ⊥)
+    × (LastRowEnds (storing 600 2200) (keeping (pos 600) (minus 2200)) → ⊥)
+ends-elsewhere = (
+  (λ h. apart refl (sym (h 0 refl .0))),
+  (λ h. apart refl (h 0 refl .0)),
+  (λ h. apart refl (sym (h 0 refl .1))),
+  (λ h. apart refl (h 0 refl .1)),
+  (λ h. apart refl (sym (h 0 refl .0))),
+  (λ h. apart refl (sym (h 0 refl .1))),
+)

@@ -8,8 +8,10 @@ use Prim.Native.Nat.{ℕ}
 use native.Mathlib.Omega.{arith}
 use Rattle.runs.specs.declared.Run.{Run}
 use Rattle.starts.proofs.Theorems.{start-is-run}
-use Rattle.refusals.specs.Columns.{Columns, long, columnsFit}
+use Rattle.records.proofs.Meeting.{after-none}
+use Rattle.refusals.specs.Book.{Book, long, columnsFit}
 use Rattle.refusals.specs.Good.{Good}
+use Rattle.refusals.proofs.Refused.{parts-run}
 use Rattle.drought.specs.Calls.{rowOfRun}
 use Rattle.demands.specs.Months.{Ask, asked, State, after, afterAll}
 use Rattle.demands.specs.Given.{AddGives, add-0, add-1, add-7, add-8, add-9, add-10, add-12, RowGives, row-0, row-1, row-7, row-11}
@@ -32,7 +34,7 @@ good-always s [] g = g
 good-always s (a ∷ later) g = good-always (after s a) later (good-after s a g)
 
 -- the number of a call on a good run is neither 1 nor 7: the cases of these two say that the columns do not fit, or that the run is none
-module _ (r : Run) (cs : Columns) (g : Good r cs) where
+module _ (r : Run) (cs : Book) (g : Good r cs) where
   add-honest : (a : Ask) (n : ℕ) → AddGives r a cs n → Honest n
   add-honest a n (add-1 f) = absurd (not-both-ways (g .fit) f)
   add-honest a n (add-7 f h) = absurd (not-both-ways (g .run) h)
@@ -57,7 +59,7 @@ module _ (r : Run) (cs : Columns) (g : Good r cs) where
 -- from a start on: on columns that nobody else writes no sequence of calls is ever refused 1 or 7
 module _ (f : Fresh) (fit : columnsFit (f .columns) ≡ true) (asks : List Ask) where
   pub good-now : Good (now f asks .run) (now f asks .columns)
-  good-now = good-always (first f) asks (record { fit = fit; run = start-is-run (f .constants) (f .capacity) (f .surface) (f .underlying) (f .month) (f .started) (long (f .columns)) })
+  good-now = good-always (first f) asks (record { fit = fit; run = parts-run (first f .run) (f .columns) (start-is-run (f .constants) (f .capacity) (f .surface) (f .underlying) (f .month) (f .started) (long (f .columns))) (after-none (first f .run .soil) (f .columns .records) 0 refl) })
 
   pub never-refused-7 : (a : Ask) → Honest (asked (now f asks .run) a (now f asks .columns) .answer .number)
   never-refused-7 a = never-refused (now f asks .run) (now f asks .columns) good-now a

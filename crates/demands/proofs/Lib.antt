@@ -22,6 +22,7 @@ pub mod Seasons
 pub mod SeasonGiven
 pub mod Longer
 pub mod GoesOn
+pub mod Recorded
 pub mod Table
 pub mod Rejected
 pub mod SeasonRejected

@@ -31,7 +31,8 @@ use Rattle.hindsight_laws.proofs.Adds.{series-is-adding}
 use Rattle.calendar.specs.Calendar.{nextCalendar}
 use Rattle.runs.specs.declared.Run.{Run}
 use Rattle.series.specs.Series.{allZFit, seriesRefusal, Filled, filled, wholeSeries}
-use Rattle.refusals.specs.Columns.{Columns, long}
+use Rattle.records.specs.declared.Record.{Record}
+use Rattle.refusals.specs.Book.{Book, long}
 use Rattle.refusals.specs.Refusals.{runRefusal, zRefusal}
 use Rattle.refusals.proofs.Refused.{good-passes}
 use Rattle.adding.specs.Figures.{noWater}
@@ -206,10 +207,10 @@ module _ (f : Fresh) where
     same-number = number-turned start zs z h
 
     -- with the run given, and with its mirror
-    taken-turned : (r r' : Run) (cs cs' : Columns) (w : WaterFigures) → r' ≡ mirrorRun r → Reached (r .values) → AnswersTurned (taken r (r .soil) w z cs .answer) (taken r' (r' .soil) w (negℤ z) cs' .answer)
+    taken-turned : (r r' : Run) (cs cs' : Book) (w : WaterFigures) (kept kept' : Record) → r' ≡ mirrorRun r → Reached (r .values) → AnswersTurned (taken r (r .soil) w z kept cs .answer) (taken r' (r' .soil) w (negℤ z) kept' cs' .answer)
     unfolding taken
-    taken-turned r r' cs cs' w e k =
-        subst (λ (q : Run). AnswersTurned (taken r (r .soil) w z cs .answer) (taken q (q .soil) w (negℤ z) cs' .answer)) (sym e)
+    taken-turned r r' cs cs' w kept kept' e k =
+        subst (λ (q : Run). AnswersTurned (taken r (r .soil) w z kept cs .answer) (taken q (q .soil) w (negℤ z) kept' cs' .answer)) (sym e)
         (record {
           number = refl;
           percent = mirror-percent (r .values) z;
@@ -229,7 +230,7 @@ module _ (f : Fresh) where
         subst₂ AnswersTurned
         (sym (ap (λ (b : Result). b .answer) (took (state .run) (state .columns) (anomaly z) e .did)))
         (sym (ap (λ (b : Result). b .answer) (took (mirrored .run) (mirrored .columns) (anomaly (negℤ z)) (same-number ∙ e) .did)))
-        (taken-turned (state .run) (mirrored .run) (state .columns) (mirrored .columns) noWater (run-turned zs h) (reached-after start (map anomaly zs) fresh-reached h))
+        (taken-turned (state .run) (mirrored .run) (state .columns) (mirrored .columns) noWater _ _ (run-turned zs h) (reached-after start (map anomaly zs) fresh-reached h))
 
     -- where it is refused, all figures are 0 and the run is the one given
     refused-both : (plain .number ≡ 0 → ⊥) → AnswersTurned plain other

@@ -29,8 +29,10 @@ use Rattle.runs.specs.Runs.{soilFits, sizesFit, signsFit, vFits, isRun}
 use Rattle.outline.specs.Numbers.{lengthFits, zFits}
 use Rattle.starts.specs.Start.{capacityFits, storagesFit, monthFits, startRefusal, freshRun}
 use Rattle.runs.specs.declared.Run.{Run}
-use Rattle.refusals.specs.Columns.{Columns, columns, long, lengthsFit, columnsFit}
-use Rattle.refusals.specs.Refusals.{runRefusal, roomRefusal, waterRefusal, zRefusal, rowRefusal}
+use Rattle.records.specs.Record.{noRecord, numbersOf, recordAt}
+use Rattle.records.specs.Ends.{amounts, endsMeet}
+use Rattle.refusals.specs.Book.{Book, book, long, lengthsFit, columnsFit}
+use Rattle.refusals.specs.Refusals.{isRunFor, isRunOf, runRefusal, roomRefusal, waterRefusal, zRefusal, rowRefusal}
 use Rattle.adding.specs.Taken.{Result, taken, takenWater}
 use Rattle.adding.specs.declared.Figures.{Figures}
 use Rattle.drought.specs.Calls.{addOutcomes, addWater, addInches, addZ, rowOfRun}
@@ -40,9 +42,11 @@ use Rattle.demands.specs.Demands.{Fresh}
 use Rattle.demands.specs.Rejected.{Adds, Keeps, readings, next, Rejects, RoomFirst, PlaceFirst}
 
 -- ---- what the months are added to
--- columns of n places
-abbrev pub blank : ℕ → Columns
-blank n = columns (replicate n (pos 0)) (replicate n (pos 0)) (replicate n (pos 0)) (replicate n (pos 0)) (replicate n 0)
+-- columns of n places, with records all 0 and V 9
+abbrev pub blank : ℕ → Book
+blank n =
+    book (replicate n (pos 0)) (replicate n (pos 0)) (replicate n (pos 0)) (replicate n (pos 0)) (replicate n 0) (replicate n (numbersOf noRecord))
+    (replicate n (pos 9))
 
 -- the constants of n months: alpha and K are 1, the others 0, so that Z is P - PE
 abbrev plain : ℕ → List ℤ
@@ -60,7 +64,8 @@ is-started = refl
 abbrev station : Fresh
 station = record { constants = plain 12; capacity = pos 6000; surface = pos 0; underlying = pos 0; month = pos 1; columns = blank 3; started = is-started }
 
--- ---- what a month tells, in size: the settled count and the index that are answered; then what the columns hold at a place
+-- ---- what a month tells, in size: the settled count and the index that are answered; then what the columns hold at a place, and of its record
+-- the Z, and V
 record Seen : Type 0 where
   number : ℕ
   settled : ℕ
@@ -70,13 +75,19 @@ record Seen : Type 0 where
   x3 : ℕ
   index : ℕ
   mark : ℕ
+  z : ℕ
+  v : ℕ
 
 -- of a month that is taken
-abbrev row : ℕ → ℕ → ℕ → ℕ → ℕ → ℕ → ℕ → Seen
-row settled figure x1 x2 x3 index mark = record { number = 0; settled = settled; figure = figure; x1 = x1; x2 = x2; x3 = x3; index = index; mark = mark }
+abbrev row : ℕ → ℕ → ℕ → ℕ → ℕ → ℕ → ℕ → ℕ → ℕ → Seen
+row settled figure x1 x2 x3 index mark z v =
+    record { number = 0; settled = settled; figure = figure; x1 = x1; x2 = x2; x3 = x3; index = index; mark = mark; z = z; v = v }
 
 abbrev at : ℕ → List ℤ → ℕ
 at i l = natAbs (getD l i (pos 0))
+
+abbrev z-at : ℕ → List (List ℤ) → ℕ
+z-at i l = natAbs (recordAt l i .z)
 
 abbrev seen : ℕ → Result → Seen
 seen i b =
@@ -89,6 +100,8 @@ seen i b =
       x3 = at i (b .columns .x3);
       index = at i (b .columns .index);
       mark = getD (b .columns .mark) i 0;
+      z = z-at i (b .columns .records);
+      v = at i (b .columns .v);
     }
 
 -- one by one
@@ -101,6 +114,8 @@ record Shows (i : ℕ) (b : Result) (s : Seen) : Type 0 where
   x3 : at i (b .columns .x3) ≡ s .x3
   index : at i (b .columns .index) ≡ s .index
   mark : getD (b .columns .mark) i 0 ≡ s .mark
+  z : z-at i (b .columns .records) ≡ s .z
+  v : at i (b .columns .v) ≡ s .v
 
 shows : (i : ℕ) (b : Result) (s : Seen) → seen i b ≡ s → Shows i b s
 shows i b s e =
@@ -113,6 +128,8 @@ shows i b s e =
       x3 = ap (λ (v : Seen). v .x3) e;
       index = ap (λ (v : Seen). v .index) e;
       mark = ap (λ (v : Seen). v .mark) e;
+      z = ap (λ (v : Seen). v .z) e;
+      v = ap (λ (v : Seen). v .v) e;
     }
 
 -- ---- the months that tell, of one kind
@@ -133,18 +150,18 @@ module _ {A : Type 0} (ask : A → Ask) where
   record Telling : Type 0 where
     -- Z 1,500 founds nothing, and the month is settled
     damp : A
-    damp-shows : Shows 0 (first damp) (row 1 500 500 0 0 500 2)
+    damp-shows : Shows 0 (first damp) (row 1 500 500 0 0 500 2 1500 0)
     -- Z -3,000 founds a drought. The same again deepens it
     dry : A
-    dry-shows : Shows 0 (first dry) (row 1 1000 0 0 1000 1000 2)
-    drier-shows : Shows 1 (second dry dry) (row 1 1897 0 0 1897 1897 2)
+    dry-shows : Shows 0 (first dry) (row 1 1000 0 0 1000 1000 2 3000 0)
+    drier-shows : Shows 1 (second dry dry) (row 1 1897 0 0 1897 1897 2 3000 0)
     -- Z -149 by itself founds nothing. In the drought it abates, and the month is open
     eased : A
-    mild-shows : Shows 0 (first eased) (row 1 50 0 50 0 50 2)
-    eased-shows : Shows 1 (second dry eased) (row 0 947 0 50 947 947 1)
+    mild-shows : Shows 0 (first eased) (row 1 50 0 50 0 50 2 149 0)
+    eased-shows : Shows 1 (second dry eased) (row 0 947 0 50 947 947 1 149 1)
     -- Z -1,130 is steady, and settles that month
     steady : A
-    steady-shows : Shows 1 (third dry eased steady) (row 2 1226 0 50 947 947 2)
+    steady-shows : Shows 1 (third dry eased steady) (row 2 1226 0 50 947 947 2 149 1)
 
   -- ---- on these months the definition is wrong in none of the ways
   module _ (t : Telling) where
@@ -166,12 +183,14 @@ module _ {A : Type 0} (ask : A → Ask) where
               let a = ap natAbs (h begun (t .damp) (blank 3) (t .damp-shows .number)) in
               let b = ap natAbs (h begun (t .dry) (blank 3) (t .dry-shows .number)) in
               omega arith;
-          columns-untouched = λ h. other-index (ap (λ (cs : Columns). at 0 (cs .index)) (h begun (t .dry) (blank 3) (t .dry-shows .number)));
+          columns-untouched = λ h. other-index (ap (λ (cs : Book). at 0 (cs .index)) (h begun (t .dry) (blank 3) (t .dry-shows .number)));
           x1-untouched = λ h. let a = ap (at 0) (h begun (t .damp) (blank 3) (t .damp-shows .number)) in omega arith;
           x2-untouched = λ h. let a = ap (at 0) (h begun (t .eased) (blank 3) (t .mild-shows .number)) in omega arith;
           x3-untouched = λ h. let a = ap (at 0) (h begun (t .dry) (blank 3) (t .dry-shows .number)) in omega arith;
           index-untouched = λ h. other-index (ap (at 0) (h begun (t .dry) (blank 3) (t .dry-shows .number)));
           mark-untouched = λ h. let a = ap (λ (l : List ℕ). getD l 0 0) (h begun (t .dry) (blank 3) (t .dry-shows .number)) in omega arith;
+          records-untouched = λ h. let a = ap (z-at 0) (h begun (t .dry) (blank 3) (t .dry-shows .number)) in omega arith;
+          v-untouched = λ h. let a = ap (at 0) (h begun (t .dry) (blank 3) (t .dry-shows .number)) in omega arith;
           first-month-repeated = λ h. other-figures (h begun (t .dry) (blank 3) (t .dry-shows .number) (t .drier-shows .number));
           figures-repeated = λ h.
               other-figures (h station (t .dry) (t .dry ∷ []) (t .dry-shows .number) (t .drier-shows .number, tt));
@@ -214,7 +233,7 @@ record Worked : Type 0 where
   binary : Telling inches
   -- the full columns, and there a Z above its range, two readings that are missing, and inches that are no number
   full-fits : columnsFit (filled .columns) ≡ true
-  full-run : isRun (long (filled .columns)) (filled .answer .run) ≡ true
+  full-run : isRunOf (filled .columns) (filled .answer .run) ≡ true
   full-months : filled .answer .run .months ≡ long (filled .columns)
   full-z : asked (filled .answer .run) (anomaly (pos 4000001)) (filled .columns) .answer .number ≡ 12
   full-water : asked (filled .answer .run) (readings (Missing, Missing)) (filled .columns) .answer .number ≡ 8
@@ -224,7 +243,7 @@ record Worked : Type 0 where
   no-run : rowOfRun weightless 0 (blank 1) .number ≡ 7
 
 worked : Worked
-unfolding nearest nearestℕ nextOf turn uOf vOf eOf qOf endingOf percentOf raised lowered largerInSize provisional steadyMonth abatingValues abatingMonth founded unfounded tried noSpell endingMonth inForce stepOf surfaceHolds underlyingHolds underLoss lossSurface lossUnderlying dryMonth toSurface toUnderlying wetMonth balanceOf potentialSurface potentialUnderlying potentialsOf nOf cafecOf zOf expectedOf monthOf limitOf constantFits constantsFitTo constantsAt zeroKWithin calendarFits nextCalendar lengthFits zFits soilFits sizesFit signsFit vFits isRun within nearestTo converted inInches whole reading month lengthsFit runRefusal roomRefusal waterRefusal zRefusal rowRefusal taken takenWater addOutcomes addWater addInches addZ rowOfRun
+unfolding nearest nearestℕ nextOf turn uOf vOf eOf qOf endingOf percentOf raised lowered largerInSize provisional steadyMonth abatingValues abatingMonth founded unfounded tried noSpell endingMonth inForce stepOf surfaceHolds underlyingHolds underLoss lossSurface lossUnderlying dryMonth toSurface toUnderlying wetMonth balanceOf potentialSurface potentialUnderlying potentialsOf nOf cafecOf zOf expectedOf monthOf limitOf constantFits constantsFitTo constantsAt zeroKWithin calendarFits nextCalendar lengthFits zFits soilFits sizesFit signsFit vFits isRun isRunFor endsMeet amounts within nearestTo converted inInches whole reading month lengthsFit runRefusal roomRefusal waterRefusal zRefusal rowRefusal taken takenWater addOutcomes addWater addInches addZ rowOfRun
 worked =
     record {
       z =
@@ -304,7 +323,7 @@ pub ten-before-nine : (f : Adds MonthInches) → Keeps inches f → RoomFirst f 
 ten-before-nine = room-last inches (both nan nan) 9 (worked .full-binary) (λ e. omega arith)
 
 -- and a row of no run is 7
-pub eleven-before-seven : (f : Run → ℕ → Columns → Shown) → ((r : Run) (i : ℕ) (cs : Columns) → f r i cs ≡ rowOfRun r i cs) → PlaceFirst f → ⊥
+pub eleven-before-seven : (f : Run → ℕ → Book → Shown) → ((r : Run) (i : ℕ) (cs : Book) → f r i cs ≡ rowOfRun r i cs) → PlaceFirst f → ⊥
 eleven-before-seven f keeps h =
     let a = rw (keeps weightless 0 (blank 1)) at (h weightless 0 (blank 1) (worked .one-fits) (omega arith)) in
     let n = sym (worked .no-run) ∙ a in

@@ -13,11 +13,10 @@ use lib.ListN.{length}
 use Rattle.outline.specs.Refusals.{badLists, notARun, missing, notAcceptable, full, orElse}
 use Rattle.outline.proofs.Tests.{if-so, cond-zero}
 use Rattle.outline.proofs.Refusals.{or-zero, or-first, or-second, is-done, is-refused}
-use Rattle.runs.specs.Runs.{isRun}
 use Rattle.runs.specs.declared.Run.{Run}
-use Rattle.refusals.specs.Columns.{Columns, long, columnsFit}
+use Rattle.refusals.specs.Book.{Book, columnsFit}
 use Rattle.refusals.specs.Good.{Good}
-use Rattle.refusals.specs.Refusals.{runRefusal}
+use Rattle.refusals.specs.Refusals.{isRunOf, runRefusal}
 use Rattle.refusals.proofs.Refused.{good-passes, run-passes}
 use Rattle.season.specs.Season.{SeasonResult, seasonResult, nothing, joined, stopped, single, addEach, seasonRefusal, addSeason}
 use Rattle.season_month.specs.Listed.{listed}
@@ -74,7 +73,7 @@ first-stops n s (a ∷ later) (inl w) =
 first-stops n s (a ∷ later) (inr w) = or-second _ (first-of (after s a) later) (add-given (s .run) a (s .columns) 0 (w .0)) ∙ first-stops n (after s a) later (w .1)
 
 -- it is 8, 9 or 10
-add-which : (r : Run) (cs : Columns) (p pe : ℤ) (n : ℕ) → Good r cs → AddGives r (water (listed p) (listed pe)) cs n → (n ≡ 0 → ⊥) → (n ≡ missing) ⊎ ((n ≡ notAcceptable) ⊎ (n ≡ full))
+add-which : (r : Run) (cs : Book) (p pe : ℤ) (n : ℕ) → Good r cs → AddGives r (water (listed p) (listed pe)) cs n → (n ≡ 0 → ⊥) → (n ≡ missing) ⊎ ((n ≡ notAcceptable) ⊎ (n ≡ full))
 add-which r cs p pe n g (add-0 h o l) k = absurd (k refl)
 add-which r cs p pe n g (add-1 f) k = absurd (not-both-ways (g .fit) f)
 add-which r cs p pe n g (add-7 f h) k = absurd (not-both-ways (g .run) h)
@@ -89,7 +88,7 @@ stops-which (p ∷ ps) [] n s g w = absurd w
 stops-which (p ∷ ps) (pe ∷ pes) n s g (inl w) = add-which (s .run) (s .columns) p pe n g (w .1) (w .0)
 stops-which (p ∷ ps) (pe ∷ pes) n s g (inr w) = stops-which ps pes n (after s (water (listed p) (listed pe))) (good-after s (water (listed p) (listed pe)) g) (w .1)
 
-module _ (r : Run) (ps pes : List ℤ) (cs : Columns) where
+module _ (r : Run) (ps pes : List ℤ) (cs : Book) where
   abbrev months : List Ask
   months = monthsOf ps pes
 
@@ -112,7 +111,7 @@ module _ (r : Run) (ps pes : List ℤ) (cs : Columns) where
       go true = refl
       go false = refl
 
-  run-none : length ps ≡ length pes → columnsFit cs ≡ true → isRun (long cs) r ≡ false → told ≡ notARun
+  run-none : length ps ≡ length pes → columnsFit cs ≡ true → isRunOf cs r ≡ false → told ≡ notARun
   unfolding seasonRefusal
   run-none e f h = told-refused notARun (rw (eq-eqb (length ps) (length pes) e) (run-7 r cs f h)) (λ e. omega arith)
 

@@ -20,8 +20,9 @@ use Rattle.runs.specs.Runs.{soilFits, sizesFit, signsFit, vFits, isRun}
 use Rattle.outline.specs.Numbers.{lengthFits, zFits}
 use Rattle.starts.specs.Start.{freshRun, ones}
 use Rattle.runs.specs.declared.Run.{Run}
-use Rattle.refusals.specs.Columns.{Columns, lengthsFit}
-use Rattle.refusals.specs.Refusals.{runRefusal, roomRefusal, waterRefusal}
+use Rattle.records.specs.Ends.{amounts, endsMeet}
+use Rattle.refusals.specs.Book.{Book, lengthsFit}
+use Rattle.refusals.specs.Refusals.{isRunFor, runRefusal, roomRefusal, waterRefusal}
 use Rattle.adding.specs.Figures.{noFigures}
 use Rattle.drought.specs.Calls.{addOutcomes, addWater}
 use Rattle.adding.specs.Taken.{taken, takenWater}
@@ -71,7 +72,7 @@ record WorkedSeason : Type 0 where
   last-settled : last .answer .settled ≡ 1
 
 worked : WorkedSeason
-unfolding nearest nearestℕ nextOf turn uOf vOf eOf qOf endingOf percentOf raised lowered largerInSize provisional steadyMonth abatingValues abatingMonth founded unfounded tried noSpell endingMonth inForce stepOf surfaceHolds underlyingHolds underLoss balanceOf wetMonth toSurface toUnderlying potentialSurface potentialUnderlying potentialsOf nOf expectedOf zOf monthOf limitOf constantFits constantsFitTo constantsAt zeroKWithin calendarFits nextCalendar lengthFits zFits soilFits sizesFit signsFit vFits isRun reading whole lengthsFit runRefusal roomRefusal waterRefusal taken takenWater addOutcomes addWater listed addEach seasonRefusal addSeason
+unfolding nearest nearestℕ nextOf turn uOf vOf eOf qOf endingOf percentOf raised lowered largerInSize provisional steadyMonth abatingValues abatingMonth founded unfounded tried noSpell endingMonth inForce stepOf surfaceHolds underlyingHolds underLoss balanceOf wetMonth toSurface toUnderlying potentialSurface potentialUnderlying potentialsOf nOf expectedOf zOf monthOf limitOf constantFits constantsFitTo constantsAt zeroKWithin calendarFits nextCalendar lengthFits zFits soilFits sizesFit signsFit vFits isRun isRunFor endsMeet amounts reading whole lengthsFit runRefusal roomRefusal waterRefusal taken takenWater addOutcomes addWater listed addEach seasonRefusal addSeason
 worked =
     record {
       broken-number = refl;
@@ -88,7 +89,7 @@ worked =
       last-settled = refl;
     }
 
-module _ (f : Run → List ℤ → List ℤ → Columns → SeasonResult) (keeps : (r : Run) (ps pes : List ℤ) (cs : Columns) → f r ps pes cs ≡ addSeason r ps pes cs) where
+module _ (f : Run → List ℤ → List ℤ → Book → SeasonResult) (keeps : (r : Run) (ps pes : List ℤ) (cs : Book) → f r ps pes cs ≡ addSeason r ps pes cs) where
   is-broken : f begun rain none (blank 3) ≡ broken
   is-broken = keeps begun rain none (blank 3)
 
@@ -102,35 +103,35 @@ module _ (f : Run → List ℤ → List ℤ → Columns → SeasonResult) (keeps
   is-last = keeps (one .answer .run) (pos 2 ∷ []) (pos 0 ∷ []) (one .columns)
 
   -- stops one month late: the missing month, here always the last, is counted as added
-  pub stops-late : ((r : Run) (ps pes : List ℤ) (cs : Columns) → f r ps pes cs .answer .number ≡ 8 → f r ps pes cs .answer .added ≡ length ps) → ⊥
+  pub stops-late : ((r : Run) (ps pes : List ℤ) (cs : Book) → f r ps pes cs .answer .number ≡ 8 → f r ps pes cs .answer .added ≡ length ps) → ⊥
   stops-late h =
       let a = rw is-broken at (h begun rain none (blank 3)) in
       let e = sym (worked .broken-added) ∙ a (worked .broken-number) in
       omega arith
 
   -- drops the earlier months on a refusal
-  pub drops-earlier : ((r : Run) (ps pes : List ℤ) (cs : Columns) → f r ps pes cs .answer .number ≡ 8 → f r ps pes cs .answer .run ≡ r) → ⊥
+  pub drops-earlier : ((r : Run) (ps pes : List ℤ) (cs : Book) → f r ps pes cs .answer .number ≡ 8 → f r ps pes cs .answer .run ≡ r) → ⊥
   drops-earlier h =
       let a = rw is-broken at (h begun rain none (blank 3)) in
       let e = sym (worked .broken-months) ∙ ap (λ (r : Run). r .months) (a (worked .broken-number)) in
       omega arith
 
   -- .. or their figures
-  pub drops-figures : ((r : Run) (ps pes : List ℤ) (cs : Columns) → f r ps pes cs .answer .number ≡ 8 → f r ps pes cs .answer .figures ≡ noFigures) → ⊥
+  pub drops-figures : ((r : Run) (ps pes : List ℤ) (cs : Book) → f r ps pes cs .answer .number ≡ 8 → f r ps pes cs .answer .figures ≡ noFigures) → ⊥
   drops-figures h =
       let a = rw is-broken at (h begun rain none (blank 3)) in
       let e = sym (worked .broken-p) ∙ ap (λ (g : Figures). g .water .p) (a (worked .broken-number)) in
       omega arith
 
   -- answers the first month's figures
-  pub first-figures : ((r : Run) (p q pe qe : ℤ) (cs : Columns) → f r (p ∷ q ∷ []) (pe ∷ qe ∷ []) cs .answer .number ≡ 0 → f r (p ∷ q ∷ []) (pe ∷ qe ∷ []) cs .answer .figures ≡ f r (p ∷ []) (pe ∷ []) cs .answer .figures) → ⊥
+  pub first-figures : ((r : Run) (p q pe qe : ℤ) (cs : Book) → f r (p ∷ q ∷ []) (pe ∷ qe ∷ []) cs .answer .number ≡ 0 → f r (p ∷ q ∷ []) (pe ∷ qe ∷ []) cs .answer .figures ≡ f r (p ∷ []) (pe ∷ []) cs .answer .figures) → ⊥
   first-figures h =
       let a = rw (is-two, is-one) at (h begun (pos 1) (pos 2) (pos 0) (pos 0) (blank 3)) in
       let e = sym (worked .two-p) ∙ ap (λ (g : Figures). g .water .p) (a (worked .two-number)) ∙ worked .one-p in
       omega arith
 
   -- the settled counts of the last month only
-  pub last-settled-only : ((r : Run) (p q pe qe : ℤ) (cs : Columns) → f r (p ∷ q ∷ []) (pe ∷ qe ∷ []) cs .answer .number ≡ 0 → let t = f r (p ∷ []) (pe ∷ []) cs in f r (p ∷ q ∷ []) (pe ∷ qe ∷ []) cs .answer .settled ≡ f (t .answer .run) (q ∷ []) (qe ∷ []) (t .columns) .answer .settled) → ⊥
+  pub last-settled-only : ((r : Run) (p q pe qe : ℤ) (cs : Book) → f r (p ∷ q ∷ []) (pe ∷ qe ∷ []) cs .answer .number ≡ 0 → let t = f r (p ∷ []) (pe ∷ []) cs in f r (p ∷ q ∷ []) (pe ∷ qe ∷ []) cs .answer .settled ≡ f (t .answer .run) (q ∷ []) (qe ∷ []) (t .columns) .answer .settled) → ⊥
   last-settled-only h =
       let a = rw (is-two, is-one, is-last) at (h begun (pos 1) (pos 2) (pos 0) (pos 0) (blank 3)) in
       let e = sym (worked .two-settled) ∙ a (worked .two-number) ∙ worked .last-settled in

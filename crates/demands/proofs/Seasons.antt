@@ -15,7 +15,7 @@ use Rattle.hindsight.specs.Adding.{addMonth}
 use Rattle.hindsight.specs.Months.{rowFor}
 use Rattle.calendar.specs.Calendar.{ZeroK}
 use Rattle.runs.specs.declared.Run.{Run}
-use Rattle.refusals.specs.Columns.{Columns, columnsFit}
+use Rattle.refusals.specs.Book.{Book, columnsFit}
 use Rattle.adding.specs.Taken.{Result, heldBy, taken}
 use Rattle.refusals.proofs.Refused.{columns-are}
 use Rattle.run_laws.proofs.Keeps.{wrote-index, wrote-mark}
@@ -24,9 +24,11 @@ use Rattle.season_month.specs.Listed.{listed}
 use Rattle.outline.specs.Refusals.{badLists, orElse, unlessRefused}
 use Rattle.outline.proofs.Refusals.{is-done, is-refused}
 use Rattle.demands.specs.Months.{Ask, water, asked, State, standing, after, afterAll, Accepted, monthsOf, leftOf, stationOf, zFor}
+use Rattle.demands.specs.Demands.{numberOf}
 use Rattle.demands.specs.Seasons.{settledBy, lastOf, Singly, SameFrom, Seasons}
-use Rattle.demands.proofs.Took.{Took, took, months-next, x1-next, x2-next, x3-next}
-use Rattle.demands.proofs.Sequence.{after-append, accepted-append}
+use Rattle.demands.proofs.Took.{Took, took, months-next, x1-next, x2-next, x3-next, records-next, v-next}
+use Rattle.demands.proofs.Sequence.{months-all, after-append, accepted-append}
+use Rattle.demands.proofs.Shown.{refused-add}
 use Rattle.demands.proofs.Given.{zero-or}
 use Rattle.demands.proofs.ZeroK.{unless-lists, not-done, run-refused}
 
@@ -134,7 +136,7 @@ made (p ∷ ps) (pe ∷ pes) t z =
     (zero-or k)
 
 -- ---- from the first month on
-module _ (r : Run) (ps pes : List ℤ) (cs : Columns) where
+module _ (r : Run) (ps pes : List ℤ) (cs : Book) where
   abbrev first : SeasonResult
   first = seasonResult (nothing 0 r) cs
 
@@ -180,7 +182,7 @@ lists-first : (s t : Bool) → orElse (cond s 0 badLists) (unless-lists t) ≡ u
 lists-first true t = refl
 lists-first false t = refl
 
-module _ (r : Run) (ps pes : List ℤ) (cs : Columns) (z : ZeroK (r .constants)) where
+module _ (r : Run) (ps pes : List ℤ) (cs : Book) (z : ZeroK (r .constants)) where
   no-run : seasonRefusal r ps pes cs ≡ unless-lists (eqb (length ps) (length pes) && columnsFit cs)
   unfolding seasonRefusal
   no-run = rw (run-refused r cs z) (lists-first (eqb (length ps) (length pes)) (columnsFit cs))
@@ -188,7 +190,7 @@ module _ (r : Run) (ps pes : List ℤ) (cs : Columns) (z : ZeroK (r .constants))
   zero-k : addSeason r ps pes cs .answer .number ≡ unless-lists (eqb (length ps) (length pes) && columnsFit cs)
   zero-k = rw (refused r ps pes cs (λ e. not-done (eqb (length ps) (length pes) && columnsFit cs) (sym no-run ∙ e))) no-run
 
-empty : (r : Run) (cs : Columns) → addSeason r [] [] cs ≡ seasonResult (nothing (seasonRefusal r [] [] cs) r) cs
+empty : (r : Run) (cs : Book) → addSeason r [] [] cs ≡ seasonResult (nothing (seasonRefusal r [] [] cs) r) cs
 unfolding addSeason addEach
 empty r cs = go (seasonRefusal r [] [] cs)
   where
@@ -197,10 +199,11 @@ empty r cs = go (seasonRefusal r [] [] cs)
     go (suc k) = refl
 
 -- ---- places that no month has are never written
-same : (n : ℕ) (cs : Columns) → SameFrom n cs cs
-same n cs = record { x1 = λ i h. refl; x2 = λ i h. refl; x3 = λ i h. refl; index = λ i h. refl; mark = λ i h. refl }
+same : (n : ℕ) (cs : Book) → SameFrom n cs cs
+same n cs =
+    record { x1 = λ i h. refl; x2 = λ i h. refl; x3 = λ i h. refl; index = λ i h. refl; mark = λ i h. refl; records = λ i h. refl; v = λ i h. refl }
 
-then : (n m : ℕ) (bs cs ds : Columns) → n ≤ m → SameFrom n bs cs → SameFrom m cs ds → SameFrom m bs ds
+then : (n m : ℕ) (bs cs ds : Book) → n ≤ m → SameFrom n bs cs → SameFrom m cs ds → SameFrom m bs ds
 then n m bs cs ds l a b =
     record {
       x1 = λ i h. b .x1 i h ∙ a .x1 i (omega arith);
@@ -208,6 +211,8 @@ then n m bs cs ds l a b =
       x3 = λ i h. b .x3 i h ∙ a .x3 i (omega arith);
       index = λ i h. b .index i h ∙ a .index i (omega arith);
       mark = λ i h. b .mark i h ∙ a .mark i (omega arith);
+      records = λ i h. b .records i h ∙ a .records i (omega arith);
+      v = λ i h. b .v i h ∙ a .v i (omega arith);
     }
 
 -- beyond the first m + 1 places of a list that begins anew and goes on as before
@@ -221,8 +226,8 @@ beyond-list d new old m e l i h =
     ∙ getD-drop (suc m) old (i - suc m) d
     ∙ ap (λ (j : ℕ). getD old j d) back
 
-module _ (r : Run) (a : Ask) (cs : Columns) (t : Took r a cs) where
-  abbrev left-by : Columns
+module _ (r : Run) (a : Ask) (cs : Book) (t : Took r a cs) where
+  abbrev left-by : Book
   left-by = asked r a cs .columns
 
   apart : (i : ℕ) → suc (r .months) ≤ i → i ≡ r .months → ⊥
@@ -239,27 +244,41 @@ module _ (r : Run) (a : Ask) (cs : Columns) (t : Took r a cs) where
         x1 = λ i h. ap (λ (c : List ℤ). getD c i (pos 0)) (x1-next r a cs t) ∙ getD-set-other (cs .x1) (r .months) i (row .x .x1) (pos 0) (apart i h);
         x2 = λ i h. ap (λ (c : List ℤ). getD c i (pos 0)) (x2-next r a cs t) ∙ getD-set-other (cs .x2) (r .months) i (row .x .x2) (pos 0) (apart i h);
         x3 = λ i h. ap (λ (c : List ℤ). getD c i (pos 0)) (x3-next r a cs t) ∙ getD-set-other (cs .x3) (r .months) i (row .x .x3) (pos 0) (apart i h);
-        index = λ i h. ap (λ (b : Result). getD (b .columns .index) i (pos 0)) (t .did) ∙ beyond-list (pos 0) (addMonth (heldBy r cs) row .index) (cs .index) (r .months) (wi ∙ sym (l .2)) (omega (arith, l .2, t .room)) i h;
-        mark = λ i h. ap (λ (b : Result). getD (b .columns .mark) i 0) (t .did) ∙ beyond-list 0 (addMonth (heldBy r cs) row .mark) (cs .mark) (r .months) (wm ∙ sym (l .3)) (omega (arith, l .3, t .room)) i h;
+        index = λ i h. ap (λ (b : Result). getD (b .columns .index) i (pos 0)) (t .did) ∙ beyond-list (pos 0) (addMonth (heldBy r cs) row .index) (cs .index) (r .months) (wi ∙ sym (l .index-is)) (omega (arith, l .index-is, t .room)) i h;
+        mark = λ i h. ap (λ (b : Result). getD (b .columns .mark) i 0) (t .did) ∙ beyond-list 0 (addMonth (heldBy r cs) row .mark) (cs .mark) (r .months) (wm ∙ sym (l .mark-is)) (omega (arith, l .mark-is, t .room)) i h;
+        records = λ i h. ap (λ (c : List (List ℤ)). getD c i []) (records-next r a cs t) ∙ getD-set-other (cs .records) (r .months) i _ [] (apart i h);
+        v = λ i h. ap (λ (c : List ℤ). getD c i (pos 0)) (v-next r a cs t) ∙ getD-set-other (cs .v) (r .months) i _ (pos 0) (apart i h);
       }
 
-all-beyond : (s : State) (asks : List Ask) → Accepted s asks → SameFrom (s .run .months + length asks) (s .columns) (afterAll s asks .columns)
-all-beyond s [] h = same (s .run .months + 0) (s .columns)
-all-beyond s (a ∷ later) h =
-    let t = took (s .run) (s .columns) a (h .0) in
+-- accepted or refused, an add leaves no fewer months, and no place after them written
+after-beyond : (s : State) (a : Ask) → (s .run .months ≤ after s a .run .months) × SameFrom (after s a .run .months) (s .columns) (after s a .columns)
+after-beyond s a =
+    let b = refused-add (s .run) a (s .columns) in
+    ⊎-elim
+    (λ z. let t = took (s .run) (s .columns) a (b .0 ∙ z) in
     let m = months-next (s .run) a (s .columns) t in
-    let e : after s a .run .months + length later ≡ s .run .months + suc (length later) = omega (arith, m) in
-    then (suc (s .run .months)) (s .run .months + suc (length later)) (s .columns) (after s a .columns) (afterAll (after s a) later .columns) (omega arith) (one-beyond (s .run) a (s .columns) t)
-    (subst (λ (n : ℕ). SameFrom n (after s a .columns) (afterAll (after s a) later .columns)) e (all-beyond (after s a) later (h .1)))
+    (omega (arith, m), rw m (one-beyond (s .run) a (s .columns) t)))
+    (λ n. let c = b .1 n in rw (c .0, c .1) (omega arith, same (s .run .months) (s .columns)))
+    (zero-or (numberOf (s .run) a (s .columns)))
 
-beyond : (r : Run) (ps pes : List ℤ) (cs : Columns) → SameFrom (r .months + addSeason r ps pes cs .answer .added) cs (addSeason r ps pes cs .columns)
+no-fewer : (s : State) (asks : List Ask) → s .run .months ≤ afterAll s asks .run .months
+no-fewer s [] = omega arith
+no-fewer s (a ∷ later) = omega (arith, after-beyond s a .0, no-fewer (after s a) later)
+
+pub all-beyond : (s : State) (asks : List Ask) → SameFrom (afterAll s asks .run .months) (s .columns) (afterAll s asks .columns)
+all-beyond s [] = same (s .run .months) (s .columns)
+all-beyond s (a ∷ later) =
+    then (after s a .run .months) (afterAll (after s a) later .run .months) (s .columns) (after s a .columns) (afterAll (after s a) later .columns) (no-fewer (after s a) later) (after-beyond s a .1)
+    (all-beyond (after s a) later)
+
+beyond : (r : Run) (ps pes : List ℤ) (cs : Book) → SameFrom (r .months + addSeason r ps pes cs .answer .added) cs (addSeason r ps pes cs .columns)
 beyond r ps pes cs =
     ⊎-elim
     (λ z. let g = singly r ps pes cs z in
     let n = addSeason r ps pes cs .answer .added in
-    let b = all-beyond (standing r cs) (take n (monthsOf ps pes)) (g .accepted) in
-    let e : SameFrom (r .months + n) cs (afterAll (standing r cs) (take n (monthsOf ps pes)) .columns) = rw (length-take-le n (monthsOf ps pes) (g .added)) at b in
-    rw (ap (λ (s : State). s .columns) (g .state)) e)
+    let asks = take n (monthsOf ps pes) in
+    let e : afterAll (standing r cs) asks .run .months ≡ r .months + n = months-all (standing r cs) asks (g .accepted) ∙ ap (λ (k : ℕ). r .months + k) (length-take-le n (monthsOf ps pes) (g .added)) in
+    rw (ap (λ (s : State). s .columns) (g .state)) (subst (λ (k : ℕ). SameFrom k cs (afterAll (standing r cs) asks .columns)) e (all-beyond (standing r cs) asks)))
     (λ h. rw (refused r ps pes cs h) (same (r .months + 0) cs))
     (zero-or (seasonRefusal r ps pes cs))
 

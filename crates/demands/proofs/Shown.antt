@@ -27,7 +27,7 @@ use Rattle.hindsight_laws.proofs.Adds.{past-all}
 use Rattle.calendar.specs.Calendar.{constantsAt}
 use Rattle.starts.specs.Start.{startRefusal, startOf, freshRun, zeroRun, started}
 use Rattle.runs.specs.declared.Run.{Run}
-use Rattle.refusals.specs.Columns.{Columns}
+use Rattle.refusals.specs.Book.{Book}
 use Rattle.refusals.specs.Refusals.{waterRefusal, zRefusal}
 use Rattle.adding.specs.Figures.{figuresOf, waterFigures}
 use Rattle.drought.specs.Calls.{addOutcomes, addWater, addInches, addZ}
@@ -43,12 +43,12 @@ use Rattle.demands.proofs.Sequence.{held-all, months-all, values-stay, 
 -- ---- 1. "Every reading, constant, month and list gets its answer or a numbered refusal. Nobody has to check beforehand. A refused call
 -- hands back any run it was given and writes nothing."
 
-unless-answers : (k : ℕ) (r : Run) (cs : Columns) (done : Result) → done .answer .number ≡ 0 → Answers r cs k (answered k r cs done)
+unless-answers : (k : ℕ) (r : Run) (cs : Book) (done : Result) → done .answer .number ≡ 0 → Answers r cs k (answered k r cs done)
 unless-answers zero r cs done h = (h, λ f. absurd (f refl))
 unless-answers (suc k) r cs done h = (refl, λ f. (refl, refl, refl, refl))
 
 -- an add answers with its number, and where that is a refusal it hands the run back and leaves every lent list as it was
-pub refused-add : (r : Run) (a : Ask) (cs : Columns) → Answers r cs (numberOf r a cs) (asked r a cs)
+pub refused-add : (r : Run) (a : Ask) (cs : Book) → Answers r cs (numberOf r a cs) (asked r a cs)
 unfolding addWater addInches addOutcomes addZ takenWater taken
 refused-add r (water p pe) cs = unless-answers (waterRefusal r (reading p .number) (reading pe .number) cs) r cs (takenWater r (reading p .water) (reading pe .water) cs) refl
 refused-add r (inches q) cs = unless-answers (waterRefusal r (month q .p .number) (month q .pe .number) cs) r cs (takenWater r (month q .p .water) (month q .pe .water) cs) refl
@@ -74,28 +74,28 @@ refused-start cs c ss su m = go (startRefusal cs c ss su m)
 -- storage, and neither layer ever passes its capacity."
 
 -- the figures of an accepted month are those that the rules give
-pub figures-are : (r : Run) (a : Ask) (cs : Columns) → asked r a cs .answer .number ≡ 0
+pub figures-are : (r : Run) (a : Ask) (cs : Book) → asked r a cs .answer .number ≡ 0
     → asked r a cs .answer .figures ≡ figuresOf (waterFor (stationOf r) a) (zFor (stationOf r) a) (stepOf (r .values) (zFor (stationOf r) a))
 unfolding taken
 figures-are r a cs h = ap (λ (b : Result). b .answer .figures) (took r cs a h .did)
 
 -- neither layer passes its capacity
-pub layers-hold : (r : Run) (a : Ask) (cs : Columns) → asked r a cs .answer .number ≡ 0 → SoilFits (asked r a cs .answer .run .soil)
+pub layers-hold : (r : Run) (a : Ask) (cs : Book) → asked r a cs .answer .number ≡ 0 → SoilFits (asked r a cs .answer .run .soil)
 unfolding taken
 layers-hold r a cs h = let t = took r cs a h in subst (λ (b : Result). SoilFits (b .answer .run .soil)) (sym (t .did)) (t .soil)
 
 -- whatever the amounts were read from
-balanced : (r : Run) (a : Ask) (cs : Columns) (p pe : ℕ) → (t : Took r a cs)
+balanced : (r : Run) (a : Ask) (cs : Book) (p pe : ℕ) → (t : Took r a cs)
     → waterFor (stationOf r) a ≡ waterFigures p pe (watered (stationOf r) p pe) → soilFor (stationOf r) a ≡ soilAfter (r .soil) (watered (stationOf r) p pe) → Balances r (asked r a cs)
 unfolding taken
 balanced r a cs p pe t w s =
     let f = run-is r cs (t .good) .soil in
     subst (Balances r) (sym (t .did)) (rw (w, s) (month-water-kept (r .soil) p pe (constantsAt (r .constants) (r .calendar)) f))
 
-pub water-balances : (r : Run) (p pe : Reading) (cs : Columns) → asked r (water p pe) cs .answer .number ≡ 0 → Balances r (asked r (water p pe) cs)
+pub water-balances : (r : Run) (p pe : Reading) (cs : Book) → asked r (water p pe) cs .answer .number ≡ 0 → Balances r (asked r (water p pe) cs)
 water-balances r p pe cs h = balanced r (water p pe) cs (reading p .water) (reading pe .water) (took r cs (water p pe) h) refl refl
 
-pub inches-balance : (r : Run) (q : MonthInches) (cs : Columns) → asked r (inches q) cs .answer .number ≡ 0 → Balances r (asked r (inches q) cs)
+pub inches-balance : (r : Run) (q : MonthInches) (cs : Book) → asked r (inches q) cs .answer .number ≡ 0 → Balances r (asked r (inches q) cs)
 inches-balance r q cs h = balanced r (inches q) cs (month q .p .water) (month q .pe .water) (took r cs (inches q) h) refl refl
 
 -- ---- 3. "Take any accepted months added one by one to a fresh run whose columns nobody else writes."

@@ -18,7 +18,7 @@ use Rattle.outline.specs.Numbers.{zFits}
 use Rattle.runs.specs.declared.Run.{Run}
 use Rattle.outline.proofs.Tests.{first, second}
 use Rattle.series.specs.Series.{allZFit, seriesRefusal, filled, wholeSeries}
-use Rattle.refusals.specs.Columns.{Columns, long, columnsFit}
+use Rattle.refusals.specs.Book.{Book, long, columnsFit}
 use Rattle.refusals.specs.Good.{Good}
 use Rattle.refusals.specs.Refusals.{runRefusal, roomRefusal, zRefusal}
 use Rattle.adding.specs.Taken.{heldBy}
@@ -35,7 +35,7 @@ rows-same s [] = refl
 rows-same s (z ∷ zs) = ap (λ (l : List Row). rowOfZ (s .values) z ∷ l) (rows-same (stationNext s (anomaly z)) zs)
 
 -- a Z in its range is accepted by a good run with room
-pub accepts-z : (r : Run) (cs : Columns) (z : ℤ) → Good r cs → r .months < long cs → zFits z ≡ true → asked r (anomaly z) cs .answer .number ≡ 0
+pub accepts-z : (r : Run) (cs : Book) (z : ℤ) → Good r cs → r .months < long cs → zFits z ≡ true → asked r (anomaly z) cs .answer .number ≡ 0
 unfolding zRefusal runRefusal roomRefusal
 accepts-z r cs z g room f = refused-add r (anomaly z) cs .0 ∙ rw (g .fit, g .run, f, lt-ltb _ _ room)
 

@@ -14,7 +14,7 @@ use Rattle.starts.specs.declared.Started.{Started}
 use Rattle.starts.proofs.StartLaws.{begun as fresh-begun}
 use Rattle.starts.proofs.Theorems.{fresh-fits}
 use Rattle.runs.specs.declared.Run.{Run}
-use Rattle.refusals.specs.Columns.{Columns}
+use Rattle.refusals.specs.Book.{Book}
 use Rattle.season.specs.Season.{addSeason}
 use Rattle.demands.specs.Months.{Ask, asked, State, standing, after, afterAll, monthsOf}
 use Rattle.demands.specs.Demands.{numberOf, Fresh, first, now, Existing, by-start, by-add, by-season}
@@ -69,5 +69,5 @@ layers-exist r (by-season q ps pes cs e) =
     subst (λ (s : State). Layers (s .run .soil)) (sym (here-more q ps pes cs .1)) (kept-all Layers layers-of (standing q cs) (take n (monthsOf ps pes)) (layers-exist q e))
 
 -- the Z of a month that was taken
-pub z-given : (r : Run) (a : Ask) (cs : Columns) → asked r a cs .answer .number ≡ 0 → natAbs (asked r a cs .answer .figures .z) ≤ mostZ
+pub z-given : (r : Run) (a : Ask) (cs : Book) → asked r a cs .answer .number ≡ 0 → natAbs (asked r a cs .answer .figures .z) ≤ mostZ
 z-given r a cs h = rw (figures-are r a cs h) (took r cs a h .z)

@@ -13,12 +13,12 @@ use Rattle.door.specs.declared.Reading.{Reading}
 use Rattle.door.specs.declared.Reading.the-variants.{Inches, Missing}
 use Rattle.ranges.specs.Ranges.{constantsFit}
 use Rattle.calendar.specs.Calendar.{ZeroK}
-use Rattle.runs.specs.Runs.{isRun}
 use Rattle.runs.specs.declared.Run.{Run}
 use Rattle.starts.specs.Start.{capacityFits, storagesFit, monthFits}
 use Rattle.starts.specs.Given.{ConstantsTaken, StartFits, StartGives, gives-0, gives-2, gives-3, gives-4, gives-5, gives-6, gives-21}
 use Rattle.series.specs.Series.{allZFit, listsFit}
-use Rattle.refusals.specs.Columns.{Columns, long, columnsFit}
+use Rattle.refusals.specs.Book.{Book, long, columnsFit}
+use Rattle.refusals.specs.Refusals.{isRunOf}
 use Rattle.refusals.specs.Good.{Good}
 use Rattle.demands.specs.Months.{Ask, water, inches, anomaly, standing, Accepted, monthsOf}
 use Rattle.demands.specs.Given.{Acceptable, ReadingGives, reading-0, reading-8, reading-9, MonthGives, by-precipitation, by-pe, ZGives, z-0, z-12, ItselfGives, AddGives, add-0, add-1, add-7, add-8, add-9, add-10, add-12, RowGives, row-0, row-1, row-7, row-11, SeriesGives, series-0, series-1, series-12, Begins, StopsWith, SeasonGives, season-0, season-1-lists, season-1, season-7, season-8, season-9, season-10}
@@ -94,14 +94,14 @@ from-z-12 : (z : ℤ) → ZGives z 12 → mostZ < natAbs z
 from-z-12 z (z-12 h) = h
 
 -- ---- an add
-module _ (r : Run) (a : Ask) (cs : Columns) where
+module _ (r : Run) (a : Ask) (cs : Book) where
   from-add-0 : AddGives r a cs 0 → Good r cs × ItselfGives a 0 × (r .months < long cs)
   from-add-0 (add-0 g o l) = (g, o, l)
 
   from-add-1 : AddGives r a cs 1 → columnsFit cs ≡ false
   from-add-1 (add-1 f) = f
 
-  from-add-7 : AddGives r a cs 7 → (columnsFit cs ≡ true) × (isRun (long cs) r ≡ false)
+  from-add-7 : AddGives r a cs 7 → (columnsFit cs ≡ true) × (isRunOf cs r ≡ false)
   from-add-7 (add-7 f h) = (f, h)
 
   from-add-8 : AddGives r a cs 8 → Good r cs × ItselfGives a 8
@@ -117,7 +117,7 @@ module _ (r : Run) (a : Ask) (cs : Columns) where
   from-add-12 (add-12 g o) = (g, o)
 
 -- of water, whichever call it came by: what it is refused with by itself is what its two readings are
-waters : (r : Run) (a : Ask) (p pe : Reading) (cs : Columns) (k : ℕ) → ((n : ℕ) → (k ≡ n) ↔ AddGives r a cs n) → ((n : ℕ) → ItselfGives a n ↔ MonthGives p pe n) → WaterTable r p pe cs k
+waters : (r : Run) (a : Ask) (p pe : Reading) (cs : Book) (k : ℕ) → ((n : ℕ) → (k ≡ n) ↔ AddGives r a cs n) → ((n : ℕ) → ItselfGives a n ↔ MonthGives p pe n) → WaterTable r p pe cs k
 waters r a p pe cs k e same =
     record {
       gives-0 =
@@ -133,14 +133,14 @@ waters r a p pe cs k e same =
     }
 
 -- ---- a row, the whole series and a season
-module _ (r : Run) (i : ℕ) (cs : Columns) where
+module _ (r : Run) (i : ℕ) (cs : Book) where
   from-row-0 : RowGives r i cs 0 → Good r cs × (i < r .months)
   from-row-0 (row-0 g l) = (g, l)
 
   from-row-1 : RowGives r i cs 1 → columnsFit cs ≡ false
   from-row-1 (row-1 f) = f
 
-  from-row-7 : RowGives r i cs 7 → (columnsFit cs ≡ true) × (isRun (long cs) r ≡ false)
+  from-row-7 : RowGives r i cs 7 → (columnsFit cs ≡ true) × (isRunOf cs r ≡ false)
   from-row-7 (row-7 f h) = (f, h)
 
   from-row-11 : RowGives r i cs 11 → Good r cs × (r .months ≤ i)
@@ -156,7 +156,7 @@ module _ (z index : List ℤ) (mark : List ℕ) where
   from-series-12 : SeriesGives z index mark 12 → (listsFit (length z) (length index) (length mark) ≡ true) × (allZFit z ≡ false)
   from-series-12 (series-12 f h) = (f, h)
 
-module _ (r : Run) (ps pes : List ℤ) (cs : Columns) where
+module _ (r : Run) (ps pes : List ℤ) (cs : Book) where
   from-season-0 : SeasonGives r ps pes cs 0 → Begins r ps pes cs × Accepted (standing r cs) (monthsOf ps pes)
   from-season-0 (season-0 b h) = (b, h)
 
@@ -164,7 +164,7 @@ module _ (r : Run) (ps pes : List ℤ) (cs : Columns) where
   from-season-1 (season-1-lists h) = inl h
   from-season-1 (season-1 f) = inr f
 
-  from-season-7 : SeasonGives r ps pes cs 7 → (length ps ≡ length pes) × (columnsFit cs ≡ true) × (isRun (long cs) r ≡ false)
+  from-season-7 : SeasonGives r ps pes cs 7 → (length ps ≡ length pes) × (columnsFit cs ≡ true) × (isRunOf cs r ≡ false)
   from-season-7 (season-7 e f h) = (e, f, h)
 
   from-season-8 : SeasonGives r ps pes cs 8 → Begins r ps pes cs × StopsWith 8 (standing r cs) (monthsOf ps pes)

@@ -30,8 +30,9 @@ use Rattle.starts.specs.Start.{ones, capacityFits, storagesFit, monthFits, star
 use Rattle.starts.proofs.Theorems.{z-starts}
 use Rattle.runs.specs.Runs.{soilFits, sizesFit, signsFit, vFits, isRun}
 use Rattle.runs.specs.declared.Run.{Run}
-use Rattle.refusals.specs.Columns.{Columns, lengthsFit}
-use Rattle.refusals.specs.Refusals.{runRefusal, roomRefusal, zRefusal}
+use Rattle.records.specs.Ends.{amounts, endsMeet}
+use Rattle.refusals.specs.Book.{Book, lengthsFit}
+use Rattle.refusals.specs.Refusals.{isRunFor, runRefusal, roomRefusal, zRefusal}
 use Rattle.adding.specs.Taken.{taken}
 use Rattle.drought.specs.Calls.{addZ}
 use Rattle.demands.specs.Mirror.{turned, mirrorRun, Given, shownAt}
@@ -96,7 +97,7 @@ record Worked : Type 0 where
   lapsed-x2 : x2Of lapsed (minus 3001) ≡ minus 1000
 
 worked : Worked
-unfolding nearest nearestℕ nextOf turn uOf vOf eOf qOf endingOf percentOf raised lowered largerInSize provisional steadyMonth abatingValues abatingMonth founded unfounded tried noSpell endingMonth inForce stepOf surfaceHolds underlyingHolds limitOf constantFits constantsFitTo constantsAt zeroKWithin calendarFits nextCalendar lengthFits zFits capacityFits storagesFit monthFits startRefusal soilFits sizesFit signsFit vFits isRun lengthsFit runRefusal roomRefusal zRefusal taken addZ
+unfolding nearest nearestℕ nextOf turn uOf vOf eOf qOf endingOf percentOf raised lowered largerInSize provisional steadyMonth abatingValues abatingMonth founded unfounded tried noSpell endingMonth inForce stepOf surfaceHolds underlyingHolds limitOf constantFits constantsFitTo constantsAt zeroKWithin calendarFits nextCalendar lengthFits zFits capacityFits storagesFit monthFits startRefusal soilFits sizesFit signsFit vFits isRun isRunFor endsMeet amounts lengthsFit runRefusal roomRefusal zRefusal taken addZ
 worked =
     record {
       both-taken = refl;
@@ -123,7 +124,7 @@ some n = simp zs (omega arith)
 -- ---- "from any run": the mirror of any run that the calls take goes on as its mirror
 abbrev pub AnyRun : Type 0
 AnyRun =
-    (r : Run) (z : ℤ) (cs : Columns) → addZ r z cs .answer .number ≡ 0
+    (r : Run) (z : ℤ) (cs : Book) → addZ r z cs .answer .number ≡ 0
     → addZ (mirrorRun r) (negℤ z) cs .answer .run ≡ mirrorRun (addZ r z cs .answer .run)
 
 pub any-run-fails : AnyRun → ⊥
@@ -135,7 +136,7 @@ any-run-fails law =
 -- .. and in any run a drought that ends leaves X2 above -1,000
 abbrev pub AnyRunEnds : Type 0
 AnyRunEnds =
-    (r : Run) (z : ℤ) (cs : Columns) → addZ r z cs .answer .number ≡ 0 → r .values .x3 <ℤ negℤ (pos inForceBeyond) → addZ r z cs .answer .figures .percent ≡ 100
+    (r : Run) (z : ℤ) (cs : Book) → addZ r z cs .answer .number ≡ 0 → r .values .x3 <ℤ negℤ (pos inForceBeyond) → addZ r z cs .answer .figures .percent ≡ 100
     → negℤ (pos foundsFrom) <ℤ x2Of (r .values) z
 
 pub any-run-ends-fails : AnyRunEnds → ⊥

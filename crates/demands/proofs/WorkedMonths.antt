@@ -14,10 +14,11 @@ use Rattle.water.specs.Expected.{potentialSurface, potentialUnderlying, potenti
 use Rattle.ranges.specs.Ranges.{limitOf, constantFits, constantsFitTo, calendarFits}
 use Rattle.calendar.specs.Calendar.{constantsAt, zeroKWithin, nextCalendar}
 use Rattle.runs.specs.Runs.{soilFits, sizesFit, signsFit, vFits, isRun}
+use Rattle.records.specs.Ends.{amounts, endsMeet}
 use Rattle.starts.specs.Start.{capacityFits, storagesFit, monthFits, startRefusal, startOf}
 use Rattle.series.specs.Series.{listsFit, seriesRefusal, wholeSeries}
-use Rattle.refusals.specs.Columns.{lengthsFit}
-use Rattle.refusals.specs.Refusals.{runRefusal, roomRefusal, waterRefusal, zRefusal, rowRefusal}
+use Rattle.refusals.specs.Book.{lengthsFit}
+use Rattle.refusals.specs.Refusals.{isRunFor, runRefusal, roomRefusal, waterRefusal, zRefusal, rowRefusal}
 use Rattle.adding.specs.Taken.{taken, takenWater}
 use Rattle.drought.specs.Calls.{addOutcomes, addWater, addInches, addZ, rowOfRun}
 use Rattle.season_month.specs.Listed.{listed}
@@ -29,5 +30,5 @@ use Rattle.demands.specs.Answered.{march, marchInches, october, november
 use Rattle.demands.specs.Worked.{workedTable, months}
 
 pub worked : agree workedTable ≡ true
-unfolding lengthFits zFits within nearestTo whole converted inches millimetres reading month calendarFits nextCalendar soilFits sizesFit signsFit vFits isRun startOf listsFit seriesRefusal wholeSeries lengthsFit runRefusal roomRefusal waterRefusal zRefusal rowRefusal taken takenWater addOutcomes addWater addInches addZ rowOfRun listed addEach seasonRefusal addSeason march marchInches october november december january season refused series nearest nearestℕ limitOf constantFits constantsFitTo constantsAt zeroKWithin capacityFits storagesFit monthFits startRefusal surfaceHolds underlyingHolds underLoss lossSurface lossUnderlying dryMonth toSurface toUnderlying wetMonth balanceOf potentialSurface potentialUnderlying potentialsOf nOf cafecOf zOf expectedOf monthOf nextOf turn uOf vOf eOf qOf endingOf percentOf raised lowered largerInSize provisional steadyMonth abatingValues abatingMonth founded unfounded tried noSpell endingMonth inForce stepOf s1 s23 s4-first s4-second s4-third s56 months
+unfolding lengthFits zFits within nearestTo whole converted inches millimetres reading month calendarFits nextCalendar soilFits sizesFit signsFit vFits isRun isRunFor endsMeet amounts startOf listsFit seriesRefusal wholeSeries lengthsFit runRefusal roomRefusal waterRefusal zRefusal rowRefusal taken takenWater addOutcomes addWater addInches addZ rowOfRun listed addEach seasonRefusal addSeason march marchInches october november december january season refused series nearest nearestℕ limitOf constantFits constantsFitTo constantsAt zeroKWithin capacityFits storagesFit monthFits startRefusal surfaceHolds underlyingHolds underLoss lossSurface lossUnderlying dryMonth toSurface toUnderlying wetMonth balanceOf potentialSurface potentialUnderlying potentialsOf nOf cafecOf zOf expectedOf monthOf nextOf turn uOf vOf eOf qOf endingOf percentOf raised lowered largerInSize provisional steadyMonth abatingValues abatingMonth founded unfounded tried noSpell endingMonth inForce stepOf s1 s23 s4-first s4-second s4-third s56 months
 worked = refl

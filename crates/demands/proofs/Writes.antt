@@ -1,5 +1,5 @@
 -- What an accepted add writes, on any columns: its own place in all five, index and mark of the months that it settles, as many as it answers,
--- and nothing else. Assumes nothing.
+-- its own place among the records and in V, and nothing else. Assumes nothing.
 use mathlib.Core.Path.{_≡_, refl, sym, ap, _∙_, subst}
 use mathlib.Core.List.{List, [], _∷_, _++_, append-assoc}
 use Prim.Native.Nat.{ℕ, zero, suc, _+_, _-_, _≤_, _<_}
@@ -16,7 +16,7 @@ use Rattle.hindsight.specs.Columns.{xAt, xsFrom}
 use Rattle.hindsight.specs.Months.{markFor}
 use Rattle.history.proofs.Adding.{length-xs, drop-xs}
 use Rattle.runs.specs.declared.Run.{Run}
-use Rattle.refusals.specs.Columns.{Columns}
+use Rattle.refusals.specs.Book.{Book}
 use Rattle.refusals.proofs.Refused.{columns-are}
 use Rattle.run_laws.proofs.Keeps.{settled-long}
 use Rattle.adding.specs.Taken.{heldBy, taken}
@@ -101,7 +101,7 @@ last-of f n k l = rw (zero-more (n - k), back n k l)
     back : (n k : ℕ) → k ≤ n → n - (n - k) ≡ k
     back n k l = omega arith
 
-pub writes : (r : Run) (a : Ask) (cs : Columns) → asked r a cs .answer .number ≡ 0 → Writes r cs (asked r a cs)
+pub writes : (r : Run) (a : Ask) (cs : Book) → asked r a cs .answer .number ≡ 0 → Writes r a cs (asked r a cs)
 unfolding taken
 writes r a cs h =
     let t = took r cs a h in
@@ -109,8 +109,8 @@ writes r a cs h =
     let n = columns-are cs (t .good .fit) in
     let p = length-xs (xAt (cs .x1) (cs .x2) (cs .x3)) 0 (r .months) in
     let o = run-is r cs (t .good) .opens in
-    let i = index-as (heldBy r cs) (r .months) p o row (cs .index) (omega (arith, n .2, t .room)) refl (row .decision) in
-    subst (Writes r cs) (sym (t .did))
+    let i = index-as (heldBy r cs) (r .months) p o row (cs .index) (omega (arith, n .index-is, t .room)) refl (row .decision) in
+    subst (Writes r a cs) (sym (t .did))
     (record {
       x1 = refl;
       x2 = refl;
@@ -119,9 +119,11 @@ writes r a cs h =
       index-own = i .1;
       index-beyond = i .2;
       index-settled = λ w e.
-          settled-as (heldBy r cs) (r .months) p o row (cs .index) (omega (arith, n .2, t .room)) refl (row .decision) w e
+          settled-as (heldBy r cs) (r .months) p o row (cs .index) (omega (arith, n .index-is, t .room)) refl (row .decision) w e
           ∙ ap (settledAll w) (drop-xs (xAt (cs .x1) (cs .x2) (cs .x3)) 0 (r .months) (r .months - r .opens) (omega arith) ∙ last-of (xAt (cs .x1) (cs .x2) (cs .x3)) (r .months) (r .opens) o);
-      marks = marks-as (heldBy r cs) (r .months) p o row (cs .mark) (omega (arith, n .3, t .room)) refl (row .decision);
+      marks = marks-as (heldBy r cs) (r .months) p o row (cs .mark) (omega (arith, n .mark-is, t .room)) refl (row .decision);
       decides = count-as (row .decision) (r .opens) .0;
       undecided = count-as (row .decision) (r .opens) .1;
+      records = refl;
+      v = refl;
     })

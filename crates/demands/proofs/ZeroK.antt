@@ -24,8 +24,8 @@ use Rattle.runs.proofs.RunLaws.{zero-k-no-run}
 use Rattle.starts.specs.Start.{startOf}
 use Rattle.starts.specs.Given.{StartGives}
 use Rattle.starts.proofs.StartLaws.{given-exactly}
-use Rattle.refusals.specs.Columns.{Columns, long, columnsFit}
-use Rattle.refusals.specs.Refusals.{runRefusal, waterRefusal, zRefusal, rowRefusal}
+use Rattle.refusals.specs.Book.{Book, long, columnsFit}
+use Rattle.refusals.specs.Refusals.{isRunFor, runRefusal, waterRefusal, zRefusal, rowRefusal}
 use Rattle.adding.proofs.Readiness.{run-is}
 use Rattle.drought.specs.Calls.{shown, notShown, rowOfRun}
 use Rattle.drought.specs.declared.Shown.{Shown}
@@ -45,9 +45,9 @@ pub not-done : (t : Bool) → unless-lists t ≡ 0 → ⊥
 not-done true e = omega arith
 not-done false e = omega arith
 
-module _ (r : Run) (cs : Columns) (z : ZeroK (r .constants)) where
+module _ (r : Run) (cs : Book) (z : ZeroK (r .constants)) where
   pub run-refused : runRefusal r cs ≡ unless-lists (columnsFit cs)
-  unfolding runRefusal
+  unfolding runRefusal isRunFor
   run-refused = rw (zero-k-no-run (long cs) r z)
 
   -- whatever is asked next
@@ -75,7 +75,7 @@ unfolding monthOf expectedOf nOf zOf nearest
 nothing-counts s p pe k e = rw (e, zero-*ℤ (pos (10000 * p) -ℤ nOf k pe (potentialsOf s pe))) (ap pos (near-zero 100000000))
 
 -- no such month is added
-pub counts : (r : Run) (a : Ask) (cs : Columns) → asked r a cs .answer .number ≡ 0 → 1 ≤ constantsAt (r .constants) (r .calendar) .k
+pub counts : (r : Run) (a : Ask) (cs : Book) → asked r a cs .answer .number ≡ 0 → 1 ≤ constantsAt (r .constants) (r .calendar) .k
 counts r a cs h =
     let f = run-is r cs (took r cs a h .good) in
     let none = no-zero-k-exactly (r .constants) .0 (f .all-count) in

@@ -14,8 +14,9 @@ use Rattle.door.specs.declared.Reading.the-variants.{Whole, Missing}
 use Rattle.starts.specs.Start.{startOf}
 use Rattle.starts.specs.declared.Started.{Started}
 use Rattle.runs.specs.declared.Run.{Run}
+use Rattle.records.specs.declared.Record.{Record}
 use Rattle.series.specs.Series.{Filled, wholeSeries}
-use Rattle.refusals.specs.Columns.{Columns}
+use Rattle.refusals.specs.Book.{Book}
 use Rattle.adding.specs.Taken.{Result}
 use Rattle.adding.specs.declared.Added.{Added}
 use Rattle.adding.specs.declared.Figures.{Figures}
@@ -23,7 +24,7 @@ use Rattle.adding.specs.declared.WaterFigures.{WaterFigures}
 use Rattle.drought.specs.Calls.{addWater, addInches, addZ, rowOfRun}
 use Rattle.drought.specs.declared.Shown.{Shown}
 use Rattle.season.specs.Season.{SeasonResult, addSeason}
-use Rattle.demands.specs.Pinned.{lent}
+use Rattle.demands.specs.Pinned.{endingIn, lent}
 
 -- ---- the months
 -- a month's five: W1's (document 01) in March, and 10 more for each month later. All sixty differ
@@ -207,9 +208,35 @@ januarySaid =
       };
     }
 
+-- each month's record (document 02, E6), from the figures above: Z, P, PE, ET, R, L = Ls + Lu, RO, the storages that the month before left, those
+-- at its end, and 1 for a month that had water. "A Z-only month records its Z .., zeros for the six water figures and the carried storages"
+abbrev marchRecord : List ℤ
+marchRecord =
+    minus 1688 ∷ pos 1000 ∷ pos 2500 ∷ pos 2000 ∷ pos 0 ∷ pos 1000 ∷ pos 0 ∷ pos 500 ∷ pos 3000 ∷ pos 0 ∷ pos 2500 ∷ pos 1 ∷ []
+
+abbrev octoberRecord : List ℤ
+octoberRecord =
+    minus 12210 ∷ pos 0 ∷ pos 0 ∷ pos 0 ∷ pos 0 ∷ pos 0 ∷ pos 0 ∷ pos 300 ∷ pos 5000 ∷ pos 300 ∷ pos 5000 ∷ pos 0 ∷ []
+
+abbrev novemberRecord : List ℤ
+novemberRecord =
+    pos 3590 ∷ pos 0 ∷ pos 0 ∷ pos 0 ∷ pos 0 ∷ pos 0 ∷ pos 0 ∷ pos 300 ∷ pos 5000 ∷ pos 300 ∷ pos 5000 ∷ pos 0 ∷ []
+
+abbrev decemberRecord : List ℤ
+decemberRecord =
+    minus 878 ∷ pos 400 ∷ pos 950 ∷ pos 908 ∷ pos 0 ∷ pos 508 ∷ pos 0 ∷ pos 300 ∷ pos 5000 ∷ pos 0 ∷ pos 4792 ∷ pos 1 ∷ []
+
+abbrev januaryRecord : List ℤ
+januaryRecord =
+    pos 7933 ∷ pos 5900 ∷ pos 400 ∷ pos 400 ∷ pos 1208 ∷ pos 0 ∷ pos 4292 ∷ pos 0 ∷ pos 4792 ∷ pos 1000 ∷ pos 5000 ∷ pos 1 ∷ []
+
+-- at a place that no month has
+abbrev noMonth : List ℤ
+noMonth = endingIn (pos 0) (pos 0)
+
 -- the columns after March; after November and December, which are open; and after January. November settles at its X1, where X2 is 0;
 -- December has both, and takes the deciding month's side. The place after the last month is as it was
-abbrev marchLeaves : Columns
+abbrev marchLeaves : Book
 marchLeaves =
     record {
       x1 = pos 0 ∷ pos 71 ∷ pos 71 ∷ pos 71 ∷ pos 71 ∷ [];
@@ -217,9 +244,11 @@ marchLeaves =
       x3 = pos 0 ∷ pos 73 ∷ pos 73 ∷ pos 73 ∷ pos 73 ∷ [];
       index = minus 563 ∷ pos 74 ∷ pos 74 ∷ pos 74 ∷ pos 74 ∷ [];
       mark = 2 ∷ 75 ∷ 75 ∷ 75 ∷ 75 ∷ [];
+      records = marchRecord ∷ noMonth ∷ noMonth ∷ noMonth ∷ noMonth ∷ [];
+      v = pos 0 ∷ pos 76 ∷ pos 76 ∷ pos 76 ∷ pos 76 ∷ [];
     }
 
-abbrev novemberLeaves : Columns
+abbrev novemberLeaves : Book
 novemberLeaves =
     record {
       x1 = pos 0 ∷ pos 1197 ∷ pos 71 ∷ pos 71 ∷ pos 71 ∷ [];
@@ -227,9 +256,11 @@ novemberLeaves =
       x3 = minus 4070 ∷ minus 2454 ∷ pos 73 ∷ pos 73 ∷ pos 73 ∷ [];
       index = minus 4070 ∷ minus 2454 ∷ pos 74 ∷ pos 74 ∷ pos 74 ∷ [];
       mark = 2 ∷ 1 ∷ 75 ∷ 75 ∷ 75 ∷ [];
+      records = octoberRecord ∷ novemberRecord ∷ noMonth ∷ noMonth ∷ noMonth ∷ [];
+      v = pos 0 ∷ pos 3740 ∷ pos 76 ∷ pos 76 ∷ pos 76 ∷ [];
     }
 
-abbrev decemberLeaves : Columns
+abbrev decemberLeaves : Book
 decemberLeaves =
     record {
       x1 = pos 0 ∷ pos 1197 ∷ pos 781 ∷ pos 71 ∷ pos 71 ∷ [];
@@ -237,9 +268,11 @@ decemberLeaves =
       x3 = minus 4070 ∷ minus 2454 ∷ minus 2494 ∷ pos 73 ∷ pos 73 ∷ [];
       index = minus 4070 ∷ minus 2454 ∷ minus 2494 ∷ pos 74 ∷ pos 74 ∷ [];
       mark = 2 ∷ 1 ∷ 1 ∷ 75 ∷ 75 ∷ [];
+      records = octoberRecord ∷ novemberRecord ∷ decemberRecord ∷ noMonth ∷ noMonth ∷ [];
+      v = pos 0 ∷ pos 3740 ∷ pos 3012 ∷ pos 76 ∷ pos 76 ∷ [];
     }
 
-abbrev januaryLeaves : Columns
+abbrev januaryLeaves : Book
 januaryLeaves =
     record {
       x1 = pos 0 ∷ pos 1197 ∷ pos 781 ∷ pos 0 ∷ pos 71 ∷ [];
@@ -247,6 +280,8 @@ januaryLeaves =
       x3 = minus 4070 ∷ minus 2454 ∷ minus 2494 ∷ pos 3345 ∷ pos 73 ∷ [];
       index = minus 4070 ∷ pos 1197 ∷ pos 781 ∷ pos 3345 ∷ pos 74 ∷ [];
       mark = 2 ∷ 2 ∷ 2 ∷ 2 ∷ 75 ∷ [];
+      records = octoberRecord ∷ novemberRecord ∷ decemberRecord ∷ januaryRecord ∷ noMonth ∷ [];
+      v = pos 0 ∷ pos 3740 ∷ pos 3012 ∷ pos 0 ∷ pos 76 ∷ [];
     }
 
 -- ---- each of an answer's and a run's numbers beside what is said of it, in the outline's order
@@ -271,6 +306,13 @@ eachPlace [] [] = []
 eachPlace (a ∷ l) (b ∷ said) = (a gives b) ∷ eachPlace l said
 eachPlace [] (b ∷ said) = (pos 0 gives pos 1) ∷ []
 eachPlace (a ∷ l) [] = (pos 0 gives pos 1) ∷ []
+
+-- records place by place, and each number by number
+abbrev eachRecord : List (List ℤ) → List (List ℤ) → List Row
+eachRecord [] [] = []
+eachRecord (a ∷ l) (b ∷ said) = eachPlace a b ++ eachRecord l said
+eachRecord [] (b ∷ said) = (pos 0 gives pos 1) ∷ []
+eachRecord (a ∷ l) [] = (pos 0 gives pos 1) ∷ []
 
 abbrev eachOfRun : Run → Run → List Row
 eachOfRun r said =
@@ -304,15 +346,17 @@ eachAnswer a said =
     ∷ (pos (a .settled) gives pos (said .settled))
     ∷ (eachFigure (a .figures) (said .figures) ++ eachOfRun (a .run) (said .run))
 
-abbrev eachColumn : Columns → Columns → List Row
+abbrev eachColumn : Book → Book → List Row
 eachColumn cs said =
     eachPlace (cs .x1) (said .x1)
     ++ (eachPlace (cs .x2) (said .x2)
     ++ (eachPlace (cs .x3) (said .x3)
     ++ (eachPlace (cs .index) (said .index)
-    ++ eachPlace (map pos (cs .mark)) (map pos (said .mark)))))
+    ++ (eachPlace (map pos (cs .mark)) (map pos (said .mark))
+    ++ (eachRecord (cs .records) (said .records)
+    ++ eachPlace (cs .v) (said .v))))))
 
-abbrev each : Result → Added → Columns → List Row
+abbrev each : Result → Added → Book → List Row
 each b said leaves = eachAnswer (b .answer) said ++ eachColumn (b .columns) leaves
 
 -- "a refused start: all zeros"; what one that is not refused gives goes into the months above
@@ -339,17 +383,118 @@ seasonTable =
     ++ (eachOfRun (season .answer .run) (januarySaid .run)
     ++ eachColumn (season .columns) januaryLeaves))
 
+-- a row and a month's record, field by field
+abbrev eachOfMonth : Record → Record → List Row
+eachOfMonth m said =
+    (m .z gives said .z)
+    ∷ (m .p gives said .p)
+    ∷ (m .pe gives said .pe)
+    ∷ (m .et gives said .et)
+    ∷ (m .r gives said .r)
+    ∷ (m .l gives said .l)
+    ∷ (m .ro gives said .ro)
+    ∷ (m .ss gives said .ss)
+    ∷ (m .su gives said .su)
+    ∷ (m .surface gives said .surface)
+    ∷ (m .underlying gives said .underlying)
+    ∷ (m .water gives said .water)
+    ∷ []
+
+abbrev eachOfRow : Shown → Shown → List Row
+eachOfRow s said =
+    (pos (s .number) gives pos (said .number))
+    ∷ (s .x1 gives said .x1)
+    ∷ (s .x2 gives said .x2)
+    ∷ (s .x3 gives said .x3)
+    ∷ (s .index gives said .index)
+    ∷ (pos (s .mark) gives pos (said .mark))
+    ∷ (s .v gives said .v)
+    ∷ eachOfMonth (s .month) (said .month)
+
+-- after January: December's row, which is settled; the records of January and of October, which had no water; and of a place that no month has
+-- "11: row number not below the months added", and all zeros
 abbrev rowTable : List Row
 rowTable =
-    (pos (row 2 .number) gives pos 0)
-    ∷ (row 2 .x1 gives pos 781)
-    ∷ (row 2 .x2 gives minus 293)
-    ∷ (row 2 .x3 gives minus 2494)
-    ∷ (row 2 .index gives pos 781)
-    ∷ (pos (row 2 .mark) gives pos 2)
-    -- "11: row number not below the months added"
-    ∷ (pos (row 4 .number) gives pos 11)
-    ∷ []
+    eachOfRow (row 2)
+    (record {
+      number = 0;
+      x1 = pos 781;
+      x2 = minus 293;
+      x3 = minus 2494;
+      index = pos 781;
+      mark = 2;
+      month =
+          record {
+            z = minus 878;
+            p = pos 400;
+            pe = pos 950;
+            et = pos 908;
+            r = pos 0;
+            l = pos 508;
+            ro = pos 0;
+            ss = pos 300;
+            su = pos 5000;
+            surface = pos 0;
+            underlying = pos 4792;
+            water = pos 1;
+          };
+      v = pos 3012;
+    })
+    ++ (eachOfMonth (row 3 .month)
+    (record {
+      z = pos 7933;
+      p = pos 5900;
+      pe = pos 400;
+      et = pos 400;
+      r = pos 1208;
+      l = pos 0;
+      ro = pos 4292;
+      ss = pos 0;
+      su = pos 4792;
+      surface = pos 1000;
+      underlying = pos 5000;
+      water = pos 1;
+    })
+    ++ (eachOfMonth (row 0 .month)
+    (record {
+      z = minus 12210;
+      p = pos 0;
+      pe = pos 0;
+      et = pos 0;
+      r = pos 0;
+      l = pos 0;
+      ro = pos 0;
+      ss = pos 300;
+      su = pos 5000;
+      surface = pos 300;
+      underlying = pos 5000;
+      water = pos 0;
+    })
+    ++ eachOfRow (row 4)
+    (record {
+      number = 11;
+      x1 = pos 0;
+      x2 = pos 0;
+      x3 = pos 0;
+      index = pos 0;
+      mark = 0;
+      month =
+          record {
+            z = pos 0;
+            p = pos 0;
+            pe = pos 0;
+            et = pos 0;
+            r = pos 0;
+            l = pos 0;
+            ro = pos 0;
+            ss = pos 0;
+            su = pos 0;
+            surface = pos 0;
+            underlying = pos 0;
+            water = pos 0;
+          };
+      v = pos 0;
+    })))
 
 -- what January leaves of index and mark, from the Z alone
 abbrev seriesTable : List Row

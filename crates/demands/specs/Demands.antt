@@ -3,8 +3,8 @@
 -- `demand-1`, `demand-2` and `demand-3` of proofs/Demands.antt prove them. Months that are added one by one (`Ask`, `asked`, `afterAll`,
 -- `Accepted`) and what the rules make of them (`Station`, `figuresOfMonths`, `rowsOfMonths`) are in Months.antt beside this file; when a call
 -- gives a number (`AddGives` and the others) in Given.antt, and number by number (`Table`) in Table.antt; `forward`, the rule that looks
--- forward from a month, in the crate `hindsight`, specs/Rule.antt. A season has its own words, document 02's, in Seasons.antt. Assumes
--- nothing.
+-- forward from a month, in the crate `hindsight`, specs/Rule.antt. Document 02 has its own words of a season, in Seasons.antt, and of
+-- the months' records, in Recorded.antt. Assumes nothing.
 use mathlib.Core.Path.{_≡_}
 use mathlib.Core.Bool.{true, cond}
 use mathlib.Core.Logic.{_↔_, _⊎_}
@@ -32,27 +32,28 @@ use Rattle.calendar.specs.Calendar.{constantsAt, ZeroK}
 use Rattle.starts.specs.Start.{startRefusal, startOf, freshRun, zeroRun}
 use Rattle.starts.specs.Given.{StartGives}
 use Rattle.runs.specs.declared.Run.{Run}
+use Rattle.records.specs.Record.{numbersOf}
 use Rattle.series.specs.Series.{allZFit, seriesRefusal, filled, wholeSeries}
-use Rattle.refusals.specs.Columns.{Columns, long, columnsFit}
+use Rattle.refusals.specs.Book.{Book, long, columnsFit}
 use Rattle.refusals.specs.Refusals.{waterRefusal, zRefusal}
 use Rattle.adding.specs.Figures.{noFigures}
 use Rattle.adding.specs.Taken.{Result, heldBy}
 use Rattle.drought.specs.Calls.{shown, notShown, rowOfRun}
 use Rattle.season.specs.Season.{seasonResult, nothing, addSeason}
-use Rattle.demands.specs.Months.{Ask, water, inches, anomaly, asked, State, standing, after, afterAll, Accepted, figuresAnswered, monthsOf, leftOf, stationOf, figuresFor, figuresOfMonths, noRow, rowsOfMonths}
+use Rattle.demands.specs.Months.{Ask, water, inches, anomaly, asked, State, standing, after, afterAll, Accepted, figuresAnswered, monthsOf, leftOf, stationOf, figuresFor, figuresOfMonths, recordFor, noRow, rowsOfMonths}
 use Rattle.demands.specs.Given.{ReadingGives, AddGives, RowGives, SeriesGives, SeasonGives}
 use Rattle.demands.specs.Table.{Table}
 
 -- ---- a fresh run whose columns nobody else writes
 
--- a start that was not refused, and columns of any content
+-- a start that was not refused, and lent lists of any content: the five columns, the records and V
 pub record Fresh : Type 0 where
   pub constants : List ℤ
   pub capacity : ℤ
   pub surface : ℤ
   pub underlying : ℤ
   pub month : ℤ
-  pub columns : Columns
+  pub columns : Book
   pub started : startRefusal constants capacity surface underlying month ≡ 0
 
 -- the run that it gave (`Demand1.starts`), and the columns
@@ -67,13 +68,13 @@ now f asks = afterAll (first f) asks
 -- hands back any run it was given and writes nothing."
 
 -- the number that an add gives: 0, or the first refusal in the paper's order
-abbrev pub numberOf : Run → Ask → Columns → ℕ
+abbrev pub numberOf : Run → Ask → Book → ℕ
 numberOf r (water p pe) cs = waterRefusal r (reading p .number) (reading pe .number) cs
 numberOf r (inches q) cs = waterRefusal r (month q .p .number) (month q .pe .number) cs
 numberOf r (anomaly z) cs = zRefusal r z cs
 
 -- an answer with that number; a refusal hands back the run, leaves the columns, settles nothing, and its figures are all 0
-abbrev pub Answers : Run → Columns → ℕ → Result → Type 0
+abbrev pub Answers : Run → Book → ℕ → Result → Type 0
 Answers r cs k b =
     (b .answer .number ≡ k)
     × ((k ≡ 0 → ⊥) → (b .answer .run ≡ r) × (b .columns ≡ cs) × (b .answer .settled ≡ 0) × (b .answer .figures ≡ noFigures))
@@ -94,24 +95,24 @@ pub record Demand1 : Type 0 where
       × (startRefusal constants c ss su m ≡ 0 → startOf constants c ss su m .run ≡ freshRun constants c ss su m)
   pub starts-exactly : (constants : List ℤ) (c ss su m : ℤ) (n : ℕ) → (startOf constants c ss su m .number ≡ n) ↔ StartGives constants c ss su m n
   -- EVERY ADD, of water by either call and of Z
-  pub adds : (r : Run) (a : Ask) (cs : Columns) → Answers r cs (numberOf r a cs) (asked r a cs)
-  pub adds-exactly : (r : Run) (a : Ask) (cs : Columns) (n : ℕ) → (asked r a cs .answer .number ≡ n) ↔ AddGives r a cs n
+  pub adds : (r : Run) (a : Ask) (cs : Book) → Answers r cs (numberOf r a cs) (asked r a cs)
+  pub adds-exactly : (r : Run) (a : Ask) (cs : Book) (n : ℕ) → (asked r a cs .answer .number ≡ n) ↔ AddGives r a cs n
   -- EVERY SEASON: what it hands back and leaves is what the months added before the refused one leave, each accepted; with 1 or 7, which come
   -- before the first month, nothing is added. Document 02, E2: "demand 1's "writes nothing" then speaks of the refused month and those after it"
   pub seasons :
-      (r : Run) (ps pes : List ℤ) (cs : Columns)
+      (r : Run) (ps pes : List ℤ) (cs : Book)
       → let t = addSeason r ps pes cs in
       let s = standing r cs in
       Accepted s (take (t .answer .added) (monthsOf ps pes)) × (leftOf t ≡ afterAll s (take (t .answer .added) (monthsOf ps pes)))
   pub seasons-refused :
-      (r : Run) (ps pes : List ℤ) (cs : Columns) → let t = addSeason r ps pes cs in (t .answer .number ≡ badLists) ⊎ (t .answer .number ≡ notARun) → t ≡ seasonResult (nothing (t .answer .number) r) cs
-  pub seasons-exactly : (r : Run) (ps pes : List ℤ) (cs : Columns) (n : ℕ) → (addSeason r ps pes cs .answer .number ≡ n) ↔ SeasonGives r ps pes cs n
-  -- EVERY ROW: "what the five columns hold there", or all zeros beside its number. It answers with no run, since its caller has the one that it
-  -- handed in, by value, and no list is lent to be written
+      (r : Run) (ps pes : List ℤ) (cs : Book) → let t = addSeason r ps pes cs in (t .answer .number ≡ badLists) ⊎ (t .answer .number ≡ notARun) → t ≡ seasonResult (nothing (t .answer .number) r) cs
+  pub seasons-exactly : (r : Run) (ps pes : List ℤ) (cs : Book) (n : ℕ) → (addSeason r ps pes cs .answer .number ≡ n) ↔ SeasonGives r ps pes cs n
+  -- EVERY ROW: "what the five columns hold there", and E6's record and V, or all zeros beside its number. It answers with no run, since its caller
+  -- has the one that it handed in, by value, and no list is lent to be written
   pub rows :
-      (r : Run) (i : ℕ) (cs : Columns)
+      (r : Run) (i : ℕ) (cs : Book)
       → (rowOfRun r i cs .number ≡ 0 → rowOfRun r i cs ≡ shown i cs) × ((rowOfRun r i cs .number ≡ 0 → ⊥) → rowOfRun r i cs ≡ notShown (rowOfRun r i cs .number))
-  pub rows-exactly : (r : Run) (i : ℕ) (cs : Columns) (n : ℕ) → (rowOfRun r i cs .number ≡ n) ↔ RowGives r i cs n
+  pub rows-exactly : (r : Run) (i : ℕ) (cs : Book) (n : ℕ) → (rowOfRun r i cs .number ≡ n) ↔ RowGives r i cs n
   -- EVERY WHOLE SERIES
   pub series :
       (z index : List ℤ) (mark : List ℕ)
@@ -129,13 +130,13 @@ pub record Demand1 : Type 0 where
       → Honest (addSeason (now f asks .run) ps pes (now f asks .columns) .answer .number)
   -- a run that holds a K of 0 is none: 7, whatever is asked of it; 1 is asked before
   pub zero-k :
-      (r : Run) (cs : Columns) → ZeroK (r .constants)
+      (r : Run) (cs : Book) → ZeroK (r .constants)
       → let k = cond (columnsFit cs) notARun badLists in
       ((a : Ask) → asked r a cs .answer .number ≡ k) × ((i : ℕ) → rowOfRun r i cs .number ≡ k)
   -- "every March was "normal"": with a K of 0 a month's Z is 0, whatever falls
   pub nothing : (s : Soil) (p pe : ℕ) (k : Constants) → k .k ≡ 0 → monthOf s p pe k .z ≡ pos 0
   -- and no such month is ever added
-  pub counts : (r : Run) (a : Ask) (cs : Columns) → asked r a cs .answer .number ≡ 0 → 1 ≤ constantsAt (r .constants) (r .calendar) .k
+  pub counts : (r : Run) (a : Ask) (cs : Book) → asked r a cs .answer .number ≡ 0 → 1 ≤ constantsAt (r .constants) (r .calendar) .k
 
 -- ---- 2. "Water balance, expected precipitation, anomaly Z, the three running indexes and the chance of an ending equal Palmer's 1965 rules
 -- as our outline states and rounds them. In each month of water precipitation equals evapotranspiration plus runoff plus the gain in soil
@@ -158,12 +159,12 @@ Balances r b =
 -- a run that exists: a start gave it, refused or not, or an add or a season handed it back, refused or not, on whatever columns
 pub data Existing : Run → Type 0 where
   by-start : (constants : List ℤ) (c ss su m : ℤ) → Existing (startOf constants c ss su m .run)
-  by-add : (r : Run) (a : Ask) (cs : Columns) → Existing r → Existing (asked r a cs .answer .run)
-  by-season : (r : Run) (ps pes : List ℤ) (cs : Columns) → Existing r → Existing (addSeason r ps pes cs .answer .run)
+  by-add : (r : Run) (a : Ask) (cs : Book) → Existing r → Existing (asked r a cs .answer .run)
+  by-season : (r : Run) (ps pes : List ℤ) (cs : Book) → Existing r → Existing (addSeason r ps pes cs .answer .run)
 
 pub record Demand2 : Type 0 where
   -- the figures of an accepted month are those that the rules of water and of spells give
-  pub figures : (r : Run) (a : Ask) (cs : Columns) → asked r a cs .answer .number ≡ 0 → asked r a cs .answer .figures ≡ figuresFor (stationOf r) a
+  pub figures : (r : Run) (a : Ask) (cs : Book) → asked r a cs .answer .number ≡ 0 → asked r a cs .answer .figures ≡ figuresFor (stationOf r) a
   -- MONTH AFTER MONTH: what accepted months answer, one after another, is what the rules give of the start alone, each month from what the
   -- month before it left. So no run that reckons the first month and repeats its figures is this one
   pub chain : (f : Fresh) (asks : List Ask) → Accepted (first f) asks → figuresAnswered (first f) asks ≡ figuresOfMonths (stationOf (first f .run)) asks
@@ -173,14 +174,14 @@ pub record Demand2 : Type 0 where
   pub kept : (f : Fresh) (asks : List Ask) → Accepted (first f) asks → now f asks .run .constants ≡ f .constants
   pub calendar : (f : Fresh) (asks : List Ask) → Accepted (first f) asks → now f asks .run .calendar ≡ calendarAfter (natAbs (f .month)) (length asks)
   -- an accepted month of water balances, by whichever call it came
-  pub balances : (r : Run) (p pe : Reading) (cs : Columns) → asked r (water p pe) cs .answer .number ≡ 0 → Balances r (asked r (water p pe) cs)
-  pub balances-inches : (r : Run) (q : MonthInches) (cs : Columns) → asked r (inches q) cs .answer .number ≡ 0 → Balances r (asked r (inches q) cs)
+  pub balances : (r : Run) (p pe : Reading) (cs : Book) → asked r (water p pe) cs .answer .number ≡ 0 → Balances r (asked r (water p pe) cs)
+  pub balances-inches : (r : Run) (q : MonthInches) (cs : Book) → asked r (inches q) cs .answer .number ≡ 0 → Balances r (asked r (inches q) cs)
   -- its Z is one that may be "given directly", by whichever call it came
-  pub anomalies : (r : Run) (a : Ask) (cs : Columns) → asked r a cs .answer .number ≡ 0 → natAbs (asked r a cs .answer .figures .z) ≤ mostZ
+  pub anomalies : (r : Run) (a : Ask) (cs : Book) → asked r a cs .answer .number ≡ 0 → natAbs (asked r a cs .answer .figures .z) ≤ mostZ
   -- NEITHER LAYER EVER PASSES ITS CAPACITY: of no run that exists,
   pub exists : (r : Run) → Existing r → (r .soil .surface ≤ surfaceHolds (r .soil .capacity)) × (r .soil .underlying ≤ underlyingHolds (r .soil .capacity))
   -- and the capacity is in its range: after an accepted month, whatever the run was,
-  pub layers : (r : Run) (a : Ask) (cs : Columns) → asked r a cs .answer .number ≡ 0 → SoilFits (asked r a cs .answer .run .soil)
+  pub layers : (r : Run) (a : Ask) (cs : Book) → asked r a cs .answer .number ≡ 0 → SoilFits (asked r a cs .answer .run .soil)
   -- at a start that was not refused, and after any months from it on, accepted or refused
   pub started : (constants : List ℤ) (c ss su m : ℤ) → startRefusal constants c ss su m ≡ 0 → SoilFits (startOf constants c ss su m .run .soil)
   pub always : (f : Fresh) (asks : List Ask) → SoilFits (now f asks .run .soil)
@@ -211,12 +212,12 @@ abbrev pub marksWith : ℕ → ℕ → List ℕ → List ℕ
 marksWith k at mark = take (suc at - k) (set mark at 1) ++ (replicate k 2 ++ drop (suc at) mark)
 
 -- X1, X2 and X3 of the run's last open months, as the columns hold them
-abbrev pub openMonths : Run → Columns → List X
+abbrev pub openMonths : Run → Book → List X
 openMonths r cs = xsFrom (xAt (cs .x1) (cs .x2) (cs .x3)) (r .months - r .opens) (r .opens)
 
--- "An add writes the new month's place in the five columns, and index and mark of the open months it settles, and nothing else": r and cs are
--- what an accepted add was given, b what it left
-pub record Writes (r : Run) (cs : Columns) (b : Result) : Type 0 where
+-- "An add writes the new month's place in the five columns, and index and mark of the open months it settles, and nothing else"; since E6 the month's
+-- record and V too, at its place. r, a and cs are what an accepted add was given, b what it left
+pub record Writes (r : Run) (a : Ask) (cs : Book) (b : Result) : Type 0 where
   pub x1 : b .columns .x1 ≡ set (cs .x1) (r .months) (b .answer .figures .x1)
   pub x2 : b .columns .x2 ≡ set (cs .x2) (r .months) (b .answer .figures .x2)
   pub x3 : b .columns .x3 ≡ set (cs .x3) (r .months) (b .answer .figures .x3)
@@ -235,6 +236,9 @@ pub record Writes (r : Run) (cs : Columns) (b : Result) : Type 0 where
   -- "its own included: the open months before it plus one if it decides, else 0"
   pub decides : b .answer .figures .mark ≡ 2 → b .answer .settled ≡ suc (r .opens)
   pub undecided : b .answer .figures .mark ≡ 1 → b .answer .settled ≡ 0
+  -- the month's record, by the rules, and V after the month
+  pub records : b .columns .records ≡ set (cs .records) (r .months) (numbersOf (recordFor (stationOf r) a))
+  pub v : b .columns .v ≡ set (cs .v) (r .months) (b .answer .run .values .v)
 
 pub record Demand3 : Type 0 where
   -- "After each, every settled index equals the choice made knowing all months so far, by a rule that looks forward from that month." So
@@ -253,7 +257,7 @@ pub record Demand3 : Type 0 where
       (f : Fresh) (asks more : List Ask) → Accepted (first f) asks → Accepted (now f asks) more → (i : ℕ) → i < length asks
       → valuesAt (afterAll (now f asks) more) i ≡ valuesAt (now f asks) i
   -- what an accepted add writes, on any columns, and that its settled count is that of the marks that it writes as 2;
-  pub writes : (r : Run) (a : Ask) (cs : Columns) → asked r a cs .answer .number ≡ 0 → Writes r cs (asked r a cs)
+  pub writes : (r : Run) (a : Ask) (cs : Book) → asked r a cs .answer .number ≡ 0 → Writes r a cs (asked r a cs)
   -- so that on columns that nobody else writes there are as many more of them
   pub settled :
       (f : Fresh) (asks : List Ask) (a : Ask) → Accepted (first f) asks

@@ -16,10 +16,10 @@ use Rattle.door.specs.Exact.{within}
 use Rattle.door.specs.Readings.{mostReading, mostInches, mostMillimetres}
 use Rattle.door.specs.declared.Reading.{Reading}
 use Rattle.door.specs.declared.Reading.the-variants.{Whole, Inches, Millimetres, Missing}
-use Rattle.runs.specs.Runs.{isRun}
 use Rattle.runs.specs.declared.Run.{Run}
 use Rattle.series.specs.Series.{allZFit, listsFit}
-use Rattle.refusals.specs.Columns.{Columns, long, columnsFit}
+use Rattle.refusals.specs.Book.{Book, long, columnsFit}
+use Rattle.refusals.specs.Refusals.{isRunOf}
 use Rattle.refusals.specs.Good.{Good}
 use Rattle.demands.specs.Months.{Ask, water, inches, anomaly, State, standing, after, Accepted, monthsOf}
 
@@ -58,14 +58,14 @@ ItselfGives (water p pe) n = MonthGives p pe n
 ItselfGives (inches q) n = MonthGives (Inches (q .p)) (Inches (q .pe)) n
 ItselfGives (anomaly z) n = ZGives z n
 
--- ---- an add: of water 1, 7, 8 or 9, 10, of Z 1, 7, 12, 10. `Good`: the columns fit, and the run is one for them
-pub data AddGives (r : Run) (a : Ask) (cs : Columns) : ℕ → Type 0 where
+-- ---- an add: of water 1, 7, 8 or 9, 10, of Z 1, 7, 12, 10. `Good`: the lists fit, and the run is one for them
+pub data AddGives (r : Run) (a : Ask) (cs : Book) : ℕ → Type 0 where
   -- 0: done
   add-0 : Good r cs → ItselfGives a 0 → r .months < long cs → AddGives r a cs 0
-  -- 1: "the five columns .. not all of one length, or length 0" or above the limit
+  -- 1: "the five columns .. not all of one length, or length 0" or above the limit; and E6, "1 covers the new columns"
   add-1 : columnsFit cs ≡ false → AddGives r a cs badLists
-  -- 7: "not a run"
-  add-7 : columnsFit cs ≡ true → isRun (long cs) r ≡ false → AddGives r a cs notARun
+  -- 7: "not a run", for what is lent; and E6, "after any month, the last row's end storages equal the run's"
+  add-7 : columnsFit cs ≡ true → isRunOf cs r ≡ false → AddGives r a cs notARun
   -- 8: "reading missing"
   add-8 : Good r cs → ItselfGives a missing → AddGives r a cs missing
   -- 9: "reading not acceptable"
@@ -76,13 +76,13 @@ pub data AddGives (r : Run) (a : Ask) (cs : Columns) : ℕ → Type 0 where
   add-12 : Good r cs → ItselfGives a badZ → AddGives r a cs badZ
 
 -- ---- a row: 1, 7, 11
-pub data RowGives (r : Run) (i : ℕ) (cs : Columns) : ℕ → Type 0 where
+pub data RowGives (r : Run) (i : ℕ) (cs : Book) : ℕ → Type 0 where
   -- 0: done
   row-0 : Good r cs → i < r .months → RowGives r i cs 0
   -- 1: as of an add
   row-1 : columnsFit cs ≡ false → RowGives r i cs badLists
-  -- 7: "not a run"
-  row-7 : columnsFit cs ≡ true → isRun (long cs) r ≡ false → RowGives r i cs notARun
+  -- 7: as of an add
+  row-7 : columnsFit cs ≡ true → isRunOf cs r ≡ false → RowGives r i cs notARun
   -- 11: "row number not below the months added"
   row-11 : Good r cs → r .months ≤ i → RowGives r i cs noSuchRow
 
@@ -103,20 +103,20 @@ StopsWith n s [] = ⊥
 StopsWith n s (a ∷ later) =
     ((n ≡ 0 → ⊥) × AddGives (s .run) a (s .columns) n) ⊎ (AddGives (s .run) a (s .columns) 0 × StopsWith n (after s a) later)
 
--- two lists of one length, and neither 1 nor 7 of the run and its columns
-pub record Begins (r : Run) (ps pes : List ℤ) (cs : Columns) : Type 0 where
+-- two lists of one length, and neither 1 nor 7 of the run and of what is lent
+pub record Begins (r : Run) (ps pes : List ℤ) (cs : Book) : Type 0 where
   pub one-length : length ps ≡ length pes
   pub good : Good r cs
 
-module _ (r : Run) (ps pes : List ℤ) (cs : Columns) where
+module _ (r : Run) (ps pes : List ℤ) (cs : Book) where
   pub data SeasonGives : ℕ → Type 0 where
     -- 0: every month is added
     season-0 : Begins r ps pes cs → Accepted (standing r cs) (monthsOf ps pes) → SeasonGives 0
     -- 1: "two lists of unequal length", or the columns as of an add
     season-1-lists : (length ps ≡ length pes → ⊥) → SeasonGives badLists
     season-1 : columnsFit cs ≡ false → SeasonGives badLists
-    -- 7: "not a run"
-    season-7 : length ps ≡ length pes → columnsFit cs ≡ true → isRun (long cs) r ≡ false → SeasonGives notARun
+    -- 7: as of an add
+    season-7 : length ps ≡ length pes → columnsFit cs ≡ true → isRunOf cs r ≡ false → SeasonGives notARun
     -- 8, 9 and 10: of the first month that a single add refuses
     season-8 : Begins r ps pes cs → StopsWith missing (standing r cs) (monthsOf ps pes) → SeasonGives missing
     season-9 : Begins r ps pes cs → StopsWith notAcceptable (standing r cs) (monthsOf ps pes) → SeasonGives notAcceptable

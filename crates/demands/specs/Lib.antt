@@ -1,6 +1,6 @@
 -- What must be believed: the words in which the demands are said (Months), which number each call gives and exactly when (Given, Table), the demands,
--- the programs that they reject (Rejected), the requests said in the same words (Seasons, Mirror, Longer), and the worked months with the outline's
--- numbers (Pinned) and whole answers (Answered) beside them (Worked).
+-- the programs that they reject (Rejected), the requests said in the same words (Seasons, Mirror, Longer, Recorded), and the worked months with the
+-- outline's numbers (Pinned) and whole answers (Answered) beside them (Worked).
 pub mod Months
 pub mod Given
 pub mod Table
@@ -9,6 +9,7 @@ pub mod Rejected
 pub mod Seasons
 pub mod Mirror
 pub mod Longer
+pub mod Recorded
 pub mod Pinned
 pub mod Answered
 pub mod Worked

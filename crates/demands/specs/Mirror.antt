@@ -19,7 +19,7 @@ use Rattle.hindsight.specs.Columns.{xAt}
 use Rattle.hindsight.specs.Months.{rowsOfZ}
 use Rattle.runs.specs.declared.Run.{Run}
 use Rattle.series.specs.Series.{wholeSeries}
-use Rattle.refusals.specs.Columns.{long, columnsFit}
+use Rattle.refusals.specs.Book.{long, columnsFit}
 use Rattle.adding.specs.declared.Figures.{Figures}
 use Rattle.adding.specs.declared.Added.{Added}
 use Rattle.demands.specs.Months.{Ask, anomaly, asked, State, Accepted, noRow}

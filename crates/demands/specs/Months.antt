@@ -1,5 +1,5 @@
--- Months added one by one: what may be added, the state that the calls carry from one to the next, and the figures and rows that the rules of
--- a month give, which know nothing of runs or columns. The statements of this crate speak in these words. Assumes nothing.
+-- Months added one by one: what may be added, the state that the calls carry from one to the next, and the figures, rows and records that the
+-- rules of a month give, which know nothing of runs or columns. The statements of this crate speak in these words. Assumes nothing.
 use Prim.Native.Nat.{ℕ}
 use mathlib.Core.Path.{_≡_}
 use mathlib.Core.List.{List, [], _∷_, map}
@@ -18,7 +18,9 @@ use Rattle.hindsight.specs.Columns.{rowsOf}
 use Rattle.hindsight.specs.Months.{rowFor}
 use Rattle.calendar.specs.Calendar.{constantsAt, nextCalendar}
 use Rattle.runs.specs.declared.Run.{Run}
-use Rattle.refusals.specs.Columns.{Columns}
+use Rattle.records.specs.Record.{waterRecord, zRecord}
+use Rattle.records.specs.declared.Record.{Record}
+use Rattle.refusals.specs.Book.{Book}
 use Rattle.adding.specs.Figures.{waterFigures, noWater, figuresOf}
 use Rattle.drought.specs.Calls.{addWater, addInches, addZ}
 use Rattle.adding.specs.Taken.{Result, soilAfter}
@@ -35,7 +37,7 @@ pub data Ask : Type 0 where
   anomaly : ℤ → Ask
 
 -- the call that adds it
-abbrev pub asked : Run → Ask → Columns → Result
+abbrev pub asked : Run → Ask → Book → Result
 asked r (water p pe) cs = addWater r p pe cs
 asked r (inches q) cs = addInches r q cs
 asked r (anomaly z) cs = addZ r z cs
@@ -43,9 +45,9 @@ asked r (anomaly z) cs = addZ r z cs
 -- the run that a call handed back, and the columns as it left them: "columns nobody else writes"
 pub record State : Type 0 where
   pub run : Run
-  pub columns : Columns
+  pub columns : Book
 
-abbrev pub standing : Run → Columns → State
+abbrev pub standing : Run → Book → State
 standing r cs = record { run = r; columns = cs }
 
 abbrev pub stateOf : Result → State
@@ -83,7 +85,7 @@ monthsOf (p ∷ ps) (pe ∷ pes) = water (listed p) (listed pe) ∷ monthsOf ps 
 abbrev pub leftOf : SeasonResult → State
 leftOf t = standing (t .answer .run) (t .columns)
 
--- ---- the figures and the rows of months, by the rules of water and of spells alone
+-- ---- the figures, the rows and the records of months, by the rules of water and of spells alone
 pub record Station : Type 0 where
   pub soil : Soil
   pub calendar : ℕ
@@ -129,6 +131,22 @@ figuresFor s a = figuresOf (waterFor s a) (zFor s a) (stepOf (s .values) (zFor s
 abbrev pub figuresOfMonths : Station → List Ask → List Figures
 figuresOfMonths s [] = []
 figuresOfMonths s (a ∷ later) = figuresFor s a ∷ figuresOfMonths (stationNext s a) later
+
+-- the month's record (document 02, E6): of water by either call, or of an added Z
+abbrev pub recordFor : Station → Ask → Record
+recordFor s (water p pe) = waterRecord (s .soil) (reading p .water) (reading pe .water) (watered s (reading p .water) (reading pe .water))
+recordFor s (inches q) = waterRecord (s .soil) (month q .p .water) (month q .pe .water) (watered s (month q .p .water) (month q .pe .water))
+recordFor s (anomaly z) = zRecord (s .soil) z
+
+-- those of months, one after another
+abbrev pub recordsOfMonths : Station → List Ask → List Record
+recordsOfMonths s [] = []
+recordsOfMonths s (a ∷ later) = recordFor s a ∷ recordsOfMonths (stationNext s a) later
+
+-- V after each of them
+abbrev pub vOfMonths : Station → List Ask → List ℤ
+vOfMonths s [] = []
+vOfMonths s (a ∷ later) = stationNext s a .values .v ∷ vOfMonths (stationNext s a) later
 
 -- the month's row
 abbrev pub stationRow : Station → Ask → Row

@@ -18,16 +18,26 @@ use Rattle.spells.specs.declared.Running.{Running}
 use Rattle.starts.specs.Start.{ones}
 use Rattle.runs.specs.declared.Run.{Run}
 use Rattle.series.specs.Series.{seriesRefusal}
-use Rattle.refusals.specs.Columns.{Columns, columns}
+use Rattle.refusals.specs.Book.{Book, book}
 use Rattle.drought.specs.Calls.{addZ}
 
--- columns of so many places, which hold another number each; and all of one length
-abbrev lentOf : ℕ → ℕ → ℕ → ℕ → ℕ → Columns
-lentOf x1 x2 x3 index mark =
-    columns (replicate x1 (pos 71)) (replicate x2 (pos 72)) (replicate x3 (pos 73)) (replicate index (pos 74)) (replicate mark 75)
+-- a record's numbers, another one each, but for the storages at its end
+abbrev pub endingIn : ℤ → ℤ → List ℤ
+endingIn surface underlying =
+    pos 81 ∷ pos 82 ∷ pos 83 ∷ pos 84 ∷ pos 85 ∷ pos 86 ∷ pos 87 ∷ pos 88 ∷ pos 89 ∷ surface ∷ underlying ∷ pos 92 ∷ []
 
-abbrev pub lent : ℕ → Columns
-lent n = lentOf n n n n n
+-- columns of so many places, which hold another number each, with records that end empty; and all of one length
+abbrev lentOf : ℕ → ℕ → ℕ → ℕ → ℕ → ℕ → ℕ → Book
+lentOf x1 x2 x3 index mark records v =
+    book (replicate x1 (pos 71)) (replicate x2 (pos 72)) (replicate x3 (pos 73)) (replicate index (pos 74)) (replicate mark 75) (replicate records (endingIn (pos 0) (pos 0)))
+    (replicate v (pos 76))
+
+abbrev pub lent : ℕ → Book
+lent n = lentOf n n n n n n n
+
+-- columns of three places, with these records
+abbrev lentWith : List ℤ → List ℤ → List ℤ → Book
+lentWith a b c = book (lent 3 .x1) (lent 3 .x2) (lent 3 .x3) (lent 3 .index) (lent 3 .mark) (a ∷ b ∷ c ∷ []) (lent 3 .v)
 
 -- a reading's number, or its thousandths where it is 0
 abbrev told : Outcome → ℤ
@@ -77,9 +87,11 @@ run n opens calendar soil values = record { months = n; opens = opens; calendar 
 abbrev pub soil : ℕ → ℕ → ℕ → Soil
 soil c ss su = record { capacity = c; surface = ss; underlying = su }
 
--- the number of an add of Z 0 to a run, on columns of three places
+-- the number of an add of Z 0 to a run, on columns of three places, whose records end with the run's storages
 abbrev number : Run → ℤ
-number r = pos (addZ r (pos 0) (lent 3) .answer .number)
+number r =
+    let n = endingIn (pos (r .soil .surface)) (pos (r .soil .underlying)) in
+    pos (addZ r (pos 0) (lentWith n n n) .answer .number)
 
 -- .. to one of so many months, so many of them open
 abbrev months : ℕ → ℕ → ℤ
@@ -106,6 +118,14 @@ vAtMost v =
 abbrev constant : ℕ → ℤ → ℤ
 constant place n =
     number (record { months = 2; opens = 0; calendar = 1; soil = soil 6000 0 0; values = fresh; constants = set ones place n })
+
+-- .. of a Z to a run of so many months, which stands at 300 and 5,000, with these three records
+abbrev ended : ℤ → ℕ → List ℤ → List ℤ → List ℤ → ℤ
+ended z n a b c = pos (addZ (run n 0 1 (soil 6000 300 5000) fresh) z (lentWith a b c) .answer .number)
+
+-- .. of Z 0 to one of two months, of which the last record ends with these storages, and no other with its own
+abbrev last : ℤ → ℤ → ℤ
+last surface underlying = ended (pos 0) 2 (endingIn (pos 0) (pos 0)) (endingIn surface underlying) (endingIn (pos 0) (pos 0))
 
 -- "Not a run", clause by clause, at its ends and past them
 abbrev runTable : List Row
@@ -155,10 +175,26 @@ runTable =
     ∷ (vAtMost 48001800001 gives pos 7)
     ∷ (values (pos 0) (pos 0) (pos 0) (pos 1) gives pos 7)
     ∷ (values (pos 0) (pos 0) (pos 0) (minus 1) gives pos 7)
+    -- E6, "after any month, the last row's end storages equal the run's": of the last row alone, and of both storages
+    ∷ (last (pos 300) (pos 5000) gives pos 0)
+    ∷ (last (pos 299) (pos 5000) gives pos 7)
+    ∷ (last (pos 301) (pos 5000) gives pos 7)
+    ∷ (last (pos 300) (pos 4999) gives pos 7)
+    ∷ (last (pos 300) (pos 5001) gives pos 7)
+    ∷ (last (pos 5000) (pos 300) gives pos 7)
+    ∷ (last (minus 300) (pos 5000) gives pos 7)
+    ∷ (last (pos 300) (minus 5000) gives pos 7)
+    ∷ (ended (pos 0) 2 (endingIn (pos 300) (pos 5000)) (endingIn (pos 0) (pos 0)) (endingIn (pos 300) (pos 5000)) gives pos 7)
+    -- after no month nothing is asked
+    ∷ (ended (pos 0) 0 (endingIn (pos 0) (pos 0)) (endingIn (pos 0) (pos 0)) (endingIn (pos 0) (pos 0)) gives pos 0)
+    -- "7 covers the new rule and keeps its place": before 12, and before 10
+    ∷ (ended (pos 4000001) 2 (endingIn (pos 0) (pos 0)) (endingIn (pos 0) (pos 0)) (endingIn (pos 0) (pos 0)) gives pos 7)
+    ∷ (ended (pos 0) 3 (endingIn (pos 300) (pos 5000)) (endingIn (pos 300) (pos 5000)) (endingIn (pos 0) (pos 0)) gives pos 7)
+    ∷ (ended (pos 0) 3 (endingIn (pos 0) (pos 0)) (endingIn (pos 0) (pos 0)) (endingIn (pos 300) (pos 5000)) gives pos 10)
     ∷ []
 
 -- the number of an add of a Z to a fresh run, on these columns
-abbrev added : ℤ → Columns → ℤ
+abbrev added : ℤ → Book → ℤ
 added z cs = pos (addZ (run 0 0 1 (soil 6000 0 0) fresh) z cs .answer .number)
 
 -- .. of a whole series of n times this Z, with lists of so many places
@@ -173,11 +209,14 @@ listTable =
     ∷ (added (minus 4000000) (lent 1) gives pos 0)
     ∷ (added (minus 4000001) (lent 1) gives pos 12)
     -- "1: the five columns .. not all of one length, or length 0"; E9, "1 now begins above 12,000"
-    ∷ (added (pos 0) (lentOf 2 1 1 1 1) gives pos 1)
-    ∷ (added (pos 0) (lentOf 1 2 1 1 1) gives pos 1)
-    ∷ (added (pos 0) (lentOf 1 1 2 1 1) gives pos 1)
-    ∷ (added (pos 0) (lentOf 1 1 1 2 1) gives pos 1)
-    ∷ (added (pos 0) (lentOf 1 1 1 1 2) gives pos 1)
+    ∷ (added (pos 0) (lentOf 2 1 1 1 1 1 1) gives pos 1)
+    ∷ (added (pos 0) (lentOf 1 2 1 1 1 1 1) gives pos 1)
+    ∷ (added (pos 0) (lentOf 1 1 2 1 1 1 1) gives pos 1)
+    ∷ (added (pos 0) (lentOf 1 1 1 2 1 1 1) gives pos 1)
+    ∷ (added (pos 0) (lentOf 1 1 1 1 2 1 1) gives pos 1)
+    -- E6, "1 covers the new columns"
+    ∷ (added (pos 0) (lentOf 1 1 1 1 1 2 1) gives pos 1)
+    ∷ (added (pos 0) (lentOf 1 1 1 1 1 1 2) gives pos 1)
     ∷ (added (pos 0) (lent 0) gives pos 1)
     ∷ (added (pos 0) (lent 1) gives pos 0)
     ∷ (added (pos 0) (lent 12000) gives pos 0)

@@ -11,7 +11,7 @@ use lib.ListN.{length, getD, take}
 use Rattle.outline.specs.Refusals.{badLists, notARun}
 use Rattle.calendar.specs.Calendar.{ZeroK}
 use Rattle.runs.specs.declared.Run.{Run}
-use Rattle.refusals.specs.Columns.{Columns, columnsFit}
+use Rattle.refusals.specs.Book.{Book, columnsFit}
 use Rattle.adding.specs.Figures.{noFigures}
 use Rattle.adding.specs.declared.Figures.{Figures}
 use Rattle.season.specs.Season.{SeasonResult, seasonResult, nothing, seasonRefusal, addSeason}
@@ -43,27 +43,29 @@ pub record Singly (s : State) (months : List Ask) (t : SeasonResult) : Type 0 wh
       (a : Ask) (earlier later : List Ask) → months ≡ earlier ++ (a ∷ later) → length earlier ≡ t .answer .added
       → (t .answer .number ≡ asked (leftOf t .run) a (leftOf t .columns) .answer .number) × (t .answer .number ≡ 0 → ⊥)
 
--- every place of the five columns from n on is as it was
-pub record SameFrom (n : ℕ) (cs ds : Columns) : Type 0 where
+-- every place of the five columns, of the records and of V from n on is as it was
+pub record SameFrom (n : ℕ) (cs ds : Book) : Type 0 where
   pub x1 : (i : ℕ) → n ≤ i → getD (ds .x1) i (pos 0) ≡ getD (cs .x1) i (pos 0)
   pub x2 : (i : ℕ) → n ≤ i → getD (ds .x2) i (pos 0) ≡ getD (cs .x2) i (pos 0)
   pub x3 : (i : ℕ) → n ≤ i → getD (ds .x3) i (pos 0) ≡ getD (cs .x3) i (pos 0)
   pub index : (i : ℕ) → n ≤ i → getD (ds .index) i (pos 0) ≡ getD (cs .index) i (pos 0)
   pub mark : (i : ℕ) → n ≤ i → getD (ds .mark) i 0 ≡ getD (cs .mark) i 0
+  pub records : (i : ℕ) → n ≤ i → getD (ds .records) i [] ≡ getD (cs .records) i []
+  pub v : (i : ℕ) → n ≤ i → getD (ds .v) i (pos 0) ≡ getD (cs .v) i (pos 0)
 
 pub record Seasons : Type 0 where
   -- 1 and 7, before the first month: nothing is added
-  pub refused : (r : Run) (ps pes : List ℤ) (cs : Columns) → (seasonRefusal r ps pes cs ≡ 0 → ⊥) → addSeason r ps pes cs ≡ seasonResult (nothing (seasonRefusal r ps pes cs) r) cs
+  pub refused : (r : Run) (ps pes : List ℤ) (cs : Book) → (seasonRefusal r ps pes cs ≡ 0 → ⊥) → addSeason r ps pes cs ≡ seasonResult (nothing (seasonRefusal r ps pes cs) r) cs
   -- 7 too where the run holds a K of 0
   pub zero-k :
-      (r : Run) (ps pes : List ℤ) (cs : Columns) → ZeroK (r .constants)
+      (r : Run) (ps pes : List ℤ) (cs : Book) → ZeroK (r .constants)
       → addSeason r ps pes cs .answer .number ≡ cond (eqb (length ps) (length pes) && columnsFit cs) notARun badLists
   -- otherwise it is what the single adds make of it
-  pub singly : (r : Run) (ps pes : List ℤ) (cs : Columns) → seasonRefusal r ps pes cs ≡ 0 → Singly (standing r cs) (monthsOf ps pes) (addSeason r ps pes cs)
+  pub singly : (r : Run) (ps pes : List ℤ) (cs : Book) → seasonRefusal r ps pes cs ≡ 0 → Singly (standing r cs) (monthsOf ps pes) (addSeason r ps pes cs)
   -- "Empty lists add nothing."
-  pub empty : (r : Run) (cs : Columns) → addSeason r [] [] cs ≡ seasonResult (nothing (seasonRefusal r [] [] cs) r) cs
+  pub empty : (r : Run) (cs : Book) → addSeason r [] [] cs ≡ seasonResult (nothing (seasonRefusal r [] [] cs) r) cs
   -- demand 1's "writes nothing": no place of the refused month or of those after it is written, nor any beyond the last month added
-  pub beyond : (r : Run) (ps pes : List ℤ) (cs : Columns) → SameFrom (r .months + addSeason r ps pes cs .answer .added) cs (addSeason r ps pes cs .columns)
+  pub beyond : (r : Run) (ps pes : List ℤ) (cs : Book) → SameFrom (r .months + addSeason r ps pes cs .answer .added) cs (addSeason r ps pes cs .columns)
   -- demand 3 and the rest of 1 and 2 as they stand: after any accepted months a season leaves what more accepted months leave
   pub more :
       (s : State) (asks : List Ask) (ps pes : List ℤ) → Accepted s asks

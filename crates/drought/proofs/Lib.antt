@@ -1,1 +1,2 @@
--- Nothing that other crates use.
+-- A month's two readings by one number (Joined).
+pub mod Joined

@@ -9,7 +9,10 @@ use adding::MonthAdded;
 use door::Answer;
 use door::MonthInches;
 use door::Reading;
+use outline::BAD_LISTS;
 use outline::MANY_CONSTANTS;
+use records::Record;
+use records::RecordNumbers;
 use runs::Progress;
 use runs::Run;
 use starts::Started;
@@ -19,13 +22,14 @@ ghost use Rattle.door.specs.Outcome.{outcome};
 ghost use Rattle.door.specs.Readings.{reading, mostReading};
 ghost use Rattle.starts.specs.Start.{startOf};
 ghost use Rattle.series.specs.Series.{filled, wholeSeries};
-ghost use Rattle.refusals.specs.Columns.{columns};
+ghost use Rattle.refusals.specs.Book.{book};
+ghost use Rattle.refusals.specs.Lent.{lentLong};
 ghost use Rattle.runs.specs.Progress.{runOf};
 ghost use Rattle.adding.specs.Taken.{result};
 ghost use Rattle.adding.specs.Progress.{addedOf};
-ghost use Rattle.drought.specs.Calls.{addOutcomes, addWater, addInches, addZ, rowOfRun};
+ghost use Rattle.drought.specs.Calls.{addOutcomes, addWater, addInches, addZ, notShown, rowOfRun};
 
-// What the five columns hold of a month.
+// What the columns hold of a month.
 #[repr(C)]
 pub struct Shown {
     pub number: u8,
@@ -34,6 +38,8 @@ pub struct Shown {
     pub x3: i32,
     pub index: i32,
     pub mark: u8,
+    pub month: Record,
+    pub v: i64,
 }
 
 // Reads a reading: 8 or 9.
@@ -60,18 +66,29 @@ pub fn add_water(
     x3: &mut [i32],
     index: &mut [i32],
     mark: &mut [u8],
+    records: &mut [RecordNumbers],
+    v: &mut [i64],
 ) -> Added
-    ensures { λ a. ⌜ result a (columns (now (x1 .exit)) (now (x2 .exit)) (now (x3 .exit)) (now (index .exit)) (now (mark .exit))) ≡ addWater run p pe (columns (now (x1 .entry)) (now (x2 .entry)) (now (x3 .entry)) (now (index .entry)) (now (mark .entry))) ⌝ }
+    ensures { λ a. ⌜ result a (book (now (x1 .exit)) (now (x2 .exit)) (now (x3 .exit)) (now (index .exit)) (now (mark .exit)) (now (records .exit)) (now (v .exit))) ≡ addWater run p pe (book (now (x1 .entry)) (now (x2 .entry)) (now (x3 .entry)) (now (index .entry)) (now (mark .entry)) (now (records .entry)) (now (v .entry))) ⌝ }
 {
     let a = door::read(p);
     let b = door::read(pe);
     let at = runs::progress_of(run);
     let constants = run.constants;
+    let n = refusals::lent_length(
+        x1.len(),
+        x2.len(),
+        x3.len(),
+        index.len(),
+        mark.len(),
+        records.len(),
+        v.len(),
+    );
     let t = try_water(
+        n,
         at,
         &constants,
-        door::number(a),
-        door::number(b),
+        refusals::reading_refusal(door::number(a), door::number(b)),
         door::water(a),
         door::water(b),
         x1,
@@ -79,6 +96,8 @@ pub fn add_water(
         x3,
         index,
         mark,
+        records,
+        v,
     );
     adding::answer_of(t, constants)
 }
@@ -92,19 +111,30 @@ pub fn add_inches(
     x3: &mut [i32],
     index: &mut [i32],
     mark: &mut [u8],
+    records: &mut [RecordNumbers],
+    v: &mut [i64],
 ) -> Added
-    ensures { λ a. ⌜ result a (columns (now (x1 .exit)) (now (x2 .exit)) (now (x3 .exit)) (now (index .exit)) (now (mark .exit))) ≡ addInches run q (columns (now (x1 .entry)) (now (x2 .entry)) (now (x3 .entry)) (now (index .entry)) (now (mark .entry))) ⌝ }
+    ensures { λ a. ⌜ result a (book (now (x1 .exit)) (now (x2 .exit)) (now (x3 .exit)) (now (index .exit)) (now (mark .exit)) (now (records .exit)) (now (v .exit))) ≡ addInches run q (book (now (x1 .entry)) (now (x2 .entry)) (now (x3 .entry)) (now (index .entry)) (now (mark .entry)) (now (records .entry)) (now (v .entry))) ⌝ }
 {
     let both = door::read_month(q);
     let a = both.p;
     let b = both.pe;
     let at = runs::progress_of(run);
     let constants = run.constants;
+    let n = refusals::lent_length(
+        x1.len(),
+        x2.len(),
+        x3.len(),
+        index.len(),
+        mark.len(),
+        records.len(),
+        v.len(),
+    );
     let t = try_water(
+        n,
         at,
         &constants,
-        door::number(a),
-        door::number(b),
+        refusals::reading_refusal(door::number(a), door::number(b)),
         door::water(a),
         door::water(b),
         x1,
@@ -112,17 +142,19 @@ pub fn add_inches(
         x3,
         index,
         mark,
+        records,
+        v,
     );
     adding::answer_of(t, constants)
 }
 
-// A month of water by the numbers and the thousandths that its two readings answer, added or refused. They come as numbers
-// and not as answers, which would be put together for the call and taken apart after it.
+// A month of water by the number and the thousandths that its two readings come to, added or refused. They come as numbers
+// and not as answers, which would be put together for the call and taken apart after it; and n is what is lent, measured.
 fn try_water(
+    n: usize,
     at: Progress,
     constants: &[i32; MANY_CONSTANTS],
-    first: u8,
-    second: u8,
+    reading: u8,
     p: u32,
     pe: u32,
     x1: &mut [i32],
@@ -130,15 +162,18 @@ fn try_water(
     x3: &mut [i32],
     index: &mut [i32],
     mark: &mut [u8],
+    records: &mut [RecordNumbers],
+    v: &mut [i64],
 ) -> MonthAdded
+    requires { ⌜ n ≡ lentLong (book (now x1) (now x2) (now x3) (now index) (now mark) (now records) (now v)) ⌝ }
     requires { ⌜ (p ≤ mostReading) × (pe ≤ mostReading) ⌝ }
-    ensures { λ t. ⌜ result (addedOf t (now (constants .entry))) (columns (now (x1 .exit)) (now (x2 .exit)) (now (x3 .exit)) (now (index .exit)) (now (mark .exit))) ≡ addOutcomes (runOf at (now (constants .entry))) (record { number = first; water = p }) (record { number = second; water = pe }) (columns (now (x1 .entry)) (now (x2 .entry)) (now (x3 .entry)) (now (index .entry)) (now (mark .entry))) ⌝ }
+    ensures { λ t. ⌜ result (addedOf t (now (constants .entry))) (book (now (x1 .exit)) (now (x2 .exit)) (now (x3 .exit)) (now (index .exit)) (now (mark .exit)) (now (records .exit)) (now (v .exit))) ≡ addOutcomes (runOf at (now (constants .entry))) (record { number = reading; water = p }) (record { number = 0; water = pe }) (book (now (x1 .entry)) (now (x2 .entry)) (now (x3 .entry)) (now (index .entry)) (now (mark .entry)) (now (records .entry)) (now (v .entry))) ⌝ }
 {
-    let number = refusals::water_refusal(at, constants, first, second, x1, x2, x3, index, mark);
+    let number = refusals::water_refusal(n, at, constants, reading, records);
     if number != 0 {
         return adding::refuse(number, at);
     }
-    adding::add_measured(at, constants, p, pe, x1, x2, x3, index, mark)
+    adding::add_measured(at, constants, p, pe, x1, x2, x3, index, mark, records, v)
 }
 
 // Adds a Z: the storages stay, the calendar moves on. 1, 7, 12, 10.
@@ -150,12 +185,14 @@ pub fn add_z(
     x3: &mut [i32],
     index: &mut [i32],
     mark: &mut [u8],
+    records: &mut [RecordNumbers],
+    v: &mut [i64],
 ) -> Added
-    ensures { λ a. ⌜ result a (columns (now (x1 .exit)) (now (x2 .exit)) (now (x3 .exit)) (now (index .exit)) (now (mark .exit))) ≡ addZ run z (columns (now (x1 .entry)) (now (x2 .entry)) (now (x3 .entry)) (now (index .entry)) (now (mark .entry))) ⌝ }
+    ensures { λ a. ⌜ result a (book (now (x1 .exit)) (now (x2 .exit)) (now (x3 .exit)) (now (index .exit)) (now (mark .exit)) (now (records .exit)) (now (v .exit))) ≡ addZ run z (book (now (x1 .entry)) (now (x2 .entry)) (now (x3 .entry)) (now (index .entry)) (now (mark .entry)) (now (records .entry)) (now (v .entry))) ⌝ }
 {
     let at = runs::progress_of(run);
     let constants = run.constants;
-    let t = try_z(at, &constants, z, x1, x2, x3, index, mark);
+    let t = try_z(at, &constants, z, x1, x2, x3, index, mark, records, v);
     adding::answer_of(t, constants)
 }
 
@@ -169,14 +206,25 @@ fn try_z(
     x3: &mut [i32],
     index: &mut [i32],
     mark: &mut [u8],
+    records: &mut [RecordNumbers],
+    v: &mut [i64],
 ) -> MonthAdded
-    ensures { λ t. ⌜ result (addedOf t (now (constants .entry))) (columns (now (x1 .exit)) (now (x2 .exit)) (now (x3 .exit)) (now (index .exit)) (now (mark .exit))) ≡ addZ (runOf at (now (constants .entry))) z (columns (now (x1 .entry)) (now (x2 .entry)) (now (x3 .entry)) (now (index .entry)) (now (mark .entry))) ⌝ }
+    ensures { λ t. ⌜ result (addedOf t (now (constants .entry))) (book (now (x1 .exit)) (now (x2 .exit)) (now (x3 .exit)) (now (index .exit)) (now (mark .exit)) (now (records .exit)) (now (v .exit))) ≡ addZ (runOf at (now (constants .entry))) z (book (now (x1 .entry)) (now (x2 .entry)) (now (x3 .entry)) (now (index .entry)) (now (mark .entry)) (now (records .entry)) (now (v .entry))) ⌝ }
 {
-    let number = refusals::z_refusal(at, constants, z, x1, x2, x3, index, mark);
+    let n = refusals::lent_length(
+        x1.len(),
+        x2.len(),
+        x3.len(),
+        index.len(),
+        mark.len(),
+        records.len(),
+        v.len(),
+    );
+    let number = refusals::z_refusal(n, at, constants, z, records);
     if number != 0 {
         return adding::refuse(number, at);
     }
-    adding::add_z(at, z, x1, x2, x3, index, mark)
+    adding::add_z(at, z, x1, x2, x3, index, mark, records, v)
 }
 
 // Shows a month's row, from 0 on: 1, 7, 11.
@@ -188,22 +236,29 @@ pub fn row(
     x3: &[i32],
     index: &[i32],
     mark: &[u8],
+    records: &[RecordNumbers],
+    v: &[i64],
 ) -> Shown
-    ensures { λ r. ⌜ r ≡ rowOfRun run i (columns (now (x1 .entry)) (now (x2 .entry)) (now (x3 .entry)) (now (index .entry)) (now (mark .entry))) ⌝ }
+    ensures { λ r. ⌜ r ≡ rowOfRun run i (book (now (x1 .entry)) (now (x2 .entry)) (now (x3 .entry)) (now (index .entry)) (now (mark .entry)) (now (records .entry)) (now (v .entry))) ⌝ }
 {
+    if !refusals::lengths_fit(
+        x1.len(),
+        x2.len(),
+        x3.len(),
+        index.len(),
+        mark.len(),
+        records.len(),
+        v.len(),
+    ) {
+        return not_shown(BAD_LISTS);
+    }
     let at = runs::progress_of(run);
     let constants = run.constants;
-    let number = refusals::row_refusal(at, &constants, i, x1, x2, x3, index, mark);
+    let number = refusals::row_refusal(x1.len(), at, &constants, i, records);
     if number != 0 {
-        return Shown {
-            number,
-            x1: 0,
-            x2: 0,
-            x3: 0,
-            index: 0,
-            mark: 0,
-        };
+        return not_shown(number);
     }
+    let kept = records::record_at(records, i);
     Shown {
         number: 0,
         x1: x1[i],
@@ -211,6 +266,25 @@ pub fn row(
         x3: x3[i],
         index: index[i],
         mark: mark[i],
+        month: kept,
+        v: v[i],
+    }
+}
+
+// A row that is refused: its number, and all else 0.
+fn not_shown(number: u8) -> Shown
+    ensures { λ r. ⌜ r ≡ notShown number ⌝ }
+{
+    let none = records::no_record();
+    Shown {
+        number,
+        x1: 0,
+        x2: 0,
+        x3: 0,
+        index: 0,
+        mark: 0,
+        month: none,
+        v: 0,
     }
 }
 

@@ -2,7 +2,7 @@
 -- first of several is the call's, and it stands in for what the call would have done. Assumes nothing.
 use Prim.Native.Nat.{ℕ, zero, suc}
 
--- 1: the five columns, or the three lists of a whole series, not all of one length, or length 0 or, E9, "above 12,000"
+-- 1: the five columns and, E6, the lists beside them, or the three lists of a whole series, not all of one length, or length 0 or, E9, "above 12,000"
 abbrev pub badLists : ℕ
 badLists = 1
 

@@ -4,6 +4,8 @@
 use palmer_input::Session;
 use palmer_output::MOST_LINES;
 use quoted::Start;
+use records::NUMBERS;
+use records::RecordNumbers;
 use runs::Run;
 
 // No line is at fault yet.
@@ -37,6 +39,8 @@ fn read_some(
     x3: &mut [i32],
     index: &mut [i32],
     mark: &mut [u8],
+    records: &mut [RecordNumbers],
+    v: &mut [i64],
     percent: &mut [u32],
 ) -> Heard {
     let piece = stdio::read(buffer);
@@ -49,7 +53,18 @@ fn read_some(
             start,
         };
     }
-    let next = palmer_input::take(session, &buffer[..n], x1, x2, x3, index, mark, percent);
+    let next = palmer_input::take(
+        session,
+        &buffer[..n],
+        x1,
+        x2,
+        x3,
+        index,
+        mark,
+        records,
+        v,
+        percent,
+    );
     let refused = next.refused;
     let run = next.run;
     let come = quoted::heed(start, line_at_fault(refused, run.months), &buffer[..n]);
@@ -69,6 +84,8 @@ fn read_all(
     x3: &mut [i32],
     index: &mut [i32],
     mark: &mut [u8],
+    records: &mut [RecordNumbers],
+    v: &mut [i64],
     percent: &mut [u32],
 ) -> Heard {
     let fresh = palmer_input::begin();
@@ -83,7 +100,19 @@ fn read_all(
     while left > 0 {
         let session = heard.session;
         let start = heard.start;
-        heard = read_some(session, start, buffer, x1, x2, x3, index, mark, percent);
+        heard = read_some(
+            session,
+            start,
+            buffer,
+            x1,
+            x2,
+            x3,
+            index,
+            mark,
+            records,
+            v,
+            percent,
+        );
         left = stdio::reads_left(left, heard.ended);
     }
     heard
@@ -98,10 +127,24 @@ fn print_output(
     x3: &[i32],
     index: &[i32],
     mark: &[u8],
+    records: &[RecordNumbers],
+    v: &[i64],
     percent: &[u32],
 ) {
     let mut out = palmer_output::make_room();
-    let end = palmer_output::put_output(&mut out, number, run, x1, x2, x3, index, mark, percent);
+    let end = palmer_output::put_output(
+        &mut out,
+        number,
+        run,
+        x1,
+        x2,
+        x3,
+        index,
+        mark,
+        records,
+        v,
+        percent,
+    );
     stdio::write_out(b"palmer", &out[..end]);
 }
 
@@ -114,14 +157,37 @@ fn print(
     x3: &[i32],
     index: &[i32],
     mark: &[u8],
+    records: &[RecordNumbers],
+    v: &[i64],
     percent: &[u32],
 ) {
     let run = s.run;
     let number = s.refused;
-    print_output(number, run, x1, x2, x3, index, mark, percent);
+    print_output(number, run, x1, x2, x3, index, mark, records, v, percent);
     if number != 0 {
         words::explain(palmer_output::line_after(run.months), number, start);
     }
+}
+
+// Closes the last line, and writes what comes of the input or that it cannot be read.
+fn finish(
+    heard: Heard,
+    x1: &mut [i32],
+    x2: &mut [i32],
+    x3: &mut [i32],
+    index: &mut [i32],
+    mark: &mut [u8],
+    records: &mut [RecordNumbers],
+    v: &mut [i64],
+    percent: &mut [u32],
+) {
+    if heard.failed {
+        stdio::say_unread(b"palmer");
+        return;
+    }
+    let read = heard.session;
+    let s = palmer_input::end(read, x1, x2, x3, index, mark, records, v, percent);
+    print(s, heard.start, x1, x2, x3, index, mark, records, v, percent);
 }
 
 fn main() {
@@ -130,6 +196,8 @@ fn main() {
     let mut x3 = [0i32; MOST_LINES];
     let mut index = [0i32; MOST_LINES];
     let mut mark = [0u8; MOST_LINES];
+    let mut records = [[0i32; NUMBERS]; MOST_LINES];
+    let mut v = [0i64; MOST_LINES];
     let mut percent = [0u32; MOST_LINES];
     let mut text = io::large_buffer();
     let heard = read_all(
@@ -139,21 +207,19 @@ fn main() {
         &mut x3,
         &mut index,
         &mut mark,
+        &mut records,
+        &mut v,
         &mut percent,
     );
-    if heard.failed {
-        stdio::say_unread(b"palmer");
-        return;
-    }
-    let read = heard.session;
-    let s = palmer_input::end(
-        read,
+    finish(
+        heard,
         &mut x1,
         &mut x2,
         &mut x3,
         &mut index,
         &mut mark,
+        &mut records,
+        &mut v,
         &mut percent,
     );
-    print(s, heard.start, &x1, &x2, &x3, &index, &mark, &percent);
 }

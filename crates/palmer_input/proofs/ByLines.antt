@@ -15,7 +15,7 @@ use Rattle.lines.specs.Line.{Judged, judged, begun}
 use Rattle.lines.specs.Reading.{opens, fed}
 use Rattle.lines.specs.declared.Line.{Line}
 use Rattle.lines.proofs.Lines.{streamed}
-use Rattle.refusals.specs.Columns.{Columns}
+use Rattle.refusals.specs.Book.{Book}
 use Rattle.palmer_input.specs.ByLines.{State, state, withZ, heardWith, heardAs, heard}
 use Rattle.palmer_input.specs.Input.{isBlank, lineClosed, byteFed, inputEnded}
 use Rattle.palmer_input.proofs.Steps.{byte-closes, byte-within, byte-refused, end-closes, end-blank, end-refused}
@@ -52,7 +52,7 @@ closed-heard : (t : State) (line : List ℕ) → t .session .refused ≡ 0 → l
 unfolding lineClosed heard
 closed-heard t line k = ap (λ (j : Judged). heardAs j (t .session .run) (t .columns) (t .percents)) (streamed line) ∙ sym (is-done _ _ t k)
 
-begins : (j : Judged) (run : Run) (cs : Columns) (ps : List ℕ) (n : ℕ) → heardWith n (j .z) run cs ps .session .line ≡ begun
+begins : (j : Judged) (run : Run) (cs : Book) (ps : List ℕ) (n : ℕ) → heardWith n (j .z) run cs ps .session .line ≡ begun
 unfolding withZ
 begins j run cs ps zero = refl
 begins j run cs ps (suc n) = refl

@@ -9,19 +9,19 @@ use Rattle.outline.specs.Refusals.{unlessRefused}
 use Rattle.lines.specs.Line.{Judged, judged, begun}
 use Rattle.starts.specs.Start.{runForZ}
 use Rattle.runs.specs.declared.Run.{Run}
-use Rattle.refusals.specs.Columns.{Columns}
+use Rattle.refusals.specs.Book.{Book}
 use Rattle.drought.specs.Calls.{addZ}
 use Rattle.adding.specs.Taken.{Result}
 use Rattle.palmer_input.specs.declared.Session.{Session}
 
--- what is held: the session, the five columns, and each month's percent. Of the session only the refusal and the run are looked at here: between
+-- what is held: the session, the lent lists, and each month's percent. Of the session only the refusal and the run are looked at here: between
 -- two lines its line has only begun
 pub record State : Type 0 where
   pub session : Session
-  pub columns : Columns
+  pub columns : Book
   pub percents : List ℕ
 
-abbrev pub state : Session → Columns → List ℕ → State
+abbrev pub state : Session → Book → List ℕ → State
 state s cs ps = record { session = s; columns = cs; percents = ps }
 
 -- a fresh run, and nothing read
@@ -40,14 +40,14 @@ afterLine k r = record { line = begun; refused = k; run = r }
 abbrev pub afterAdd : ℕ → Result → List ℕ → State
 afterAdd at r ps = state (afterLine (r .answer .number) (r .answer .run)) (r .columns) (percentKept (r .answer .number) at (r .answer .figures .percent) ps)
 
-unfoldable pub withZ : Run → ℤ → Columns → List ℕ → State
+unfoldable pub withZ : Run → ℤ → Book → List ℕ → State
 withZ run z cs ps = afterAdd (run .months) (addZ run z cs) ps
 
 -- a line, by what it says
-abbrev pub heardWith : ℕ → ℤ → Run → Columns → List ℕ → State
+abbrev pub heardWith : ℕ → ℤ → Run → Book → List ℕ → State
 heardWith k z run cs ps = unlessRefused k (withZ run z cs ps) (state (afterLine k run) cs ps)
 
-abbrev pub heardAs : Judged → Run → Columns → List ℕ → State
+abbrev pub heardAs : Judged → Run → Book → List ℕ → State
 heardAs j run cs ps = heardWith (j .number) (j .z) run cs ps
 
 -- a whole line heard; after a refusal nothing is

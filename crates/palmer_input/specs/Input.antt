@@ -9,11 +9,11 @@ use Rattle.text.specs.Bytes.{lineFeed}
 use Rattle.lines.specs.Reading.{fed, finished}
 use Rattle.lines.specs.declared.Line.{Line}
 use Rattle.runs.specs.declared.Run.{Run}
-use Rattle.refusals.specs.Columns.{Columns}
+use Rattle.refusals.specs.Book.{Book}
 use Rattle.palmer_input.specs.ByLines.{State, state, heardAs}
 
 -- a line closed
-unfoldable pub lineClosed : Line → Run → Columns → List ℕ → State
+unfoldable pub lineClosed : Line → Run → Book → List ℕ → State
 lineClosed line run cs ps = heardAs (finished line) run cs ps
 
 abbrev pub withByte : State → ℕ → State

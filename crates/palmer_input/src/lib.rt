@@ -8,10 +8,11 @@ use outline::BAD_Z;
 use outline::MANY_CONSTANTS;
 use outline::NOT_A_NUMBER;
 use ranges::LEAST_CAPACITY;
+use records::RecordNumbers;
 use runs::Run;
 ghost use mathlib.Core.Path.{_≡_};
 ghost use mathlib.Core.List.{foldl};
-ghost use Rattle.refusals.specs.Columns.{columns};
+ghost use Rattle.refusals.specs.Book.{book};
 ghost use Rattle.starts.specs.Start.{runForZ};
 ghost use Rattle.palmer_input.specs.ByLines.{state, fresh, percentKept, afterLine, withZ};
 ghost use Rattle.palmer_input.specs.Input.{isBlank, lineClosed, byteFed, inputEnded};
@@ -78,12 +79,14 @@ fn add_line(
     x3: &mut [i32],
     index: &mut [i32],
     mark: &mut [u8],
+    records: &mut [RecordNumbers],
+    v: &mut [i64],
     percent: &mut [u32],
 ) -> Session
-    ensures { λ s. ⌜ state s (columns (now (x1 .exit)) (now (x2 .exit)) (now (x3 .exit)) (now (index .exit)) (now (mark .exit))) (now (percent .exit)) ≡ withZ run z (columns (now (x1 .entry)) (now (x2 .entry)) (now (x3 .entry)) (now (index .entry)) (now (mark .entry))) (now (percent .entry)) ⌝ }
+    ensures { λ s. ⌜ state s (book (now (x1 .exit)) (now (x2 .exit)) (now (x3 .exit)) (now (index .exit)) (now (mark .exit)) (now (records .exit)) (now (v .exit))) (now (percent .exit)) ≡ withZ run z (book (now (x1 .entry)) (now (x2 .entry)) (now (x3 .entry)) (now (index .entry)) (now (mark .entry)) (now (records .entry)) (now (v .entry))) (now (percent .entry)) ⌝ }
 {
     let at = run.months as usize;
-    let a = drought::add_z(run, z, x1, x2, x3, index, mark);
+    let a = drought::add_z(run, z, x1, x2, x3, index, mark, records, v);
     let number = a.number;
     let figures = a.figures;
     put_percent(number, at, figures.percent, percent);
@@ -99,13 +102,15 @@ fn close_line(
     x3: &mut [i32],
     index: &mut [i32],
     mark: &mut [u8],
+    records: &mut [RecordNumbers],
+    v: &mut [i64],
     percent: &mut [u32],
 ) -> Session
-    ensures { λ s. ⌜ state s (columns (now (x1 .exit)) (now (x2 .exit)) (now (x3 .exit)) (now (index .exit)) (now (mark .exit))) (now (percent .exit)) ≡ lineClosed line run (columns (now (x1 .entry)) (now (x2 .entry)) (now (x3 .entry)) (now (index .entry)) (now (mark .entry))) (now (percent .entry)) ⌝ }
+    ensures { λ s. ⌜ state s (book (now (x1 .exit)) (now (x2 .exit)) (now (x3 .exit)) (now (index .exit)) (now (mark .exit)) (now (records .exit)) (now (v .exit))) (now (percent .exit)) ≡ lineClosed line run (book (now (x1 .entry)) (now (x2 .entry)) (now (x3 .entry)) (now (index .entry)) (now (mark .entry)) (now (records .entry)) (now (v .entry))) (now (percent .entry)) ⌝ }
 {
     let r = lines::finish(line);
     match r {
-        Read::Z(z) => add_line(run, z, x1, x2, x3, index, mark, percent),
+        Read::Z(z) => add_line(run, z, x1, x2, x3, index, mark, records, v, percent),
         Read::OutOfRange => after_line(BAD_Z, run),
         Read::NotANumber => after_line(NOT_A_NUMBER, run),
     }
@@ -120,9 +125,11 @@ pub fn take(
     x3: &mut [i32],
     index: &mut [i32],
     mark: &mut [u8],
+    records: &mut [RecordNumbers],
+    v: &mut [i64],
     percent: &mut [u32],
 ) -> Session
-    ensures { λ r. ⌜ state r (columns (now (x1 .exit)) (now (x2 .exit)) (now (x3 .exit)) (now (index .exit)) (now (mark .exit))) (now (percent .exit)) ≡ foldl byteFed (state s (columns (now (x1 .entry)) (now (x2 .entry)) (now (x3 .entry)) (now (index .entry)) (now (mark .entry))) (now (percent .entry))) (now (bytes .entry)) ⌝ }
+    ensures { λ r. ⌜ state r (book (now (x1 .exit)) (now (x2 .exit)) (now (x3 .exit)) (now (index .exit)) (now (mark .exit)) (now (records .exit)) (now (v .exit))) (now (percent .exit)) ≡ foldl byteFed (state s (book (now (x1 .entry)) (now (x2 .entry)) (now (x3 .entry)) (now (index .entry)) (now (mark .entry)) (now (records .entry)) (now (v .entry))) (now (percent .entry))) (now (bytes .entry)) ⌝ }
 {
     let mut line = s.line;
     let mut refused = s.refused;
@@ -132,7 +139,7 @@ pub fn take(
         if refused == 0 {
             let b = bytes[i];
             if b == LINE_FEED {
-                let c = close_line(line, run, x1, x2, x3, index, mark, percent);
+                let c = close_line(line, run, x1, x2, x3, index, mark, records, v, percent);
                 line = c.line;
                 refused = c.refused;
                 run = c.run;
@@ -153,9 +160,11 @@ pub fn end(
     x3: &mut [i32],
     index: &mut [i32],
     mark: &mut [u8],
+    records: &mut [RecordNumbers],
+    v: &mut [i64],
     percent: &mut [u32],
 ) -> Session
-    ensures { λ r. ⌜ state r (columns (now (x1 .exit)) (now (x2 .exit)) (now (x3 .exit)) (now (index .exit)) (now (mark .exit))) (now (percent .exit)) ≡ inputEnded (state s (columns (now (x1 .entry)) (now (x2 .entry)) (now (x3 .entry)) (now (index .entry)) (now (mark .entry))) (now (percent .entry))) ⌝ }
+    ensures { λ r. ⌜ state r (book (now (x1 .exit)) (now (x2 .exit)) (now (x3 .exit)) (now (index .exit)) (now (mark .exit)) (now (records .exit)) (now (v .exit))) (now (percent .exit)) ≡ inputEnded (state s (book (now (x1 .entry)) (now (x2 .entry)) (now (x3 .entry)) (now (index .entry)) (now (mark .entry)) (now (records .entry)) (now (v .entry))) (now (percent .entry))) ⌝ }
 {
     let line = s.line;
     let run = s.run;
@@ -165,7 +174,7 @@ pub fn end(
     if is_blank(line) {
         return s;
     }
-    close_line(line, run, x1, x2, x3, index, mark, percent)
+    close_line(line, run, x1, x2, x3, index, mark, records, v, percent)
 }
 
 // Whether a line has not begun.

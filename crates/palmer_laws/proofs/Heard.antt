@@ -13,10 +13,13 @@ use Rattle.runs.specs.declared.Run.{Run}
 use Rattle.starts.specs.Start.{ones}
 use Rattle.starts.proofs.Theorems.{start-is-run, z-starts}
 use Rattle.lines.specs.Line.{wellFormed, value, ranged, judged}
-use Rattle.refusals.specs.Columns.{Columns, long, lengthsFit, columnsFit}
+use Rattle.records.specs.Record.{zRecord}
+use Rattle.records.specs.declared.Record.{Record}
+use Rattle.records.proofs.Meeting.{after-none}
+use Rattle.refusals.specs.Book.{Book, long, lengthsFit, columnsFit}
 use Rattle.refusals.specs.Good.{Good}
-use Rattle.refusals.specs.Refusals.{roomRefusal, zRefusal}
-use Rattle.refusals.proofs.Refused.{good-passes, z-passes}
+use Rattle.refusals.specs.Refusals.{isRunOf, roomRefusal, zRefusal}
+use Rattle.refusals.proofs.Refused.{good-passes, parts-run, z-passes}
 use Rattle.adding.specs.Figures.{noWater}
 use Rattle.adding.specs.Taken.{taken}
 use Rattle.adding.proofs.Readiness.{run-is}
@@ -42,13 +45,18 @@ blank-fits : columnsFit (start .columns) ≡ true
 unfolding lengthsFit lengthFits
 blank-fits = refl
 
+begins-run : isRunOf (start .columns) (start .session .run) ≡ true
+begins-run =
+    parts-run (start .session .run) (start .columns) (start-is-run ones (pos leastCapacity) (pos 0) (pos 0) (pos 1) z-starts (long (start .columns)))
+    (after-none (start .session .run .soil) (start .columns .records) 0 refl)
+
 pub begins : Sound 0 start
 begins =
     record {
       none-refused = refl;
       months = refl;
       columns-long = refl;
-      good = record { fit = blank-fits; run = start-is-run ones (pos leastCapacity) (pos 0) (pos 0) (pos 1) z-starts (long (start .columns)) };
+      good = record { fit = blank-fits; run = begins-run };
     }
 
 -- ---- what a heard line leaves, by its refusal
@@ -72,7 +80,7 @@ module _ (n : ℕ) (t : State) (s : Sound n t) where
   abbrev run : Run
   run = t .session .run
 
-  abbrev cs : Columns
+  abbrev cs : Book
   cs = t .columns
 
   z-refused : (z : ℤ) → zFits z ≡ true → zRefusal run z cs ≡ roomRefusal mostLines n
@@ -84,6 +92,7 @@ module _ (n : ℕ) (t : State) (s : Sound n t) where
   added z zero e =
       let g = z-passes run cs z e in
       let f = run-is run cs (s .good) .soil in
+      let kept : Record = zRecord (run .soil) z in
       rw e
       (record {
         number = refl;
@@ -91,8 +100,8 @@ module _ (n : ℕ) (t : State) (s : Sound n t) where
             λ _. record {
               none-refused = refl;
               months = ap suc (s .months);
-              columns-long = long-kept run cs (s .good) (g .1) (run .soil) f noWater z (g .2) ∙ s .columns-long;
-              good = good-taken run cs (s .good) (g .1) (run .soil) f noWater z (g .2);
+              columns-long = long-kept run cs (s .good) (g .1) (run .soil) f noWater z (g .2) kept ∙ s .columns-long;
+              good = good-taken run cs (s .good) (g .1) (run .soil) f noWater z (g .2) kept refl refl;
             };
         stays = λ h. absurd (h refl);
       })

@@ -15,8 +15,9 @@ use Rattle.calendar.specs.Calendar.{constantsAt, zeroKWithin, nextCalendar}
 use Rattle.runs.specs.Runs.{soilFits, sizesFit, signsFit, vFits, isRun}
 use Rattle.lines.specs.Line.{oneOrMore, wellFormed, signed, value, ranged, judged}
 use Rattle.rows.specs.Text.{digitsWithin, numeral, integer, letter, rowText, refusedText}
-use Rattle.refusals.specs.Columns.{lengthsFit}
-use Rattle.refusals.specs.Refusals.{runRefusal, roomRefusal, zRefusal, rowRefusal}
+use Rattle.records.specs.Ends.{amounts, endsMeet}
+use Rattle.refusals.specs.Book.{lengthsFit}
+use Rattle.refusals.specs.Refusals.{isRunFor, runRefusal, roomRefusal, zRefusal, rowRefusal}
 use Rattle.adding.specs.Taken.{taken}
 use Rattle.drought.specs.Calls.{addZ, rowOfRun}
 use Rattle.palmer_input.specs.ByLines.{withZ, heard}
@@ -26,7 +27,7 @@ use Rattle.palmer_laws.specs.Refused.{lineRefusal}
 
 -- "Input -3000, 1040, 0 prints": "1 0 0 -1000 0 -1000 S", "2 347 0 -550 99 347 S" and "3 311 0 0 100 311 S"
 pub outlined : palmerOf (45 ∷ 51 ∷ 48 ∷ 48 ∷ 48 ∷ 10 ∷ 49 ∷ 48 ∷ 52 ∷ 48 ∷ 10 ∷ 48 ∷ 10 ∷ []) ≡ (49 ∷ 32 ∷ 48 ∷ 32 ∷ 48 ∷ 32 ∷ 45 ∷ 49 ∷ 48 ∷ 48 ∷ 48 ∷ 32 ∷ 48 ∷ 32 ∷ 45 ∷ 49 ∷ 48 ∷ 48 ∷ 48 ∷ 32 ∷ 83 ∷ 10 ∷ 50 ∷ 32 ∷ 51 ∷ 52 ∷ 55 ∷ 32 ∷ 48 ∷ 32 ∷ 45 ∷ 53 ∷ 53 ∷ 48 ∷ 32 ∷ 57 ∷ 57 ∷ 32 ∷ 51 ∷ 52 ∷ 55 ∷ 32 ∷ 83 ∷ 10 ∷ 51 ∷ 32 ∷ 51 ∷ 49 ∷ 49 ∷ 32 ∷ 48 ∷ 32 ∷ 48 ∷ 32 ∷ 49 ∷ 48 ∷ 48 ∷ 32 ∷ 51 ∷ 49 ∷ 49 ∷ 32 ∷ 83 ∷ 10 ∷ [])
-unfolding lastLine cut linesOf isDigit negative body oneOrMore allDigits wellFormed natural signed value zFits ranged judged nearest nearestℕ nextOf turn uOf vOf eOf qOf endingOf percentOf raised lowered largerInSize provisional steadyMonth abatingValues abatingMonth founded unfounded tried noSpell endingMonth inForce stepOf surfaceHolds underlyingHolds limitOf constantFits constantsFitTo constantsAt zeroKWithin calendarFits nextCalendar lengthFits soilFits sizesFit signsFit vFits isRun lengthsFit runRefusal roomRefusal zRefusal rowRefusal taken addZ rowOfRun withZ heard percentAt rowAt rowsText printedFrom palmerOf digitsWithin numeral integer letter rowText refusedText
+unfolding lastLine cut linesOf isDigit negative body oneOrMore allDigits wellFormed natural signed value zFits ranged judged nearest nearestℕ nextOf turn uOf vOf eOf qOf endingOf percentOf raised lowered largerInSize provisional steadyMonth abatingValues abatingMonth founded unfounded tried noSpell endingMonth inForce stepOf surfaceHolds underlyingHolds limitOf constantFits constantsFitTo constantsAt zeroKWithin calendarFits nextCalendar lengthFits soilFits sizesFit signsFit vFits isRun amounts endsMeet lengthsFit isRunFor runRefusal roomRefusal zRefusal rowRefusal taken addZ rowOfRun withZ heard percentAt rowAt rowsText printedFrom palmerOf digitsWithin numeral integer letter rowText refusedText
 outlined = refl
 
 -- "Empty input prints nothing"

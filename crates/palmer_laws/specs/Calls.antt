@@ -12,7 +12,7 @@ use Rattle.palmer_input.specs.declared.Session.{Session}
 use Rattle.palmer_output.specs.Output.{outputOf}
 use Rattle.palmer_laws.specs.Palmer.{start}
 
--- `palmer_input::take`, for each piece in turn, on the session, the columns and the percents that the call before left
+-- `palmer_input::take`, for each piece in turn, on the session, the lent lists and the percents that the call before left
 pub data Takes : State → List (List ℕ) → State → Type 0 where
   none : {t : State} → Takes t [] t
   one-more : {t u v : State} {piece : List ℕ} {pieces : List (List ℕ)} → u ≡ foldl byteFed t piece → Takes u pieces v → Takes t (piece ∷ pieces) v
@@ -23,7 +23,7 @@ laidOut t = outputOf (t .session .refused) (t .session .run) (t .columns) (t .pe
 
 -- the program, for an input that comes in these pieces, and of which the rest is not read
 pub record Prints (pieces : List (List ℕ)) (rest printed : List ℕ) : Type 0 where
-  -- `palmer_input::begin`, with the columns and the percents all zeros
+  -- `palmer_input::begin`, with the lent lists and the percents all zeros
   pub begun : Session
   pub begins : begun ≡ fresh
   pub read : State

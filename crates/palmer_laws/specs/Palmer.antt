@@ -9,14 +9,15 @@ use lib.ListN.{replicate}
 use Rattle.outline.specs.Refusals.{unlessRefused}
 use Rattle.text.specs.Lines.{linesOf}
 use Rattle.rows.specs.Text.{refusedText}
-use Rattle.refusals.specs.Columns.{Columns, columns}
+use Rattle.records.specs.Record.{noRecord, numbersOf}
+use Rattle.refusals.specs.Book.{Book, book}
 use Rattle.palmer_input.specs.ByLines.{State, state, fresh, heard}
 use Rattle.palmer_output.specs.Printed.{mostLines, rowsText}
 
--- "Its columns are 2,400 long", and so is the list of the percents: zeros, before the first line
-abbrev pub blank : Columns
+-- "Its columns are 2,400 long", and so are the records, V, and the list of the percents: zeros, before the first line
+abbrev pub blank : Book
 blank =
-    columns (replicate mostLines (pos 0)) (replicate mostLines (pos 0)) (replicate mostLines (pos 0)) (replicate mostLines (pos 0)) (replicate mostLines 0)
+    book (replicate mostLines (pos 0)) (replicate mostLines (pos 0)) (replicate mostLines (pos 0)) (replicate mostLines (pos 0)) (replicate mostLines 0) (replicate mostLines (numbersOf noRecord)) (replicate mostLines (pos 0))
 
 abbrev pub start : State
 start = state fresh blank (replicate mostLines 0)

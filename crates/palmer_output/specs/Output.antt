@@ -7,7 +7,7 @@ use Rattle.outline.specs.Refusals.{unlessRefused}
 use Rattle.rows.specs.Room.{mostRow}
 use Rattle.rows.specs.Text.{refusedText}
 use Rattle.runs.specs.declared.Run.{Run}
-use Rattle.refusals.specs.Columns.{Columns}
+use Rattle.refusals.specs.Book.{Book}
 use Rattle.palmer_output.specs.Printed.{mostLines, rowsText}
 
 -- the months that have rows
@@ -15,7 +15,7 @@ abbrev pub shownMonths : ℕ → ℕ
 shownMonths months = min months mostLines
 
 -- the rows of all months
-abbrev pub allRows : Run → Columns → List ℕ → List ℕ
+abbrev pub allRows : Run → Book → List ℕ → List ℕ
 allRows run cs ps = rowsText run (shownMonths (run .months)) cs ps
 
 -- the number of the line after those that gave the months, "counted from 1"
@@ -23,7 +23,7 @@ abbrev pub lineAfter : ℕ → ℕ
 lineAfter months = shownMonths months + 1
 
 -- the rows, or where the number is a refusal's its line alone
-unfoldable pub outputOf : ℕ → Run → Columns → List ℕ → List ℕ
+unfoldable pub outputOf : ℕ → Run → Book → List ℕ → List ℕ
 outputOf number run cs ps = unlessRefused number (allRows run cs ps) (refusedText (lineAfter (run .months)) number)
 
 -- what all rows need at most

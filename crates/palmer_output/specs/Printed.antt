@@ -6,7 +6,7 @@ use lib.ListN.{getD}
 use Rattle.rows.specs.Text.{rowText}
 use Rattle.rows.specs.declared.Row.{Row}
 use Rattle.runs.specs.declared.Run.{Run}
-use Rattle.refusals.specs.Columns.{Columns}
+use Rattle.refusals.specs.Book.{Book}
 use Rattle.drought.specs.declared.Shown.{Shown}
 use Rattle.drought.specs.Calls.{rowOfRun}
 
@@ -22,10 +22,10 @@ abbrev pub rowOf : ℕ → Shown → ℕ → Row
 rowOf i s p = record { month = i + 1; x1 = s .x1; x2 = s .x2; x3 = s .x3; percent = p; index = s .index; mark = s .mark }
 
 -- month i, counted from 0, as a run's row shows it
-unfoldable pub rowAt : Run → ℕ → Columns → List ℕ → Row
+unfoldable pub rowAt : Run → ℕ → Book → List ℕ → Row
 rowAt run i cs ps = rowOf i (rowOfRun run i cs) (percentAt ps i)
 
 -- the rows of the first n months, one after another
-unfoldable pub rowsText : Run → ℕ → Columns → List ℕ → List ℕ
+unfoldable pub rowsText : Run → ℕ → Book → List ℕ → List ℕ
 rowsText run zero cs ps = []
 rowsText run (suc n) cs ps = rowsText run n cs ps ++ rowText (rowAt run n cs ps)

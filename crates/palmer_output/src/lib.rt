@@ -1,12 +1,13 @@
 // What the program `palmer` prints: the row of each month, or which line was refused. `drought` gives what a row shows, `rows`
 // lays it out. Every call here serves that program alone.
+use records::RecordNumbers;
 use rows::MOST_ROW;
 use rows::Row;
 use runs::Run;
 ghost use Prim.Native.Nat.{_+_, _≤_, _<_};
 ghost use mathlib.Core.Path.{_≡_};
 ghost use lib.ListN.{length};
-ghost use Rattle.refusals.specs.Columns.{columns};
+ghost use Rattle.refusals.specs.Book.{book};
 ghost use Rattle.rows.specs.Text.{rowText};
 ghost use Rattle.rows.specs.Room.{laid, mostRow};
 ghost use Rattle.palmer_output.specs.Printed.{percentAt, rowAt};
@@ -46,6 +47,8 @@ fn put_row(
     x3: &[i32],
     index: &[i32],
     mark: &[u8],
+    records: &[RecordNumbers],
+    v: &[i64],
     percent: &[u32],
     at: usize,
     out: &mut [u8],
@@ -53,11 +56,11 @@ fn put_row(
     requires { ⌜ i < 4294967295 ⌝ }
     requires { ⌜ at + mostRow ≤ length (now out) ⌝ }
     ensures { λ r. ⌜ r ≤ at + mostRow ⌝ }
-    ensures { λ r. ⌜ r ≡ at + length (rowText (rowAt run i (columns (now (x1 .entry)) (now (x2 .entry)) (now (x3 .entry)) (now (index .entry)) (now (mark .entry))) (now (percent .entry)))) ⌝ }
-    ensures { λ _. ⌜ now (out .exit) ≡ laid (rowText (rowAt run i (columns (now (x1 .entry)) (now (x2 .entry)) (now (x3 .entry)) (now (index .entry)) (now (mark .entry))) (now (percent .entry)))) at (now (out .entry)) ⌝ }
+    ensures { λ r. ⌜ r ≡ at + length (rowText (rowAt run i (book (now (x1 .entry)) (now (x2 .entry)) (now (x3 .entry)) (now (index .entry)) (now (mark .entry)) (now (records .entry)) (now (v .entry))) (now (percent .entry)))) ⌝ }
+    ensures { λ _. ⌜ now (out .exit) ≡ laid (rowText (rowAt run i (book (now (x1 .entry)) (now (x2 .entry)) (now (x3 .entry)) (now (index .entry)) (now (mark .entry)) (now (records .entry)) (now (v .entry))) (now (percent .entry)))) at (now (out .entry)) ⌝ }
 {
     let chance = percent_at(percent, i as usize);
-    let shown = drought::row(run, i as usize, x1, x2, x3, index, mark);
+    let shown = drought::row(run, i as usize, x1, x2, x3, index, mark, records, v);
     let row = Row {
         month: i + 1,
         x1: shown.x1,
@@ -86,18 +89,33 @@ fn put_rows(
     x3: &[i32],
     index: &[i32],
     mark: &[u8],
+    records: &[RecordNumbers],
+    v: &[i64],
     percent: &[u32],
 ) -> usize
     requires { ⌜ length (now out) ≡ room ⌝ }
     ensures { λ r. ⌜ r ≤ room ⌝ }
-    ensures { λ r. ⌜ r ≡ length (allRows run (columns (now (x1 .entry)) (now (x2 .entry)) (now (x3 .entry)) (now (index .entry)) (now (mark .entry))) (now (percent .entry))) ⌝ }
-    ensures { λ _. ⌜ now (out .exit) ≡ laid (allRows run (columns (now (x1 .entry)) (now (x2 .entry)) (now (x3 .entry)) (now (index .entry)) (now (mark .entry))) (now (percent .entry))) 0 (now (out .entry)) ⌝ }
+    ensures { λ r. ⌜ r ≡ length (allRows run (book (now (x1 .entry)) (now (x2 .entry)) (now (x3 .entry)) (now (index .entry)) (now (mark .entry)) (now (records .entry)) (now (v .entry))) (now (percent .entry))) ⌝ }
+    ensures { λ _. ⌜ now (out .exit) ≡ laid (allRows run (book (now (x1 .entry)) (now (x2 .entry)) (now (x3 .entry)) (now (index .entry)) (now (mark .entry)) (now (records .entry)) (now (v .entry))) (now (percent .entry))) 0 (now (out .entry)) ⌝ }
 {
     let end = line_after(run.months) - 1;
     let mut at: usize = 0;
     let mut i: u32 = 0;
     while i < end {
-        at = put_row(run, i, x1, x2, x3, index, mark, percent, at, out);
+        at = put_row(
+            run,
+            i,
+            x1,
+            x2,
+            x3,
+            index,
+            mark,
+            records,
+            v,
+            percent,
+            at,
+            out,
+        );
         i += 1;
     }
     at
@@ -114,15 +132,17 @@ pub fn put_output(
     x3: &[i32],
     index: &[i32],
     mark: &[u8],
+    records: &[RecordNumbers],
+    v: &[i64],
     percent: &[u32],
 ) -> usize
     requires { ⌜ length (now out) ≡ room ⌝ }
     ensures { λ r. ⌜ r ≤ room ⌝ }
-    ensures { λ r. ⌜ r ≡ length (outputOf number run (columns (now (x1 .entry)) (now (x2 .entry)) (now (x3 .entry)) (now (index .entry)) (now (mark .entry))) (now (percent .entry))) ⌝ }
-    ensures { λ _. ⌜ now (out .exit) ≡ laid (outputOf number run (columns (now (x1 .entry)) (now (x2 .entry)) (now (x3 .entry)) (now (index .entry)) (now (mark .entry))) (now (percent .entry))) 0 (now (out .entry)) ⌝ }
+    ensures { λ r. ⌜ r ≡ length (outputOf number run (book (now (x1 .entry)) (now (x2 .entry)) (now (x3 .entry)) (now (index .entry)) (now (mark .entry)) (now (records .entry)) (now (v .entry))) (now (percent .entry))) ⌝ }
+    ensures { λ _. ⌜ now (out .exit) ≡ laid (outputOf number run (book (now (x1 .entry)) (now (x2 .entry)) (now (x3 .entry)) (now (index .entry)) (now (mark .entry)) (now (records .entry)) (now (v .entry))) (now (percent .entry))) 0 (now (out .entry)) ⌝ }
 {
     if number == 0 {
-        return put_rows(out, run, x1, x2, x3, index, mark, percent);
+        return put_rows(out, run, x1, x2, x3, index, mark, records, v, percent);
     }
     rows::lay_refusal(line_after(run.months), number, 0, out)
 }

@@ -9,30 +9,40 @@ use lib.ListN.{length}
 use borrow.Author.Tests.{ltb-true, leb-true, eqb-true}
 use Rattle.outline.specs.Numbers.{mostMonths, lengthFits, mostZ, zFits}
 use Rattle.outline.specs.Refusals.{orElse, badLists, notARun, noSuchRow, badZ}
-use Rattle.outline.proofs.Tests.{each, cond-zero, z-within}
+use Rattle.outline.proofs.Tests.{both, each, cond-zero, z-within}
 use Rattle.outline.proofs.Refusals.{or-zero}
 use Rattle.runs.specs.Runs.{isRun}
+use Rattle.records.specs.Ends.{endsMeet}
 use Rattle.runs.specs.declared.Run.{Run}
-use Rattle.refusals.specs.Columns.{Columns, long, lengthsFit, columnsFit}
+use Rattle.refusals.specs.Book.{Book, long, lengthsFit, columnsFit}
 use Rattle.refusals.specs.Good.{Good}
-use Rattle.refusals.specs.Refusals.{runRefusal, roomRefusal, waterRefusal, zRefusal, rowRefusal}
+use Rattle.refusals.specs.Refusals.{isRunFor, isRunOf, runRefusal, roomRefusal, waterRefusal, zRefusal, rowRefusal}
 
 pub room-passes : (n months : ℕ) → roomRefusal n months ≡ 0 → months < n
 unfolding roomRefusal
 room-passes n months h = ltb-true months n (cond-zero (ltb months n) 9 h)
 
-module _ (r : Run) (cs : Columns) where
+module _ (r : Run) (cs : Book) where
   pub good-passes : Good r cs → runRefusal r cs ≡ 0
   unfolding runRefusal
   good-passes g = rw (g .fit, g .run)
 
   pub run-passes : runRefusal r cs ≡ 0 → Good r cs
   unfolding runRefusal
-  run-passes h = let a = go (columnsFit cs) (isRun (long cs) r) h in record { fit = a .0; run = a .1 }
+  run-passes h = let a = go (columnsFit cs) (isRunOf cs r) h in record { fit = a .0; run = a .1 }
     where
       go : (a b : Bool) → cond a (cond b 0 notARun) badLists ≡ 0 → (a ≡ true) × (b ≡ true)
       go true b h = (refl, cond-zero b 6 h)
       go false b h = absurd (omega arith)
+
+  -- a run for what is lent: what `isRun` asks, and that the last record ends where it stands
+  pub run-parts : isRunOf cs r ≡ true → (isRun (long cs) r ≡ true) × (endsMeet (r .months) (r .soil) (cs .records) ≡ true)
+  unfolding isRunFor
+  run-parts h = each (isRun (long cs) r) (endsMeet (r .months) (r .soil) (cs .records)) h
+
+  pub parts-run : isRun (long cs) r ≡ true → endsMeet (r .months) (r .soil) (cs .records) ≡ true → isRunOf cs r ≡ true
+  unfolding isRunFor
+  parts-run p q = both p q
 
   pub water-passes : (p pe : ℕ) → waterRefusal r p pe cs ≡ 0 → Good r cs × (r .months < long cs)
   unfolding waterRefusal
@@ -58,18 +68,40 @@ module _ (r : Run) (cs : Columns) where
       (run-passes (a .0), ltb-true i (r .months) (cond-zero (ltb i (r .months)) 10 (a .1)))
 
 -- ---- columns that fit
--- the five lengths are one, and in range
-lengths-are : (x1 x2 x3 index mark : ℕ) → lengthsFit x1 x2 x3 index mark ≡ true
-    → (x2 ≡ x1) × (x3 ≡ x1) × (index ≡ x1) × (mark ≡ x1) × (x1 ≤ mostMonths)
-unfolding lengthsFit lengthFits
-lengths-are x1 x2 x3 index mark h =
-    let a = each (eqb x2 x1 && eqb x3 x1 && eqb index x1 && eqb mark x1) (lengthFits x1) h in
-    let b = each (eqb x2 x1 && eqb x3 x1 && eqb index x1) (eqb mark x1) (a .0) in
-    let c = each (eqb x2 x1 && eqb x3 x1) (eqb index x1) (b .0) in
-    let d = each (eqb x2 x1) (eqb x3 x1) (c .0) in
-    let e = each (leb 1 x1) (leb x1 mostMonths) (a .1) in
-    (eqb-true _ _ (d .0), eqb-true _ _ (d .1), eqb-true _ _ (c .1), eqb-true _ _ (b .1), leb-true _ _ (e .1))
+-- the seven lengths are one, and in range
+pub record OneLength (x1 x2 x3 index mark records v : ℕ) : Type 0 where
+  pub x2-is : x2 ≡ x1
+  pub x3-is : x3 ≡ x1
+  pub index-is : index ≡ x1
+  pub mark-is : mark ≡ x1
+  pub records-is : records ≡ x1
+  pub v-is : v ≡ x1
+  pub least : 1 ≤ x1
+  pub most : x1 ≤ mostMonths
 
-pub columns-are : (cs : Columns) → columnsFit cs ≡ true
-    → (length (cs .x2) ≡ long cs) × (length (cs .x3) ≡ long cs) × (length (cs .index) ≡ long cs) × (length (cs .mark) ≡ long cs) × (long cs ≤ mostMonths)
-columns-are cs h = lengths-are (long cs) (length (cs .x2)) (length (cs .x3)) (length (cs .index)) (length (cs .mark)) h
+pub lengths-are : (x1 x2 x3 index mark records v : ℕ) → lengthsFit x1 x2 x3 index mark records v ≡ true → OneLength x1 x2 x3 index mark records v
+unfolding lengthsFit lengthFits
+lengths-are x1 x2 x3 index mark records v h =
+    let a = each (eqb x2 x1 && eqb x3 x1 && eqb index x1 && eqb mark x1 && eqb records x1 && eqb v x1) (lengthFits x1) h in
+    let b = each (eqb x2 x1 && eqb x3 x1 && eqb index x1 && eqb mark x1 && eqb records x1) (eqb v x1) (a .0) in
+    let c = each (eqb x2 x1 && eqb x3 x1 && eqb index x1 && eqb mark x1) (eqb records x1) (b .0) in
+    let d = each (eqb x2 x1 && eqb x3 x1 && eqb index x1) (eqb mark x1) (c .0) in
+    let e = each (eqb x2 x1 && eqb x3 x1) (eqb index x1) (d .0) in
+    let f = each (eqb x2 x1) (eqb x3 x1) (e .0) in
+    let g = each (leb 1 x1) (leb x1 mostMonths) (a .1) in
+    record {
+      x2-is = eqb-true _ _ (f .0);
+      x3-is = eqb-true _ _ (f .1);
+      index-is = eqb-true _ _ (e .1);
+      mark-is = eqb-true _ _ (d .1);
+      records-is = eqb-true _ _ (c .1);
+      v-is = eqb-true _ _ (b .1);
+      least = leb-true _ _ (g .0);
+      most = leb-true _ _ (g .1);
+    }
+
+abbrev pub AllLong : Book → Type 0
+AllLong cs = OneLength (long cs) (length (cs .x2)) (length (cs .x3)) (length (cs .index)) (length (cs .mark)) (length (cs .records)) (length (cs .v))
+
+pub columns-are : (cs : Book) → columnsFit cs ≡ true → AllLong cs
+columns-are cs h = lengths-are (long cs) (length (cs .x2)) (length (cs .x3)) (length (cs .index)) (length (cs .mark)) (length (cs .records)) (length (cs .v)) h

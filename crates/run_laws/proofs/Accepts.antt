@@ -9,7 +9,7 @@ use Rattle.water.specs.Layers.{SoilFits}
 use Rattle.water.proofs.Theorems.{z-acceptable, month-layers-kept}
 use Rattle.calendar.specs.Calendar.{constantsAt}
 use Rattle.runs.specs.declared.Run.{Run}
-use Rattle.refusals.specs.Columns.{Columns, long}
+use Rattle.refusals.specs.Book.{Book, long}
 use Rattle.refusals.specs.Good.{Good}
 use Rattle.refusals.specs.Refusals.{waterRefusal}
 use Rattle.refusals.proofs.Refused.{water-passes}
@@ -18,7 +18,7 @@ use Rattle.adding.proofs.Readiness.{run-is}
 use Rattle.adding.proofs.Answered.{answered-zero}
 use Rattle.drought.specs.Calls.{addOutcomes}
 
-module _ (r : Run) (cs : Columns) where
+module _ (r : Run) (cs : Book) where
   -- a month of water that was taken
   pub record TookWater (p pe : Outcome) : Type 0 where
     pub good : Good r cs

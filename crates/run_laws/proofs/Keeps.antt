@@ -1,14 +1,14 @@
--- What an add hands back is a run again, and the columns that it leaves fit again: so no sequence of calls on columns that nobody else writes
--- is ever refused 1 or 7. Assumes nothing.
-use mathlib.Core.Path.{_≡_, refl, ap}
+-- What an add hands back is a run again, whose last record ends where it stands, and the lists that it leaves fit again: so no sequence of calls on
+-- columns that nobody else writes is ever refused 1 or 7. Assumes nothing.
+use mathlib.Core.Path.{_≡_, refl, ap, _∙_}
 use mathlib.Core.Bool.{true}
 use mathlib.Core.List.{List, [], _∷_, _++_}
 use Prim.Native.Nat.{ℕ, suc, _+_, _-_, _*_, _≤_, _<_}
 use native.Mathlib.Omega.{arith}
-use lib.IntN.{ℤ, natAbs}
-use lib.Seq.{length-take-le}
-use lib.ListN.{length, drop, length-append, length-drop, length-take, length-replicate, length-set}
-use Rattle.outline.specs.Numbers.{mostZ, mostU, mostMonths}
+use lib.IntN.{ℤ, pos, natAbs}
+use lib.Seq.{length-take-le, getD-set-same}
+use lib.ListN.{length, drop, getD, set, length-append, length-drop, length-take, length-replicate, length-set}
+use Rattle.outline.specs.Numbers.{mostZ, mostU}
 use Rattle.water.specs.Layers.{SoilFits}
 use Rattle.water.specs.declared.Soil.{Soil}
 use Rattle.spells.specs.ValuesFit.{FitsWithin}
@@ -29,12 +29,16 @@ use Rattle.runs.specs.declared.Run.{Run}
 use Rattle.runs.proofs.RunLaws.{fits-run}
 use Rattle.calendar.proofs.CalendarLaws.{calendar-next, constants-at-fit}
 use Rattle.ranges.proofs.RangeLaws.{calendar-is}
-use Rattle.refusals.specs.Columns.{Columns, long, columnsFit}
+use Rattle.records.specs.Record.{numbersOf}
+use Rattle.records.specs.Ends.{endsMeet}
+use Rattle.records.specs.declared.Record.{Record}
+use Rattle.records.proofs.Meeting.{are-ends}
+use Rattle.refusals.specs.Book.{Book, long, columnsFit}
 use Rattle.adding.specs.Taken.{heldBy, runAfter, taken}
 use Rattle.adding.specs.declared.WaterFigures.{WaterFigures}
 use Rattle.adding.proofs.Taken.{opens-most}
 use Rattle.refusals.specs.Good.{Good}
-use Rattle.refusals.proofs.Refused.{columns-are}
+use Rattle.refusals.proofs.Refused.{AllLong, columns-are, parts-run}
 use Rattle.adding.proofs.Readiness.{run-is}
 
 -- ---- the columns keep their length
@@ -53,8 +57,8 @@ module _ (run : History) (r : Row) (n : ℕ) (past : length (run .past) ≡ n) (
   mark-long (Decides w) i = simp (length-append, length-replicate, length-take) (omega arith)
 
 -- ---- a month that is added to a run on columns that fit
-module _ (r : Run) (cs : Columns) (g : Good r cs) (room : r .months < long cs) where
-  lengths : (length (cs .x2) ≡ long cs) × (length (cs .x3) ≡ long cs) × (length (cs .index) ≡ long cs) × (length (cs .mark) ≡ long cs) × (long cs ≤ mostMonths)
+module _ (r : Run) (cs : Book) (g : Good r cs) (room : r .months < long cs) where
+  lengths : AllLong cs
   lengths = columns-are cs (g .fit)
 
   run-fits : RunFits (long cs) r
@@ -64,29 +68,27 @@ module _ (r : Run) (cs : Columns) (g : Good r cs) (room : r .months < long cs) w
   held-past = length-xs (xAt (cs .x1) (cs .x2) (cs .x3)) 0 (r .months)
 
   held-index : length (heldBy r cs .index) ≡ r .months
-  held-index = let l = lengths in length-take-le (r .months) (cs .index) (omega arith)
+  held-index = length-take-le (r .months) (cs .index) (omega (arith, lengths .index-is))
 
   held-mark : length (heldBy r cs .mark) ≡ r .months
-  held-mark = let l = lengths in length-take-le (r .months) (cs .mark) (omega arith)
+  held-mark = length-take-le (r .months) (cs .mark) (omega (arith, lengths .mark-is))
 
   module _ (row : Row) where
     pub wrote-index : length (addMonth (heldBy r cs) row .index ++ drop (suc (r .months)) (cs .index)) ≡ long cs
     wrote-index =
-        let l = lengths in
         let a = index-long (heldBy r cs) row (r .months) held-past (run-fits .opens) (row .decision) held-index in
-        omega (arith, length-append (addMonth (heldBy r cs) row .index) (drop (suc (r .months)) (cs .index)), length-drop (suc (r .months)) (cs .index))
+        omega (arith, length-append (addMonth (heldBy r cs) row .index) (drop (suc (r .months)) (cs .index)), length-drop (suc (r .months)) (cs .index), lengths .index-is)
 
     pub wrote-mark : length (addMonth (heldBy r cs) row .mark ++ drop (suc (r .months)) (cs .mark)) ≡ long cs
     wrote-mark =
-        let l = lengths in
         let a = mark-long (heldBy r cs) row (r .months) held-past (run-fits .opens) (row .decision) held-mark in
-        omega (arith, length-append (addMonth (heldBy r cs) row .mark) (drop (suc (r .months)) (cs .mark)), length-drop (suc (r .months)) (cs .mark))
+        omega (arith, length-append (addMonth (heldBy r cs) row .mark) (drop (suc (r .months)) (cs .mark)), length-drop (suc (r .months)) (cs .mark), lengths .mark-is)
 
-  module _ (soil : Soil) (sf : SoilFits soil) (w : WaterFigures) (z : ℤ) (hz : natAbs z ≤ mostZ) where
-    abbrev left : Columns
-    left = taken r soil w z cs .columns
+  module _ (soil : Soil) (sf : SoilFits soil) (w : WaterFigures) (z : ℤ) (hz : natAbs z ≤ mostZ) (kept : Record) where
+    abbrev left : Book
+    left = taken r soil w z kept cs .columns
 
-    -- each column is as long as it was
+    -- each list is as long as it was
     pub long-kept : long left ≡ long cs
     unfolding taken
     long-kept = length-set (cs .x1) (r .months) (stepOf (r .values) z .after .x1)
@@ -94,8 +96,8 @@ module _ (r : Run) (cs : Columns) (g : Good r cs) (room : r .months < long cs) w
     columns-kept : columnsFit left ≡ true
     unfolding taken
     columns-kept =
-        rw (length-set (cs .x1) (r .months) (stepOf (r .values) z .after .x1), length-set (cs .x2) (r .months) (stepOf (r .values) z .after .x2), length-set (cs .x3) (r .months) (stepOf (r .values) z .after .x3), wrote-index (rowFor (stepOf (r .values) z)), wrote-mark (rowFor (stepOf (r .values) z)), lengths .0, lengths .1)
-        (rw (lengths .0, lengths .1, lengths .2, lengths .3) at (g .fit))
+        rw (length-set (cs .x1) (r .months) (stepOf (r .values) z .after .x1), length-set (cs .x2) (r .months) (stepOf (r .values) z .after .x2), length-set (cs .x3) (r .months) (stepOf (r .values) z .after .x3), wrote-index (rowFor (stepOf (r .values) z)), wrote-mark (rowFor (stepOf (r .values) z)), length-set (cs .records) (r .months) (numbersOf kept), length-set (cs .v) (r .months) (stepOf (r .values) z .after .v), lengths .x2-is, lengths .x3-is, lengths .records-is, lengths .v-is)
+        (rw (lengths .x2-is, lengths .x3-is, lengths .index-is, lengths .mark-is, lengths .records-is, lengths .v-is) at (g .fit))
 
     -- the running values, with V's room a month more
     before-fits : FitsWithin (mostU * r .months) (r .values)
@@ -138,11 +140,22 @@ module _ (r : Run) (cs : Columns) (g : Good r cs) (room : r .months < long cs) w
         }
 
     -- the run that is handed back is a run, for the columns that are left
-    run-kept : isRun (long left) (taken r soil w z cs .answer .run) ≡ true
+    run-kept : isRun (long left) (taken r soil w z kept cs .answer .run) ≡ true
     unfolding taken
     run-kept =
         rw (length-set (cs .x1) (r .months) (stepOf (r .values) z .after .x1))
         (fits-run (long cs) (runAfter r soil (stepOf (r .values) z) (addMonth (heldBy r cs) (rowFor (stepOf (r .values) z)))) after-fits)
 
-    pub good-taken : Good (taken r soil w z cs .answer .run) left
-    good-taken = record { fit = columns-kept; run = run-kept }
+    -- where the month's record ends with the soil that it leaves, the last record ends where that run stands
+    module _ (surface : kept .surface ≡ pos (soil .surface)) (underlying : kept .underlying ≡ pos (soil .underlying)) where
+      ends-kept : endsMeet (suc (r .months)) soil (left .records) ≡ true
+      unfolding taken
+      ends-kept =
+          let own = getD-set-same (cs .records) (r .months) (numbersOf kept) [] (omega (arith, lengths .records-is)) in
+          are-ends (r .months) soil (set (cs .records) (r .months) (numbersOf kept))
+          (ap (λ (n : List ℤ). getD n 9 (pos 0)) own ∙ surface)
+          (ap (λ (n : List ℤ). getD n 10 (pos 0)) own ∙ underlying)
+
+      pub good-taken : Good (taken r soil w z kept cs .answer .run) left
+      unfolding taken
+      good-taken = record { fit = columns-kept; run = parts-run (taken r soil w z kept cs .answer .run) left run-kept ends-kept }

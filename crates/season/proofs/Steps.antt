@@ -17,7 +17,8 @@ use Rattle.door.proofs.Bounds.{reading-most}
 use Rattle.spells.specs.Spells.{stepOf}
 use Rattle.hindsight.specs.Months.{rowFor}
 use Rattle.runs.specs.declared.Run.{Run}
-use Rattle.refusals.specs.Columns.{Columns}
+use Rattle.records.specs.Record.{waterRecord}
+use Rattle.refusals.specs.Book.{Book}
 use Rattle.refusals.specs.Good.{Good}
 use Rattle.refusals.specs.Refusals.{waterRefusal}
 use Rattle.refusals.proofs.Refused.{columns-are}
@@ -34,7 +35,7 @@ use Rattle.season.specs.declared.Season.{Season}
 use Rattle.season.specs.Season.{SeasonResult, seasonResult, joined, stopped, single, addEach}
 
 -- ---- what an accepted month leaves
-module _ (r : Run) (p pe : Reading) (cs : Columns) (h : addWater r p pe cs .answer .number ≡ 0) where
+module _ (r : Run) (p pe : Reading) (cs : Book) (h : addWater r p pe cs .answer .number ≡ 0) where
   abbrev b : Result
   b = addWater r p pe cs
 
@@ -43,7 +44,7 @@ module _ (r : Run) (p pe : Reading) (cs : Columns) (h : addWater r p pe cs .answ
   good-next =
       let t = took-water r cs (reading p) (reading pe) (reading-most p) (reading-most pe) h in
       let w = waterOf r (reading p .water) (reading pe .water) in
-      rw (t .did) (good-taken r cs (t .good) (t .room) (soilAfter (r .soil) w) (t .soil) (waterFigures (reading p .water) (reading pe .water) w) (w .z) (t .z))
+      rw (t .did) (good-taken r cs (t .good) (t .room) (soilAfter (r .soil) w) (t .soil) (waterFigures (reading p .water) (reading pe .water) w) (w .z) (t .z) (waterRecord (r .soil) (reading p .water) (reading pe .water) w) refl refl)
 
   -- one month more, and no more settled than were open before it, with it
   pub counts-next : (b .answer .run .months ≡ suc (r .months)) × (b .answer .settled + b .answer .run .opens ≤ suc (r .opens))
@@ -53,7 +54,7 @@ module _ (r : Run) (p pe : Reading) (cs : Columns) (h : addWater r p pe cs .answ
       rw (t .did) (refl, counts-most (heldBy r cs) (rowFor (stepOf (r .values) (waterOf r (reading p .water) (reading pe .water) .z))))
 
 -- a refused month leaves the columns as they were
-pub refused-leaves : (r : Run) (p pe : Reading) (cs : Columns) → (addWater r p pe cs .answer .number ≡ 0 → ⊥) → addWater r p pe cs .columns ≡ cs
+pub refused-leaves : (r : Run) (p pe : Reading) (cs : Book) → (addWater r p pe cs .answer .number ≡ 0 → ⊥) → addWater r p pe cs .columns ≡ cs
 unfolding addWater addOutcomes takenWater taken
 refused-leaves r p pe cs h = go (waterRefusal r (reading p .number) (reading pe .number) cs) h
   where
@@ -93,25 +94,27 @@ module _ (ps pes : List ℤ) (same : length ps ≡ length pes) (t : SeasonResult
   ends h = ap₂ (addEach t) (drop-of-length-le ps h) (drop-of-length-le pes {i = i} (omega arith))
 
 -- a run on columns that fit holds few months
-pub most : (r : Run) (cs : Columns) → Good r cs → r .months ≤ mostMonths
+pub most : (r : Run) (cs : Book) → Good r cs → r .months ≤ mostMonths
 most r cs g =
     let l = columns-are cs (g .fit) in
-    omega (arith, l .4, run-is r cs g .months)
+    omega (arith, l .most, run-is r cs g .months)
 
--- ---- the columns keep their lengths
-abbrev pub SameLengths : Columns → Columns → Type 0
+-- ---- the lists keep their lengths
+abbrev pub SameLengths : Book → Book → Type 0
 SameLengths cs ds =
     (length (cs .x1) ≡ length (ds .x1))
     × (length (cs .x2) ≡ length (ds .x2))
     × (length (cs .x3) ≡ length (ds .x3))
     × (length (cs .index) ≡ length (ds .index))
     × (length (cs .mark) ≡ length (ds .mark))
+    × (length (cs .records) ≡ length (ds .records))
+    × (length (cs .v) ≡ length (ds .v))
 
-pub lengths-then : (bs cs ds : Columns) → SameLengths bs cs → SameLengths cs ds → SameLengths bs ds
-lengths-then bs cs ds p q = (p .0 ∙ q .0, p .1 ∙ q .1, p .2 ∙ q .2, p .3 ∙ q .3, p .4 ∙ q .4)
+pub lengths-then : (bs cs ds : Book) → SameLengths bs cs → SameLengths cs ds → SameLengths bs ds
+lengths-then bs cs ds p q = (p .0 ∙ q .0, p .1 ∙ q .1, p .2 ∙ q .2, p .3 ∙ q .3, p .4 ∙ q .4, p .5 ∙ q .5, p .6 ∙ q .6)
 
 -- ---- a pass: what the single add left, in the code's terms
-module _ (ps pes : List ℤ) (same : length ps ≡ length pes) (s : Season) (cs : Columns) (i : ℕ) (h : i < length ps) (a : Added) (ds : Columns)
+module _ (ps pes : List ℤ) (same : length ps ≡ length pes) (s : Season) (cs : Book) (i : ℕ) (h : i < length ps) (a : Added) (ds : Book)
     (e : result a ds ≡ single (seasonResult s cs) (getD ps i (pos 0)) (getD pes i (pos 0))) where
   abbrev alone : Result
   alone = single (seasonResult s cs) (getD ps i (pos 0)) (getD pes i (pos 0))

@@ -8,7 +8,7 @@ use lib.Dec.{eqb}
 use lib.ListN.{length}
 use Rattle.outline.specs.Refusals.{badLists, orElse, unlessRefused}
 use Rattle.runs.specs.declared.Run.{Run}
-use Rattle.refusals.specs.Columns.{Columns}
+use Rattle.refusals.specs.Book.{Book}
 use Rattle.refusals.specs.Refusals.{runRefusal}
 use Rattle.adding.specs.Figures.{noFigures}
 use Rattle.adding.specs.Taken.{Result}
@@ -17,12 +17,12 @@ use Rattle.drought.specs.Calls.{addWater}
 use Rattle.season_month.specs.Listed.{listed}
 use Rattle.season.specs.declared.Season.{Season}
 
--- what a season leaves: its answer, with the run, and the five columns
+-- what a season leaves: its answer, with the run, and what is lent
 pub record SeasonResult : Type 0 where
   pub answer : Season
-  pub columns : Columns
+  pub columns : Book
 
-abbrev pub seasonResult : Season → Columns → SeasonResult
+abbrev pub seasonResult : Season → Book → SeasonResult
 seasonResult s cs = record { answer = s; columns = cs }
 
 -- before the first month: "the figures are the last added month's (0 if none)"
@@ -50,10 +50,10 @@ addEach t (p ∷ ps) (pe ∷ pes) =
     unlessRefused (b .answer .number) (addEach (seasonResult (joined (t .answer) (b .answer)) (b .columns)) ps pes) (seasonResult (stopped (t .answer) (b .answer .number)) (t .columns))
 
 -- "1 also covers two lists of unequal length, and 1 and 7 are checked once, before the first month"
-unfoldable pub seasonRefusal : Run → List ℤ → List ℤ → Columns → ℕ
+unfoldable pub seasonRefusal : Run → List ℤ → List ℤ → Book → ℕ
 seasonRefusal r ps pes cs = orElse (cond (eqb (length ps) (length pes)) 0 badLists) (runRefusal r cs)
 
 -- ---- ADD A SEASON
-unfoldable pub addSeason : Run → List ℤ → List ℤ → Columns → SeasonResult
+unfoldable pub addSeason : Run → List ℤ → List ℤ → Book → SeasonResult
 addSeason r ps pes cs =
     unlessRefused (seasonRefusal r ps pes cs) (addEach (seasonResult (nothing 0 r) cs) ps pes) (seasonResult (nothing (seasonRefusal r ps pes cs) r) cs)

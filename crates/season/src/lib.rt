@@ -7,12 +7,13 @@ use adding::Figures;
 use adding::MonthAdded;
 use outline::BAD_LISTS;
 use outline::MANY_CONSTANTS;
+use records::RecordNumbers;
 use runs::Progress;
 use runs::Run;
 ghost use mathlib.Core.Path.{_≡_};
 ghost use Prim.Native.Nat.{_+_, _≤_};
 ghost use Rattle.runs.specs.Progress.{runOf};
-ghost use Rattle.refusals.specs.Columns.{columns};
+ghost use Rattle.refusals.specs.Book.{book};
 ghost use Rattle.season.specs.Season.{seasonResult, seasonRefusal, addSeason};
 ghost use Rattle.season.specs.SoFar.{mostCount, begun, joinedBy, seasonOf};
 
@@ -45,12 +46,14 @@ pub fn add_season(
     x3: &mut [i32],
     index: &mut [i32],
     mark: &mut [u8],
+    records: &mut [RecordNumbers],
+    v: &mut [i64],
 ) -> Season
-    ensures { λ s. ⌜ seasonResult s (columns (now (x1 .exit)) (now (x2 .exit)) (now (x3 .exit)) (now (index .exit)) (now (mark .exit))) ≡ addSeason run (now (p .entry)) (now (pe .entry)) (columns (now (x1 .entry)) (now (x2 .entry)) (now (x3 .entry)) (now (index .entry)) (now (mark .entry))) ⌝ }
+    ensures { λ s. ⌜ seasonResult s (book (now (x1 .exit)) (now (x2 .exit)) (now (x3 .exit)) (now (index .exit)) (now (mark .exit)) (now (records .exit)) (now (v .exit))) ≡ addSeason run (now (p .entry)) (now (pe .entry)) (book (now (x1 .entry)) (now (x2 .entry)) (now (x3 .entry)) (now (index .entry)) (now (mark .entry)) (now (records .entry)) (now (v .entry))) ⌝ }
 {
     let constants = run.constants;
     let at = runs::progress_of(run);
-    let number = season_refusal(at, &constants, p, pe, x1, x2, x3, index, mark);
+    let number = season_refusal(at, &constants, p, pe, x1, x2, x3, index, mark, records, v);
     let mut s = nothing_added(at);
     if number != 0 {
         return season_of(s, number, constants);
@@ -60,7 +63,19 @@ pub fn add_season(
         let now = s.progress;
         let rain = p[i];
         let demand = pe[i];
-        let m = season_month::add_listed(now, &constants, rain, demand, x1, x2, x3, index, mark);
+        let m = season_month::add_listed(
+            now,
+            &constants,
+            rain,
+            demand,
+            x1,
+            x2,
+            x3,
+            index,
+            mark,
+            records,
+            v,
+        );
         if m.number != 0 {
             return season_of(s, m.number, constants);
         }
@@ -81,13 +96,24 @@ fn season_refusal(
     x3: &[i32],
     index: &[i32],
     mark: &[u8],
+    records: &[RecordNumbers],
+    v: &[i64],
 ) -> u8
-    ensures { λ k. ⌜ k ≡ seasonRefusal (runOf at (now (constants .entry))) (now (p .entry)) (now (pe .entry)) (columns (now (x1 .entry)) (now (x2 .entry)) (now (x3 .entry)) (now (index .entry)) (now (mark .entry))) ⌝ }
+    ensures { λ k. ⌜ k ≡ seasonRefusal (runOf at (now (constants .entry))) (now (p .entry)) (now (pe .entry)) (book (now (x1 .entry)) (now (x2 .entry)) (now (x3 .entry)) (now (index .entry)) (now (mark .entry)) (now (records .entry)) (now (v .entry))) ⌝ }
 {
     if p.len() != pe.len() {
         return BAD_LISTS;
     }
-    refusals::run_refusal(at, constants, x1, x2, x3, index, mark)
+    let n = refusals::lent_length(
+        x1.len(),
+        x2.len(),
+        x3.len(),
+        index.len(),
+        mark.len(),
+        records.len(),
+        v.len(),
+    );
+    refusals::run_refusal(n, at, constants, records)
 }
 
 // Before the first month.

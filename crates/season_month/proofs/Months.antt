@@ -19,7 +19,7 @@ use Rattle.outline.proofs.Refusals.{or-second}
 use Rattle.runs.specs.Progress.{runOf}
 use Rattle.runs.specs.declared.Progress.{Progress}
 use Rattle.runs.specs.declared.Run.{Run}
-use Rattle.refusals.specs.Columns.{Columns, long}
+use Rattle.refusals.specs.Book.{Book, long}
 use Rattle.refusals.specs.Good.{Good}
 use Rattle.refusals.specs.Refusals.{runRefusal, roomRefusal, waterRefusal}
 use Rattle.refusals.proofs.Refused.{good-passes}
@@ -48,7 +48,7 @@ not-water (Water n) t e = elim t [ inl h ↦ omega arith | inr h ↦ omega arith
 not-water NoReading t e = omega arith
 not-water NotAcceptable t e = omega arith
 
-module _ (at : Progress) (ks : List ℤ) (p pe : Reading) (cs : Columns) (g : Good (runOf at ks) cs) where
+module _ (at : Progress) (ks : List ℤ) (p pe : Reading) (cs : Book) (g : Good (runOf at ks) cs) where
   abbrev pub r : Run
   r = runOf at ks
 

@@ -5,9 +5,10 @@ use adding::MonthAdded;
 use door::Answer;
 use door::Reading;
 use outline::MANY_CONSTANTS;
+use records::RecordNumbers;
 use runs::Progress;
 ghost use mathlib.Core.Path.{_≡_};
-ghost use Rattle.refusals.specs.Columns.{columns};
+ghost use Rattle.refusals.specs.Book.{book};
 ghost use Rattle.refusals.specs.Good.{Good};
 ghost use Rattle.runs.specs.Progress.{runOf};
 ghost use Rattle.adding.specs.Taken.{result};
@@ -30,9 +31,11 @@ pub fn add_listed(
     x3: &mut [i32],
     index: &mut [i32],
     mark: &mut [u8],
+    records: &mut [RecordNumbers],
+    v: &mut [i64],
 ) -> MonthAdded
-    requires { ⌜ Good (runOf at (now constants)) (columns (now x1) (now x2) (now x3) (now index) (now mark)) ⌝ }
-    ensures { λ t. ⌜ result (addedOf t (now (constants .entry))) (columns (now (x1 .exit)) (now (x2 .exit)) (now (x3 .exit)) (now (index .exit)) (now (mark .exit))) ≡ addWater (runOf at (now (constants .entry))) (listed p) (listed pe) (columns (now (x1 .entry)) (now (x2 .entry)) (now (x3 .entry)) (now (index .entry)) (now (mark .entry))) ⌝ }
+    requires { ⌜ Good (runOf at (now constants)) (book (now x1) (now x2) (now x3) (now index) (now mark) (now records) (now v)) ⌝ }
+    ensures { λ t. ⌜ result (addedOf t (now (constants .entry))) (book (now (x1 .exit)) (now (x2 .exit)) (now (x3 .exit)) (now (index .exit)) (now (mark .exit)) (now (records .exit)) (now (v .exit))) ≡ addWater (runOf at (now (constants .entry))) (listed p) (listed pe) (book (now (x1 .entry)) (now (x2 .entry)) (now (x3 .entry)) (now (index .entry)) (now (mark .entry)) (now (records .entry)) (now (v .entry))) ⌝ }
 {
     let first = door::read(reading_of(p));
     let Answer::Water(measured) = first else {
@@ -50,7 +53,11 @@ pub fn add_listed(
     let values = at.values;
     let k = calendar::constants_at(constants, at.calendar);
     let m = water::month_of(soil, measured, potential, k);
+    let kept = records::water_record(soil, measured, potential, m);
+    records::put(at.months as usize, kept, records);
     let s = adding::add_spells(at.months, at.opens, values, m.z, x1, x2, x3, index, mark);
+    let after = s.values;
+    records::put_v(at.months as usize, after.v, v);
     adding::watered(at, measured, potential, m, s)
 }
 

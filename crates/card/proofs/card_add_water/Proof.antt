@@ -27,10 +27,16 @@ same-length-4 c = search needs
 same-length-5 : tie.Need-same-length-5
 same-length-5 c = search needs
 
+same-length-6 : tie.Need-same-length-6
+same-length-6 c = search needs
+
+same-length-7 : tie.Need-same-length-7
+same-length-7 c = search needs
+
 returns : tie.Need-returns
 returns c =
-    let t = c .before .before .before .before .before .before in
-    let d = t .before .before .before .before .before .before in
+    let t = c .before .before .before .before .before .before .before .before in
+    let d = t .before .before .before .before .before .before .before .before in
     rw (d .before .reading-of .ensures, d .reading-of2 .ensures) at (t .add-water .ensures)
 
 pub card-add-water-spec : {M : Type 1} → statement M
@@ -45,4 +51,6 @@ card-add-water-spec =
     same-length-3
     same-length-4
     same-length-5
+    same-length-6
+    same-length-7
     returns)

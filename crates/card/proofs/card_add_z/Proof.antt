@@ -22,10 +22,16 @@ same-length-4 c = search needs
 same-length-5 : tie.Need-same-length-5
 same-length-5 c = search needs
 
+same-length-6 : tie.Need-same-length-6
+same-length-6 c = search needs
+
+same-length-7 : tie.Need-same-length-7
+same-length-7 c = search needs
+
 returns : tie.Need-returns
 returns c =
-    let t = c .before .before .before .before .before .before in
-    let s = t .before .before .before .before .before .before .before in
+    let t = c .before .before .before .before .before .before .before .before in
+    let s = t .before .before .before .before .before .before .before .before .before in
     let f = s .fits .z in
     rw (toZ-ofZ f) at (t .add-z .ensures)
 
@@ -39,4 +45,6 @@ card-add-z-spec =
     same-length-3
     same-length-4
     same-length-5
+    same-length-6
+    same-length-7
     returns)

@@ -1,12 +1,18 @@
--- `drought::add_inches` meets its contract: the month's two answers, and then `try_water`. Assumes nothing.
+-- `drought::add_inches` meets its contract: the month's two answers, what is lent measured, and then `try_water`. Assumes nothing.
 use mathlib.Core.Path.{_≡_, ap}
 use borrow.Author.Needs.{needs}
+use denote.Ref.{now}
 use Rattle.door.specs.Outcome.{MonthOutcomes, outcome}
 use Rattle.door.specs.Readings.{month}
 use Rattle.door.proofs.Bounds.{inches-most}
+use Rattle.refusals.specs.Book.{Book, book}
 use Rattle.drought.specs.Calls.{addInches}
+use Rattle.drought.proofs.Joined.{joined}
 use Rattle.drought.proofs.add_inches.Statement.{statement}
 use Rattle.drought.proofs.add_inches.Tie as tie
+
+abbrev lent : tie.Start → Book
+lent s = let a = s .args in book (now (a .x1)) (now (a .x2)) (now (a .x3)) (now (a .index)) (now (a .mark)) (now (a .records)) (now (a .v))
 
 read-month-requires : tie.Need-read-month-requires
 read-month-requires c κs = search needs
@@ -21,11 +27,17 @@ second c = ap (λ (m : MonthOutcomes). m .pe) (c .read-month .ensures)
 progress-of-requires : tie.Need-progress-of-requires
 progress-of-requires c κs = search needs
 
+lent-length-requires : tie.Need-lent-length-requires
+lent-length-requires c κs = search needs
+
 number-requires : tie.Need-number-requires
 number-requires c κs = search needs
 
 number-requires-2 : tie.Need-number-requires-2
 number-requires-2 c κs = search needs
+
+reading-refusal-requires : tie.Need-reading-refusal-requires
+reading-refusal-requires c κs = search needs
 
 water-requires : tie.Need-water-requires
 water-requires c κs = search needs
@@ -36,39 +48,49 @@ water-requires-2 c κs = search needs
 try-water-requires : tie.Need-try-water-requires
 unfolding month
 try-water-requires c κs =
-    let w = c .before .before .before .before .before in
-    let d = w .before .before .before .before .before .before .before in
+    let w = c .before .before .before .before .before .before .before in
+    let n = w .before .before .before .before .before .before in
+    let d = n .before .before .before in
     let q = d .before .before .args .q in
-    (rw (w .before .water .ensures, first d) (inches-most (q .p)), rw (w .water2 .ensures, second d) (inches-most (q .pe)))
+    (n .lent-length .ensures, (rw (w .before .water .ensures, first d) (inches-most (q .p)), rw (w .water2 .ensures, second d) (inches-most (q .pe))))
 
 answer-of-requires : tie.Need-answer-of-requires
 answer-of-requires c κs = search needs
 
 same-length : tie.Need-same-length
-same-length c = search needs
+same-length c = c .before .before .before .before .before .before .before .before .before .try-water .kept .1 .1 .1 .1 .1 .1 .0
 
 same-length-2 : tie.Need-same-length-2
-same-length-2 c = search needs
+same-length-2 c = c .before .before .before .before .before .before .before .before .before .try-water .kept .1 .1 .1 .1 .1 .1 .1 .0
 
 same-length-3 : tie.Need-same-length-3
-same-length-3 c = search needs
+same-length-3 c = c .before .before .before .before .before .before .before .before .before .try-water .kept .1 .1 .1 .1 .1 .1 .1 .1 .0
 
 same-length-4 : tie.Need-same-length-4
-same-length-4 c = search needs
+same-length-4 c = c .before .before .before .before .before .before .before .before .before .try-water .kept .1 .1 .1 .1 .1 .1 .1 .1 .1 .0
 
 same-length-5 : tie.Need-same-length-5
-same-length-5 c = search needs
+same-length-5 c = c .before .before .before .before .before .before .before .before .before .try-water .kept .1 .1 .1 .1 .1 .1 .1 .1 .1 .1 .0
+
+same-length-6 : tie.Need-same-length-6
+same-length-6 c = c .before .before .before .before .before .before .before .before .before .try-water .kept .1 .1 .1 .1 .1 .1 .1 .1 .1 .1 .1 .0
+
+same-length-7 : tie.Need-same-length-7
+same-length-7 c = c .before .before .before .before .before .before .before .before .before .try-water .kept .1 .1 .1 .1 .1 .1 .1 .1 .1 .1 .1 .1 .0
 
 returns : tie.Need-returns
 unfolding addInches
 returns c =
-    let t = c .before .before .before .before .before .before .before in
-    let w = t .before .before .before .before .before .before in
-    let n = w .before .before in
-    let o = n .before .before .before .before in
+    let t = c .before .before .before .before .before .before .before .before .before in
+    let w = t .before .before .before .before .before .before .before .before in
+    let k = w .before .before in
+    let n = k .before in
+    let o = n .before .before .before .before .before in
     let d = o .before in
-    rw (c .answer-of .ensures)
-    (rw (o .progress-of .ensures, n .before .number .ensures, n .number2 .ensures, w .before .water .ensures, w .water2 .ensures, first d, second d) at (t .try-water .ensures))
+    let s = d .before .before in
+    let a = s .args in
+    rw (c .answer-of .ensures, ← joined (a .run) (month (a .q) .p) (month (a .q) .pe) (lent s))
+    (rw (o .progress-of .ensures, k .reading-refusal .ensures, n .before .number .ensures, n .number2 .ensures, w .before .water .ensures, w .water2 .ensures, first d, second d) at (t .try-water .ensures))
 
 pub add-inches-spec : {M : Type 1} → statement M
 add-inches-spec =
@@ -76,8 +98,10 @@ add-inches-spec =
     (tie.spec
     read-month-requires
     progress-of-requires
+    lent-length-requires
     number-requires
     number-requires-2
+    reading-refusal-requires
     water-requires
     water-requires-2
     try-water-requires
@@ -87,4 +111,6 @@ add-inches-spec =
     same-length-3
     same-length-4
     same-length-5
+    same-length-6
+    same-length-7
     returns)

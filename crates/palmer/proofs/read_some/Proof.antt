@@ -24,35 +24,48 @@ take-requires c κs = search needs
 line-at-fault-requires : tie.Need-line-at-fault-requires
 line-at-fault-requires c κs = search needs
 
+-- what was taken in, and what was read for it
+abbrev fed : tie.After-line-at-fault → tie.After-take
+fed c = c .before .before .before .before .before .before .before .before .before .before .before .before
+
+abbrev piece : tie.After-line-at-fault → tie.After-read
+piece c = (fed c) .before .before .before .before .before .before .before .before .before .before .before .before .before
+
 slice-reshare-prefix-heed : tie.Need-slice-reshare-prefix-heed
-slice-reshare-prefix-heed c = search needs
+slice-reshare-prefix-heed c = piece c .read .ensures .0
 
 slice-aggregate-heed : tie.Need-slice-aggregate-heed
-slice-aggregate-heed c = search needs
+slice-aggregate-heed c = piece (c .before) .read .ensures .1
 
 heed-requires : tie.Need-heed-requires
 heed-requires c κs = search needs
 
 same-length-2 : tie.Need-same-length-2
-same-length-2 c = (c .before .before .before .before .before .before .before .before .before .before .before .before .before .before .before .before .before .before .before .before .before .before .before) .read .kept .0
+same-length-2 c = piece (c .before .before) .read .kept .0
 
 same-length-3 : tie.Need-same-length-3
-same-length-3 c = (c .before .before .before .before .before .before .before .before .before .before .before .before) .take .kept .1 .1 .0
+same-length-3 c = fed (c .before .before) .take .kept .1 .1 .0
 
 same-length-4 : tie.Need-same-length-4
-same-length-4 c = (c .before .before .before .before .before .before .before .before .before .before .before .before) .take .kept .1 .1 .1 .0
+same-length-4 c = fed (c .before .before) .take .kept .1 .1 .1 .0
 
 same-length-5 : tie.Need-same-length-5
-same-length-5 c = (c .before .before .before .before .before .before .before .before .before .before .before .before) .take .kept .1 .1 .1 .1 .0
+same-length-5 c = fed (c .before .before) .take .kept .1 .1 .1 .1 .0
 
 same-length-6 : tie.Need-same-length-6
-same-length-6 c = (c .before .before .before .before .before .before .before .before .before .before .before .before) .take .kept .1 .1 .1 .1 .1 .0
+same-length-6 c = fed (c .before .before) .take .kept .1 .1 .1 .1 .1 .0
 
 same-length-7 : tie.Need-same-length-7
-same-length-7 c = (c .before .before .before .before .before .before .before .before .before .before .before .before) .take .kept .1 .1 .1 .1 .1 .1 .0
+same-length-7 c = fed (c .before .before) .take .kept .1 .1 .1 .1 .1 .1 .0
 
 same-length-8 : tie.Need-same-length-8
-same-length-8 c = (c .before .before .before .before .before .before .before .before .before .before .before .before) .take .kept .1 .1 .1 .1 .1 .1 .1 .0
+same-length-8 c = fed (c .before .before) .take .kept .1 .1 .1 .1 .1 .1 .1 .0
+
+same-length-9 : tie.Need-same-length-9
+same-length-9 c = fed (c .before .before) .take .kept .1 .1 .1 .1 .1 .1 .1 .1 .0
+
+same-length-10 : tie.Need-same-length-10
+same-length-10 c = fed (c .before .before) .take .kept .1 .1 .1 .1 .1 .1 .1 .1 .1 .0
 
 returns-2 : tie.Need-returns-2
 returns-2 c = search needs
@@ -78,4 +91,6 @@ read-some-spec =
     same-length-6
     same-length-7
     same-length-8
+    same-length-9
+    same-length-10
     returns-2)

@@ -36,11 +36,17 @@ same-length-5 c = search needs
 same-length-6 : tie.Need-same-length-6
 same-length-6 c = search needs
 
+same-length-7 : tie.Need-same-length-7
+same-length-7 c = search needs
+
+same-length-8 : tie.Need-same-length-8
+same-length-8 c = search needs
+
 returns : tie.Need-returns
 returns c =
     let pp = c .before .before .before in
-    let az = pp .before .before .before .before .before .before .before .before .before in
-    let s = az .before .before .before .before .before .before .before .before .before in
+    let az = pp .before .before .before .before .before .before .before .before .before .before .before in
+    let s = az .before .before .before .before .before .before .before .before .before .before .before in
     let f = s .fits .z in
     with-z (s .args .run) (s .args .z) _ (now (s .args .percent)) (az .add-z .result) _ _ _ (rw (toZ-ofZ f) at (az .add-z .ensures)) (pp .put-percent .ensures) (c .after-line .ensures)
 
@@ -58,4 +64,6 @@ add-line-spec =
     same-length-4
     same-length-5
     same-length-6
+    same-length-7
+    same-length-8
     returns)

@@ -6,14 +6,14 @@ use mir.Facts.{toZ-ofZ}
 use denote.Ref.{now}
 use Rattle.lines.specs.Reading.{readOf}
 use Rattle.lines.specs.declared.Read.the-variants.{Z, OutOfRange, NotANumber}
-use Rattle.refusals.specs.Columns.{Columns, columns}
+use Rattle.refusals.specs.Book.{Book, book}
 use Rattle.palmer_input.proofs.Steps.{closed}
 use borrow.Author.Needs.{needs}
 use Rattle.palmer_input.proofs.close_line.Statement.{statement}
 use Rattle.palmer_input.proofs.close_line.Tie as tie
 
-abbrev lent : tie.Start → Columns
-lent s = let a = s .args in columns (now (a .x1)) (now (a .x2)) (now (a .x3)) (now (a .index)) (now (a .mark))
+abbrev lent : tie.Start → Book
+lent s = let a = s .args in book (now (a .x1)) (now (a .x2)) (now (a .x3)) (now (a .index)) (now (a .mark)) (now (a .records)) (now (a .v))
 
 finish-requires : tie.Need-finish-requires
 finish-requires c κs = search needs
@@ -54,10 +54,16 @@ same-length-5 c = search needs
 same-length-6 : tie.Need-same-length-6
 same-length-6 c = search needs
 
+same-length-7 : tie.Need-same-length-7
+same-length-7 c = search needs
+
+same-length-8 : tie.Need-same-length-8
+same-length-8 c = search needs
+
 returns : tie.Need-returns
 returns c =
-    let al = c .before .before .before .before .before .before .before .before in
-    let kt = al .before .before .before .before .before .before .before in
+    let al = c .before .before .before .before .before .before .before .before .before .before in
+    let kt = al .before .before .before .before .before .before .before .before .before in
     let f : SFits w32 (kt .before .r .given .0 .0) = record { sfits = kt .known-told .given .0 .1 } in
     let fi = kt .before .before .before in
     let s = fi .before .before .before in
@@ -93,6 +99,8 @@ close-line-spec =
     same-length-4
     same-length-5
     same-length-6
+    same-length-7
+    same-length-8
     returns
     returns-2
     returns-3)

@@ -2,14 +2,14 @@
 use borrow.Author.Needs.{needs}
 use mathlib.Core.Path.{sym, _∙_}
 use denote.Ref.{now}
-use Rattle.refusals.specs.Columns.{columns}
+use Rattle.refusals.specs.Book.{book}
 use Rattle.palmer_input.specs.ByLines.{State, state}
 use Rattle.palmer_input.proofs.Steps.{end-closes, end-blank, end-refused}
 use Rattle.palmer_input.proofs.end.Statement.{statement}
 use Rattle.palmer_input.proofs.end.Tie as tie
 
 abbrev held : tie.Start → State
-held s = let a = s .args in state (a .s) (columns (now (a .x1)) (now (a .x2)) (now (a .x3)) (now (a .index)) (now (a .mark))) (now (a .percent))
+held s = let a = s .args in state (a .s) (book (now (a .x1)) (now (a .x2)) (now (a .x3)) (now (a .index)) (now (a .mark)) (now (a .records)) (now (a .v))) (now (a .percent))
 
 returns : tie.Need-returns
 returns c = let s = c .before .before .before .before .before .before in sym (end-refused (held s) (c .if1 .taken))
@@ -43,10 +43,16 @@ same-length-5 c = search needs
 same-length-6 : tie.Need-same-length-6
 same-length-6 c = search needs
 
+same-length-7 : tie.Need-same-length-7
+same-length-7 c = search needs
+
+same-length-8 : tie.Need-same-length-8
+same-length-8 c = search needs
+
 returns-3 : tie.Need-returns-3
 returns-3 c =
-    let cl = c .before .before .before .before .before .before .before .before in
-    let e = cl .before .before .before .before .before .before .before in
+    let cl = c .before .before .before .before .before .before .before .before .before .before in
+    let e = cl .before .before .before .before .before .before .before .before .before in
     let s = e .before .before .before .before .before .before .before .before in
     cl .close-line .ensures ∙ sym (end-closes (held s) (e .before .before .if1 .left) (sym (e .before .is-blank .ensures) ∙ e .if2 .left))
 
@@ -64,4 +70,6 @@ end-spec =
     same-length-4
     same-length-5
     same-length-6
+    same-length-7
+    same-length-8
     returns-3)

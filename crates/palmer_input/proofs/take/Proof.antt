@@ -17,11 +17,11 @@ use Rattle.palmer_input.proofs.take.Statement.{statement}
 use Rattle.palmer_input.proofs.take.Tie as tie
 
 abbrev Inv-loop : tie.InvT-loop
-Inv-loop bytes x1₀ x2₀ x3₀ index₀ mark₀ percent₀ line₀ refused₀ run₀ i₀ x1 x2 x3 index mark percent line refused run i =
-    (i ≤ length bytes) × (foldl byteFed (held line refused run x1 x2 x3 index mark percent) (drop i bytes) ≡ foldl byteFed (held line₀ refused₀ run₀ x1₀ x2₀ x3₀ index₀ mark₀ percent₀) bytes) × (lengths (held line refused run x1 x2 x3 index mark percent) ≡ lengths (held line₀ refused₀ run₀ x1₀ x2₀ x3₀ index₀ mark₀ percent₀))
+Inv-loop bytes x1₀ x2₀ x3₀ index₀ mark₀ records₀ v₀ percent₀ line₀ refused₀ run₀ i₀ x1 x2 x3 index mark records v percent line refused run i =
+    (i ≤ length bytes) × (foldl byteFed (held line refused run x1 x2 x3 index mark records v percent) (drop i bytes) ≡ foldl byteFed (held line₀ refused₀ run₀ x1₀ x2₀ x3₀ index₀ mark₀ records₀ v₀ percent₀) bytes) × (lengths (held line refused run x1 x2 x3 index mark records v percent) ≡ lengths (held line₀ refused₀ run₀ x1₀ x2₀ x3₀ index₀ mark₀ records₀ v₀ percent₀))
 
 abbrev μ-loop : tie.MeasureT-loop
-μ-loop bytes x1₀ x2₀ x3₀ index₀ mark₀ percent₀ line₀ refused₀ run₀ i₀ x1 x2 x3 index mark percent line refused run i =
+μ-loop bytes x1₀ x2₀ x3₀ index₀ mark₀ records₀ v₀ percent₀ line₀ refused₀ run₀ i₀ x1 x2 x3 index mark records v percent line refused run i =
     length bytes - i
 
 loop-holds : tie.Need-loop-holds Inv-loop μ-loop
@@ -47,10 +47,10 @@ given a = now (a .before .before .before .before .before .before .args .bytes)
 
 -- what is held before a pass, and after it
 abbrev before : tie.At-loop Inv-loop μ-loop → State
-before a = let l = a .loop in held (l .line) (l .refused) (l .run) (l .x1) (l .x2) (l .x3) (l .index) (l .mark) (l .percent)
+before a = let l = a .loop in held (l .line) (l .refused) (l .run) (l .x1) (l .x2) (l .x3) (l .index) (l .mark) (l .records) (l .v) (l .percent)
 
 abbrev after : tie.Joined1 Inv-loop μ-loop → State
-after c = let l = c .if1 in held (l .line) (l .refused) (l .run) (l .x1) (l .x2) (l .x3) (l .index) (l .mark) (l .percent)
+after c = let l = c .if1 in held (l .line) (l .refused) (l .run) (l .x1) (l .x2) (l .x3) (l .index) (l .mark) (l .records) (l .v) (l .percent)
 
 went : (c : tie.Joined1 Inv-loop μ-loop) → let a = c .before .before in (after c ≡ byteFed (before a) (getD (given a) (a .loop .i) 0)) × (lengths (after c) ≡ lengths (before a))
 went c =
@@ -58,12 +58,12 @@ went c =
     let t = before a in
     let b = getD (given a) (a .loop .i) 0 in
     ⊎-elim
-    (λ w. let e = held-same (w .20) (w .21) (w .22) (w .23) (w .24) (w .25) (w .26) (w .27) (w .28) in
-    (e ∙ w .9 .ensures ∙ sym (byte-closes t b (w .0 .taken) (w .2 .taken)), ap lengths e ∙ (let k = w .9 .kept .1 .1 in long-same (k .0) (k .1 .0) (k .1 .1 .0) (k .1 .1 .1 .0) (k .1 .1 .1 .1 .0) (k .1 .1 .1 .1 .1 .0))))
+    (λ w. let e = held-same (w .24) (w .25) (w .26) (w .27) (w .28) (w .29) (w .30) (w .31) (w .32) (w .33) (w .34) in
+    (e ∙ w .11 .ensures ∙ sym (byte-closes t b (w .0 .taken) (w .2 .taken)), ap lengths e ∙ (let k = w .11 .kept .1 .1 in long-same (k .0) (k .1 .0) (k .1 .1 .0) (k .1 .1 .1 .0) (k .1 .1 .1 .1 .0) (k .1 .1 .1 .1 .1 .0) (k .1 .1 .1 .1 .1 .1 .0) (k .1 .1 .1 .1 .1 .1 .1 .0))))
     (⊎-elim
-    (λ w. let e = held-same (w .4) (w .5) (w .6) (w .7) (w .8) (w .9) (w .10 ∙ w .3 .ensures) (w .11) (w .12) in
+    (λ w. let e = held-same (w .4) (w .5) (w .6) (w .7) (w .8) (w .9) (w .10) (w .11) (w .12 ∙ w .3 .ensures) (w .13) (w .14) in
     (e ∙ sym (byte-within t b (w .0 .taken) (w .2 .left)), ap lengths e))
-    (λ w. let e = held-same (w .1) (w .2) (w .3) (w .4) (w .5) (w .6) (w .7) (w .8) (w .9) in (e ∙ sym (byte-refused t b (w .0 .left)), ap lengths e)))
+    (λ w. let e = held-same (w .1) (w .2) (w .3) (w .4) (w .5) (w .6) (w .7) (w .8) (w .9) (w .10) (w .11) in (e ∙ sym (byte-refused t b (w .0 .left)), ap lengths e)))
     (c .if1 .came)
 
 one-more : {w : State} (bytes : List ℕ) (t u : State) (i : ℕ) → i < length bytes → u ≡ byteFed t (getD bytes i 0) → foldl byteFed t (drop i bytes) ≡ w → foldl byteFed u (drop (i + 1) bytes) ≡ w
@@ -91,7 +91,13 @@ same-length-5 : tie.Need-same-length-5 Inv-loop μ-loop
 same-length-5 c = ap (λ (l : Lengths). l .mark) (c .before .loop .inv .2)
 
 same-length-6 : tie.Need-same-length-6 Inv-loop μ-loop
-same-length-6 c = ap (λ (l : Lengths). l .percent) (c .before .loop .inv .2)
+same-length-6 c = ap (λ (l : Lengths). l .records) (c .before .loop .inv .2)
+
+same-length-7 : tie.Need-same-length-7 Inv-loop μ-loop
+same-length-7 c = ap (λ (l : Lengths). l .v) (c .before .loop .inv .2)
+
+same-length-8 : tie.Need-same-length-8 Inv-loop μ-loop
+same-length-8 c = ap (λ (l : Lengths). l .percent) (c .before .loop .inv .2)
 
 all-fed : {w : State} (bytes : List ℕ) (t : State) (i : ℕ) → length bytes ≤ i → foldl byteFed t (drop i bytes) ≡ w → t ≡ w
 all-fed bytes t i h e = sym (ap (foldl byteFed t) (drop-of-length-le bytes h)) ∙ e
@@ -120,4 +126,6 @@ take-spec =
     same-length-4
     same-length-5
     same-length-6
+    same-length-7
+    same-length-8
     returns)

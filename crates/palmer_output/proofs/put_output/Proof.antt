@@ -9,7 +9,7 @@ use denote.Ref.{now}
 use Rattle.rows.specs.Text.{refusedText}
 use Rattle.rows.specs.Room.{laid}
 use Rattle.rows.proofs.Laid.{Put}
-use Rattle.refusals.specs.Columns.{Columns, columns}
+use Rattle.refusals.specs.Book.{Book, book}
 use Rattle.runs.specs.declared.Run.{Run}
 use Rattle.palmer_output.specs.Output.{allRows, lineAfter, outputOf}
 use Rattle.palmer_output.proofs.put_output.Statement.{statement}
@@ -20,7 +20,7 @@ abbrev Whole : List ℕ → List ℕ → ℕ → List ℕ → Type 0
 Whole text o r q = (r ≡ length text) × (q ≡ laid text 0 o)
 
 -- what is put is the output, where the number is 0 and where it is not
-module _ (run : Run) (cs : Columns) (ps o : List ℕ) (r : ℕ) (q : List ℕ) where
+module _ (run : Run) (cs : Book) (ps o : List ℕ) (r : ℕ) (q : List ℕ) where
   rows-put : (k : ℕ) → k ≡ 0 → Whole (allRows run cs ps) o r q → Whole (outputOf k run cs ps) o r q
   unfolding outputOf
   rows-put k e p = rw e p
@@ -40,7 +40,7 @@ returns : tie.Need-returns
 returns c =
     let a = c .before .before .before .before .before .before .before .before .args in
     let e = c .before .before .put-rows .ensures in
-    (e .0, rows-put (a .run) (columns (now (a .x1)) (now (a .x2)) (now (a .x3)) (now (a .index)) (now (a .mark))) (now (a .percent)) (now (a .out)) _ _ (a .number) (omega arith) (e .1))
+    (e .0, rows-put (a .run) (book (now (a .x1)) (now (a .x2)) (now (a .x3)) (now (a .index)) (now (a .mark)) (now (a .records)) (now (a .v))) (now (a .percent)) (now (a .out)) _ _ (a .number) (omega arith) (e .1))
 
 line-after-requires : tie.Need-line-after-requires
 line-after-requires c κs = search needs
@@ -56,7 +56,7 @@ returns-2 c =
     let a = c .before .before .before .before .before .before .before .before .before .args in
     let e = c .before .before .lay-refusal .ensures in
     let l = c .before .before .before .before .line-after .ensures in
-    (omega (arith, e .1 .0), refusal-put (a .run) (columns (now (a .x1)) (now (a .x2)) (now (a .x3)) (now (a .index)) (now (a .mark))) (now (a .percent)) (now (a .out)) _ _ (a .number) _ (search needs) l (e .0, e .1 .1))
+    (omega (arith, e .1 .0), refusal-put (a .run) (book (now (a .x1)) (now (a .x2)) (now (a .x3)) (now (a .index)) (now (a .mark)) (now (a .records)) (now (a .v))) (now (a .percent)) (now (a .out)) _ _ (a .number) _ (search needs) l (e .0, e .1 .1))
 
 pub put-output-spec : {M : Type 1} → statement M
 put-output-spec =

@@ -19,8 +19,8 @@ percent-at-requires c κs = search needs
 row-requires : tie.Need-row-requires
 row-requires c κs = search needs
 
-add-t15 : tie.Need-add-t15
-add-t15 c = search needs
+add-t17 : tie.Need-add-t17
+add-t17 c = search needs
 
 lay-out-requires : tie.Need-lay-out-requires
 lay-out-requires c κs = search needs
@@ -36,10 +36,10 @@ returns c =
     let told = put .before .before .struct-told .given in
     let counted = shown .before in
     let s = counted .before .before .before .before in
-    let f1 : SFits w32 (shown .row .result .x1) = record { sfits = search (needs, told) } in
-    let f2 : SFits w32 (shown .row .result .x2) = record { sfits = search (needs, told) } in
-    let f3 : SFits w32 (shown .row .result .x3) = record { sfits = search (needs, told) } in
-    let fi : SFits w32 (shown .row .result .index) = record { sfits = search (needs, told) } in
+    let f1 : SFits w32 (shown .row .result .x1) = record { sfits = told .1 .0 .1 } in
+    let f2 : SFits w32 (shown .row .result .x2) = record { sfits = told .1 .1 .0 .1 } in
+    let f3 : SFits w32 (shown .row .result .x3) = record { sfits = told .1 .1 .1 .0 .1 } in
+    let fi : SFits w32 (shown .row .result .index) = record { sfits = told .1 .1 .1 .1 .0 .1 } in
     let e = rw (toZ-ofZ f1, toZ-ofZ f2, toZ-ofZ f3, toZ-ofZ fi) at (put .lay-out .ensures) in
     let same = ap₂ (rowOf (s .args .i)) (shown .row .ensures) (counted .percent-at .ensures) in
     (e .1 .0, (e .0 ∙ ap (λ w. s .args .at + length (rowText w)) same, e .1 .1 ∙ ap (λ w. laid (rowText w) (s .args .at) (now (s .args .out))) same))
@@ -47,4 +47,4 @@ returns c =
 pub put-row-spec : {M : Type 1} → statement M
 put-row-spec =
     tie.close
-    (tie.spec percent-at-requires row-requires add-t15 lay-out-requires same-length returns)
+    (tie.spec percent-at-requires row-requires add-t17 lay-out-requires same-length returns)

@@ -10,7 +10,7 @@ use lib.ListN.{length}
 use denote.Ref.{now}
 use Rattle.rows.specs.Text.{rowText}
 use Rattle.rows.proofs.Laid.{Put, put-then, put-none}
-use Rattle.refusals.specs.Columns.{Columns, columns}
+use Rattle.refusals.specs.Book.{Book, book}
 use Rattle.runs.specs.declared.Run.{Run}
 use Rattle.palmer_output.specs.Printed.{rowAt, rowsText}
 use Rattle.palmer_output.specs.Output.{shownMonths}
@@ -18,16 +18,16 @@ use Rattle.palmer_output.proofs.put_rows.Statement.{statement}
 use Rattle.palmer_output.proofs.put_rows.Tie as tie
 
 -- the row of one month more
-one-more : (run : Run) (i : ℕ) (cs : Columns) (ps o : List ℕ) (e r : ℕ) (p q : List ℕ) → Put (rowsText run i cs ps) 0 o e p → Put (rowText (rowAt run i cs ps)) e p r q → Put (rowsText run (i + 1) cs ps) 0 o r q
+one-more : (run : Run) (i : ℕ) (cs : Book) (ps o : List ℕ) (e r : ℕ) (p q : List ℕ) → Put (rowsText run i cs ps) 0 o e p → Put (rowText (rowAt run i cs ps)) e p r q → Put (rowsText run (i + 1) cs ps) 0 o r q
 unfolding rowsText
 one-more run i cs ps o e r p q f g = rw (add-one i) (put-then (rowsText run i cs ps) (rowText (rowAt run i cs ps)) 0 o (omega arith) e r p q f g)
 
 abbrev Inv-loop : tie.InvT-loop
-Inv-loop out₀ run x1 x2 x3 index mark percent end at₀ i₀ out at i =
-    (length out ≡ length out₀) × (at ≤ 72 * i) × (i ≤ end) × (end ≡ shownMonths (run .months)) × Put (rowsText run i (columns x1 x2 x3 index mark) percent) 0 out₀ at out
+Inv-loop out₀ run x1 x2 x3 index mark records v percent end at₀ i₀ out at i =
+    (length out ≡ length out₀) × (at ≤ 72 * i) × (i ≤ end) × (end ≡ shownMonths (run .months)) × Put (rowsText run i (book x1 x2 x3 index mark records v) percent) 0 out₀ at out
 
 abbrev μ-loop : tie.MeasureT-loop
-μ-loop out₀ run x1 x2 x3 index mark percent end at₀ i₀ out at i = end - i
+μ-loop out₀ run x1 x2 x3 index mark records v percent end at₀ i₀ out at i = end - i
 
 line-after-requires : tie.Need-line-after-requires Inv-loop μ-loop
 line-after-requires c κs = search needs
@@ -57,9 +57,9 @@ loop-again c =
     let l = p .before .before .before in
     let v = l .loop .inv in
     let a = l .before .before .before .before .before .args in
-    let cs = columns (now (a .x1)) (now (a .x2)) (now (a .x3)) (now (a .index)) (now (a .mark)) in
+    let cs = book (now (a .x1)) (now (a .x2)) (now (a .x3)) (now (a .index)) (now (a .mark)) (now (a .records)) (now (a .v)) in
     let e = p .put-row .ensures in
-    (p .put-row .kept .1 .1 .1 .1 .1 .1 .1 .1 .1 .0 ∙ v .0, omega (arith, e .0, v .1), omega arith, v .3, one-more (a .run) (l .loop .i) cs (now (a .percent)) (now (a .out)) (l .loop .at) _ (l .loop .out) _ (v .4) (e .1 .0, e .1 .1))
+    (_∙_ {b = length (l .loop .out)} (p .put-row .kept .1 .1 .1 .1 .1 .1 .1 .1 .1 .1 .1 .0) (v .0), omega (arith, e .0, v .1), omega arith, v .3, one-more (a .run) (l .loop .i) cs (now (a .percent)) (now (a .out)) (l .loop .at) (p .put-row .result) (l .loop .out) (p .put-row .last .1 .1 .1 .1 .1 .1 .1 .1 .1 .1 .1 .0) (v .4) (e .1 .0, e .1 .1))
 
 same-length : tie.Need-same-length Inv-loop μ-loop
 same-length c = c .before .loop .inv .0

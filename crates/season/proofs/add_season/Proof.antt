@@ -17,7 +17,7 @@ use denote.Ref.{now}
 use Rattle.outline.specs.Refusals.{badLists}
 use Rattle.outline.proofs.Tests.{cond-zero}
 use Rattle.outline.proofs.Refusals.{or-zero, is-done, is-refused}
-use Rattle.refusals.specs.Columns.{Columns, columns}
+use Rattle.refusals.specs.Book.{Book, book}
 use Rattle.refusals.specs.Good.{Good}
 use Rattle.refusals.specs.Refusals.{runRefusal}
 use Rattle.refusals.proofs.Refused.{run-passes}
@@ -34,23 +34,23 @@ use Rattle.season.proofs.add_season.Statement.{statement}
 use Rattle.season.proofs.add_season.Tie as tie
 
 abbrev Inv-loop : tie.InvT-loop
-Inv-loop p pe x1₀ x2₀ x3₀ index₀ mark₀ constants number s₀ i₀ x1 x2 x3 index mark s i =
+Inv-loop p pe x1₀ x2₀ x3₀ index₀ mark₀ records₀ v₀ constants number s₀ i₀ x1 x2 x3 index mark records v s i =
     (i ≤ length p)
-    × (addEach (seasonResult (seasonOf s 0 constants) (columns x1 x2 x3 index mark)) (drop i p) (drop i pe) ≡ addEach (seasonResult (seasonOf s₀ 0 constants) (columns x1₀ x2₀ x3₀ index₀ mark₀)) p pe)
-    × Good (runOf (s .progress) constants) (columns x1 x2 x3 index mark)
+    × (addEach (seasonResult (seasonOf s 0 constants) (book x1 x2 x3 index mark records v)) (drop i p) (drop i pe) ≡ addEach (seasonResult (seasonOf s₀ 0 constants) (book x1₀ x2₀ x3₀ index₀ mark₀ records₀ v₀)) p pe)
+    × Good (runOf (s .progress) constants) (book x1 x2 x3 index mark records v)
     × (s .settled + s .progress .opens ≤ s .progress .months)
     × (s .added ≤ s .progress .months)
-    × SameLengths (columns x1 x2 x3 index mark) (columns x1₀ x2₀ x3₀ index₀ mark₀)
+    × SameLengths (book x1 x2 x3 index mark records v) (book x1₀ x2₀ x3₀ index₀ mark₀ records₀ v₀)
 
 abbrev μ-loop : tie.MeasureT-loop
-μ-loop p pe x1₀ x2₀ x3₀ index₀ mark₀ constants number s₀ i₀ x1 x2 x3 index mark s i = length p - i
+μ-loop p pe x1₀ x2₀ x3₀ index₀ mark₀ records₀ v₀ constants number s₀ i₀ x1 x2 x3 index mark records v s i = length p - i
 
 -- ---- before the first month
-abbrev lent : tie.Start Inv-loop μ-loop → Columns
-lent s = let a = s .args in columns (now (a .x1)) (now (a .x2)) (now (a .x3)) (now (a .index)) (now (a .mark))
+abbrev lent : tie.Start Inv-loop μ-loop → Book
+lent s = let a = s .args in book (now (a .x1)) (now (a .x2)) (now (a .x3)) (now (a .index)) (now (a .mark)) (now (a .records)) (now (a .v))
 
 abbrev apart : tie.After-season-refusal Inv-loop μ-loop → tie.After-progress-of Inv-loop μ-loop
-apart q = q .before .before .before .before .before .before .before
+apart q = q .before .before .before .before .before .before .before .before .before
 
 abbrev entered : tie.After-season-refusal Inv-loop μ-loop → tie.Start Inv-loop μ-loop
 entered q = apart q .before .before .before
@@ -83,6 +83,12 @@ same-length-4 c = search needs
 same-length-5 : tie.Need-same-length-5 Inv-loop μ-loop
 same-length-5 c = search needs
 
+same-length-6 : tie.Need-same-length-6 Inv-loop μ-loop
+same-length-6 c = search needs
+
+same-length-7 : tie.Need-same-length-7 Inv-loop μ-loop
+same-length-7 c = search needs
+
 nothing-added-requires : tie.Need-nothing-added-requires Inv-loop μ-loop
 nothing-added-requires c κs = search needs
 
@@ -112,7 +118,7 @@ loop-holds c =
     let g = passes c .1 in
     let s = entered (c .before .before) in
     let f = run-is (s .args .run) (lent s) g in
-    (omega arith, refl, rw n g, rw n (omega (arith, f .opens)), rw n (omega arith), (refl, refl, refl, refl, refl))
+    (omega arith, refl, rw n g, rw n (omega (arith, f .opens)), rw n (omega arith), (refl, refl, refl, refl, refl, refl, refl))
 
 abbrev start : tie.At-loop Inv-loop μ-loop → tie.Start Inv-loop μ-loop
 start a = entered (a .before .before .before)
@@ -136,7 +142,7 @@ shared-slice-copy-out-demand c =
     omega (arith, l .loop-test .taken, passes (l .before .before) .0)
 
 add-listed-requires : tie.Need-add-listed-requires Inv-loop μ-loop
-add-listed-requires c κs = c .before .before .before .before .before .before .before .before .before .before .loop .inv .2
+add-listed-requires c κs = c .before .before .before .before .before .before .before .before .before .before .before .before .loop .inv .2
 
 -- with nothing refused before the first month, all is what the months make
 whole : (e : tie.Else1 Inv-loop μ-loop) (w : SeasonResult)
@@ -152,14 +158,14 @@ whole e w h =
 
 -- ---- a pass
 abbrev inside : tie.After-add-listed Inv-loop μ-loop → tie.In-loop Inv-loop μ-loop
-inside t = t .before .before .before .before .before .before .before .before .before .before
+inside t = t .before .before .before .before .before .before .before .before .before .before .before .before
 
-abbrev so-far : tie.At-loop Inv-loop μ-loop → Columns
-so-far a = let l = a .loop in columns (l .x1) (l .x2) (l .x3) (l .index) (l .mark)
+abbrev so-far : tie.At-loop Inv-loop μ-loop → Book
+so-far a = let l = a .loop in book (l .x1) (l .x2) (l .x3) (l .index) (l .mark) (l .records) (l .v)
 
 -- what the single add has left
-abbrev then : tie.After-add-listed Inv-loop μ-loop → Columns
-then t = let l = t .add-listed .last .1 .1 .1 .1 in columns (l .0) (l .1 .0) (l .1 .1 .0) (l .1 .1 .1 .0) (l .1 .1 .1 .1 .0)
+abbrev then : tie.After-add-listed Inv-loop μ-loop → Book
+then t = let l = t .add-listed .last .1 .1 .1 .1 in book (l .0) (l .1 .0) (l .1 .1 .0) (l .1 .1 .1 .0) (l .1 .1 .1 .1 .0) (l .1 .1 .1 .1 .1 .0) (l .1 .1 .1 .1 .1 .1 .0)
 
 -- the run's constants, and the season before the pass
 abbrev constants : tie.At-loop Inv-loop μ-loop → List ℤ
@@ -178,7 +184,7 @@ alone : (t : tie.After-add-listed Inv-loop μ-loop)
     → let a = inside t .before in
     result (addedOf (t .add-listed .result) (constants a)) (then t) ≡ single (seasonResult (before a) (so-far a)) (getD (ps a) (a .loop .i) (pos 0)) (getD (pes a) (a .loop .i) (pos 0))
 alone t =
-    let d = t .before .before .before .before .before .before .before in
+    let d = t .before .before .before .before .before .before .before .before .before in
     let a = inside t .before in
     let f : SFits w32 (getD (ps a) (a .loop .i) (pos 0)) = record { sfits = d .before .rain .given } in
     let g : SFits w32 (getD (pes a) (a .loop .i) (pos 0)) = record { sfits = d .demand .given } in
@@ -188,29 +194,35 @@ long-kept : (t : tie.After-add-listed Inv-loop μ-loop) → SameLengths (then t)
 long-kept t =
     let a = inside t .before in
     let k = t .add-listed .kept .1 .1 .1 .1 in
-    lengths-then (then t) (so-far a) (lent (start a)) (k .0, k .1 .0, k .1 .1 .0, k .1 .1 .1 .0, k .1 .1 .1 .1 .0) (a .loop .inv .5)
+    lengths-then (then t) (so-far a) (lent (start a)) (k .0, k .1 .0, k .1 .1 .0, k .1 .1 .1 .0, k .1 .1 .1 .1 .0, k .1 .1 .1 .1 .1 .0, k .1 .1 .1 .1 .1 .1 .0) (a .loop .inv .5)
 
 -- a month that is refused
 abbrev stopped-at : tie.After-season-of2 Inv-loop μ-loop → tie.After-add-listed Inv-loop μ-loop
-stopped-at c = c .before .before .before .before .before .before .before .before .before
+stopped-at c = c .before .before .before .before .before .before .before .before .before .before .before
 
 season-of-requires-2 : tie.Need-season-of-requires-2 Inv-loop μ-loop
 season-of-requires-2 c κs = search needs
 
-same-length-6 : tie.Need-same-length-6 Inv-loop μ-loop
-same-length-6 c = long-kept (stopped-at c) .0
-
-same-length-7 : tie.Need-same-length-7 Inv-loop μ-loop
-same-length-7 c = long-kept (stopped-at c) .1
-
 same-length-8 : tie.Need-same-length-8 Inv-loop μ-loop
-same-length-8 c = long-kept (stopped-at c) .2
+same-length-8 c = long-kept (stopped-at c) .0
 
 same-length-9 : tie.Need-same-length-9 Inv-loop μ-loop
-same-length-9 c = long-kept (stopped-at c) .3
+same-length-9 c = long-kept (stopped-at c) .1
 
 same-length-10 : tie.Need-same-length-10 Inv-loop μ-loop
-same-length-10 c = long-kept (stopped-at c) .4
+same-length-10 c = long-kept (stopped-at c) .2
+
+same-length-11 : tie.Need-same-length-11 Inv-loop μ-loop
+same-length-11 c = long-kept (stopped-at c) .3
+
+same-length-12 : tie.Need-same-length-12 Inv-loop μ-loop
+same-length-12 c = long-kept (stopped-at c) .4
+
+same-length-13 : tie.Need-same-length-13 Inv-loop μ-loop
+same-length-13 c = long-kept (stopped-at c) .5
+
+same-length-14 : tie.Need-same-length-14 Inv-loop μ-loop
+same-length-14 c = long-kept (stopped-at c) .6
 
 returns-2 : tie.Need-returns-2 Inv-loop μ-loop
 returns-2 c =
@@ -221,7 +233,7 @@ returns-2 c =
 
 -- a month that is added
 abbrev pass : tie.Else2 Inv-loop μ-loop → tie.After-add-listed Inv-loop μ-loop
-pass k = k .before .before .before .before .before .before .before .before
+pass k = k .before .before .before .before .before .before .before .before .before .before
 
 counts : (k : tie.Else2 Inv-loop μ-loop)
     → let m = pass k .add-listed .result in
@@ -267,20 +279,26 @@ loop-again c =
 season-of-requires-3 : tie.Need-season-of-requires-3 Inv-loop μ-loop
 season-of-requires-3 c κs = search needs
 
-same-length-11 : tie.Need-same-length-11 Inv-loop μ-loop
-same-length-11 c = c .before .before .loop .inv .5 .0
-
-same-length-12 : tie.Need-same-length-12 Inv-loop μ-loop
-same-length-12 c = c .before .before .loop .inv .5 .1
-
-same-length-13 : tie.Need-same-length-13 Inv-loop μ-loop
-same-length-13 c = c .before .before .loop .inv .5 .2
-
-same-length-14 : tie.Need-same-length-14 Inv-loop μ-loop
-same-length-14 c = c .before .before .loop .inv .5 .3
-
 same-length-15 : tie.Need-same-length-15 Inv-loop μ-loop
-same-length-15 c = c .before .before .loop .inv .5 .4
+same-length-15 c = c .before .before .loop .inv .5 .0
+
+same-length-16 : tie.Need-same-length-16 Inv-loop μ-loop
+same-length-16 c = c .before .before .loop .inv .5 .1
+
+same-length-17 : tie.Need-same-length-17 Inv-loop μ-loop
+same-length-17 c = c .before .before .loop .inv .5 .2
+
+same-length-18 : tie.Need-same-length-18 Inv-loop μ-loop
+same-length-18 c = c .before .before .loop .inv .5 .3
+
+same-length-19 : tie.Need-same-length-19 Inv-loop μ-loop
+same-length-19 c = c .before .before .loop .inv .5 .4
+
+same-length-20 : tie.Need-same-length-20 Inv-loop μ-loop
+same-length-20 c = c .before .before .loop .inv .5 .5
+
+same-length-21 : tie.Need-same-length-21 Inv-loop μ-loop
+same-length-21 c = c .before .before .loop .inv .5 .6
 
 returns-3 : tie.Need-returns-3 Inv-loop μ-loop
 returns-3 c =
@@ -303,6 +321,8 @@ add-season-spec =
     same-length-3
     same-length-4
     same-length-5
+    same-length-6
+    same-length-7
     returns
     loop-holds
     mul-rain
@@ -311,20 +331,24 @@ add-season-spec =
     shared-slice-copy-out-demand
     add-listed-requires
     season-of-requires-2
-    same-length-6
-    same-length-7
     same-length-8
     same-length-9
     same-length-10
+    same-length-11
+    same-length-12
+    same-length-13
+    same-length-14
     returns-2
     joined-by-requires
     add-i
     loop-less
     loop-again
     season-of-requires-3
-    same-length-11
-    same-length-12
-    same-length-13
-    same-length-14
     same-length-15
+    same-length-16
+    same-length-17
+    same-length-18
+    same-length-19
+    same-length-20
+    same-length-21
     returns-3)

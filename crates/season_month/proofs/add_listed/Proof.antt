@@ -1,16 +1,21 @@
 -- `season_month::add_listed` meets its contract: each reading is refused or its water taken, and then it refuses for want of room or adds the
 -- run's month of water. Assumes nothing.
 use mathlib.Core.Path.{_≡_, sym, ap, _∙_}
-use Prim.Native.Nat.{ℕ, _≤_}
+use Prim.Native.Nat.{ℕ, _≤_, _<_}
 use native.Mathlib.Omega.{arith}
 use borrow.Author.Needs.{needs}
+use lib.ListN.{length, set, length-set}
+use mir.Syntax.{w64}
+use mir.Val.{SFits}
 use mir.Facts.{toZ-ofZ}
 use denote.Ref.{now}
 use Rattle.door.specs.Outcome.{Outcome, outcome, accepted}
 use Rattle.door.specs.Readings.{reading, mostReading}
 use Rattle.door.proofs.Bounds.{reading-most}
 use Rattle.runs.specs.declared.Run.{Run}
-use Rattle.refusals.specs.Columns.{Columns, columns, long}
+use Rattle.records.specs.Record.{waterRecord, numbersOf}
+use Rattle.refusals.specs.Columns.{columns}
+use Rattle.refusals.specs.Book.{Book, book, columnsOf, bookOf, long}
 use Rattle.runs.specs.Progress.{runOf}
 use Rattle.refusals.specs.Refusals.{roomRefusal}
 use Rattle.outline.specs.Refusals.{orElse}
@@ -19,15 +24,15 @@ use Rattle.outline.proofs.Refusals.{or-first, or-second}
 use Rattle.adding.specs.Taken.{result}
 use Rattle.adding.specs.Progress.{addedOf}
 use Rattle.adding.specs.Ready.{Ready, Watered}
-use Rattle.adding.proofs.Readiness.{ready, watered}
+use Rattle.adding.proofs.Readiness.{ready, placed, watered}
 use Rattle.adding.proofs.Measured.{Measured, fit, measured, measured-is}
 use Rattle.season_month.specs.Listed.{listed}
 use Rattle.season_month.proofs.Months.{not-water, refused-as, accepted-as}
 use Rattle.season_month.proofs.add_listed.Statement.{statement}
 use Rattle.season_month.proofs.add_listed.Tie as tie
 
-abbrev lent : tie.Start → Columns
-lent s = let a = s .args in columns (now (a .x1)) (now (a .x2)) (now (a .x3)) (now (a .index)) (now (a .mark))
+abbrev lent : tie.Start → Book
+lent s = let a = s .args in book (now (a .x1)) (now (a .x2)) (now (a .x3)) (now (a .index)) (now (a .mark)) (now (a .records)) (now (a .v))
 
 abbrev given : tie.Start → Run
 given s = runOf (s .args .at) (now (s .args .constants))
@@ -150,10 +155,14 @@ waters e =
     let q = ap (λ (o : Outcome). o .water) (second-water (second e)) in
     (rw p at (reading-most (listed (a .p))), rw q at (reading-most (listed (a .pe))))
 
-ready-is : (e : tie.Else1) → let s = asked (e .before) in Ready (s .args .at .months) (s .args .at .opens) (s .args .at .values) (lent s)
-ready-is e =
-    let s = asked (e .before) in
-    ready (given s) (lent s) (s .pre) (room-passes (long (lent s)) (given s .months) (sym (e .before .room-refusal .ensures) ∙ e .if1 .left))
+room-left : (e : tie.Else1) → let s = asked (e .before) in given s .months < long (lent s)
+room-left e = let s = asked (e .before) in room-passes (long (lent s)) (given s .months) (sym (e .before .room-refusal .ensures) ∙ e .if1 .left)
+
+ready-is : (e : tie.Else1) → let s = asked (e .before) in Ready (s .args .at .months) (s .args .at .opens) (s .args .at .values) (columnsOf (lent s))
+ready-is e = let s = asked (e .before) in ready (given s) (lent s) (s .pre) (room-left e)
+
+placed-is : (e : tie.Else1) → let s = asked (e .before) in (s .args .at .months < length (now (s .args .records))) × (s .args .at .months < length (now (s .args .v)))
+placed-is e = let s = asked (e .before) in placed (given s) (lent s) (s .pre) (room-left e)
 
 watered-is : (e : tie.Else1) → Watered (given (asked (e .before)))
 watered-is e = let s = asked (e .before) in watered (given s) (lent s) (s .pre)
@@ -181,20 +190,57 @@ month-is c =
     let k = c .before .constants-at in
     measured (a .at) (now (a .constants)) (k .result) (k .ensures) (watered-is e) (p-of e) (pe-of e) (waters e) (c .month-of .result) (c .month-of .ensures)
 
+water-record-requires : tie.Need-water-record-requires
+water-record-requires c κs = month-is c .kept
+
+cast-put : tie.Need-cast-put
+cast-put c = search needs
+
+-- its place among the records
+abbrev reckoned : tie.After-put-arg → tie.After-month-of
+reckoned c = c .before .before .before
+
+put-requires : tie.Need-put-requires
+put-requires c κs = placed-is (spared (reckoned c)) .0
+
+abbrev noted : tie.After-add-spells → tie.After-put
+noted t = t .before .before .before .before .before .before .before .before
+
+abbrev made : tie.After-add-spells → tie.After-month-of
+made t = reckoned (noted t .before)
+
 add-spells-requires : tie.Need-add-spells-requires
 add-spells-requires c κs =
-    let d = c .before .before .before .before .before .before in
+    let d = reckoned (c .before .before .before .before .before .before .before .before) in
     let f = month-is d .fits in
     (ready-is (spared d), simp toZ-ofZ (month-is d .bounded))
 
-abbrev made : tie.After-add-spells → tie.After-month-of
-made t = t .before .before .before .before .before .before .before
+cast-put-v : tie.Need-cast-put-v
+cast-put-v c = search needs
+
+abbrev spelled : tie.After-put-v → tie.After-add-spells
+spelled c = c .before .before .before .before .before .before .before .before .before .before .before
+
+put-v-requires : tie.Need-put-v-requires
+put-v-requires c κs = placed-is (spared (made (c .before .before .before .before .before .before .before .before .before .before))) .1
 
 watered-requires : tie.Need-watered-requires
 watered-requires c κs =
-    let e = spared (made (c .before .before .before .before .before .before)) in
+    let e = spared (made (spelled (c .before))) in
     let r = ready-is e in
     (omega (arith, r .room, r .most), watered-is e .calendar)
+
+-- the record and V, as they are written
+put-wrote : (n : tie.After-put)
+    → let d = reckoned (n .before) in let e = spared d in let a = asked (e .before) .args in
+    n .put .last .1 .1 .0 ≡ set (now (a .records)) (a .at .months) (numbersOf (waterRecord (a .at .soil) (p-of e) (pe-of e) (d .month-of .result)))
+put-wrote n = rw (n .before .before .before .water-record .ensures) at (n .put .ensures)
+
+put-v-wrote : (u : tie.After-put-v) → let t = spelled u in let a = asked (spared (made t) .before) .args in u .put-v .last .1 .1 .0 ≡ set (now (a .v)) (a .at .months) (t .add-spells .result .values .v)
+put-v-wrote u =
+    let t = spelled u in
+    let f : SFits w64 (t .add-spells .result .values .v) = record { sfits = u .before .struct-told2 .given .1 .1 .1 .0 .1 } in
+    rw (toZ-ofZ f) at (u .put-v .ensures)
 
 same-length : tie.Need-same-length
 same-length c = search needs
@@ -211,9 +257,19 @@ same-length-4 c = search needs
 same-length-5 : tie.Need-same-length-5
 same-length-5 c = search needs
 
+same-length-6 : tie.Need-same-length-6
+same-length-6 c =
+    let n = noted (spelled (c .before .before)) in
+    let a = asked (spared (reckoned (n .before)) .before) .args in
+    ap length (put-wrote n) ∙ length-set (now (a .records)) _ _
+
+same-length-7 : tie.Need-same-length-7
+same-length-7 c = search needs
+
 returns-4 : tie.Need-returns-4
 returns-4 c =
-    let t = c .before .before .before .before .before .before .before in
+    let u = c .before .before in
+    let t = spelled u in
     let d = made t in
     let e = spared d in
     let s = asked (e .before) in
@@ -222,9 +278,9 @@ returns-4 c =
     let ds = columns (l .0) (l .1 .0) (l .1 .1 .0) (l .1 .1 .1 .0) (l .1 .1 .1 .1 .0) in
     let p = ap (λ (o : Outcome). o .water) (first-water (first e)) in
     let q = ap (λ (o : Outcome). o .water) (second-water (second e)) in
-    accepted-as (a .at) (now (a .constants)) (listed (a .p)) (listed (a .pe)) (lent s) (s .pre) (room-is (e .before) ∙ e .if1 .left) (result (addedOf (c .watered .result) (now (a .constants))) ds)
+    accepted-as (a .at) (now (a .constants)) (listed (a .p)) (listed (a .pe)) (lent s) (s .pre) (room-is (e .before) ∙ e .if1 .left) (result (addedOf (c .watered .result) (now (a .constants))) (bookOf ds (noted t .put .last .1 .1 .0) (u .put-v .last .1 .1 .0)))
     (rw (p, q) (measured-is (a .at) (now (a .constants)) (p-of e) (pe-of e) (d .month-of .result) (month-is d) (lent s) ds (t .add-spells .result)
-    (rw (toZ-ofZ (month-is d .fits)) at (t .add-spells .ensures)) (c .watered .result) (c .watered .ensures)))
+    (rw (toZ-ofZ (month-is d .fits)) at (t .add-spells .ensures)) (noted t .put .last .1 .1 .0) (put-wrote (noted t)) (u .put-v .last .1 .1 .0) (put-v-wrote u) (c .watered .result) (c .watered .ensures)))
 
 pub add-listed-spec : {M : Type 1} → statement M
 add-listed-spec =
@@ -247,11 +303,18 @@ add-listed-spec =
     returns-3
     constants-at-requires
     month-of-requires
+    water-record-requires
+    cast-put
+    put-requires
     add-spells-requires
+    cast-put-v
+    put-v-requires
     watered-requires
     same-length
     same-length-2
     same-length-3
     same-length-4
     same-length-5
+    same-length-6
+    same-length-7
     returns-4)

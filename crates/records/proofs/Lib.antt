@@ -1,0 +1,3 @@
+-- What a record can hold of a soil and of a month of water, and a number beside an amount (Fitting); the last record and the run (Meeting).
+pub mod Fitting
+pub mod Meeting
