@@ -24,6 +24,10 @@ pub const CONSTANTS: usize = 60;
 pub const OPEN: u8 = 1;
 pub const SETTLED: u8 = 2;
 
+/// Whether a month had water, as its record says it: only 1 is water.
+pub const HAD_NO_WATER: i32 = 0;
+pub const HAD_WATER: i32 = 1;
+
 /// What a number means: the words of card_meaning in include/card.h.
 pub fn meaning(number: u8) -> &'static str {
     match number {
@@ -174,6 +178,24 @@ pub struct MonthInches {
     pub pe: f32,
 }
 
+/// A month's water as its column holds it; `water` is `HAD_WATER`, or `HAD_NO_WATER` where the month was added as a Z.
+#[repr(C)]
+#[derive(Clone, Copy, Debug, Default, PartialEq, Eq)]
+pub struct Record {
+    pub z: i32,
+    pub p: i32,
+    pub pe: i32,
+    pub et: i32,
+    pub r: i32,
+    pub l: i32,
+    pub ro: i32,
+    pub ss: i32,
+    pub su: i32,
+    pub surface: i32,
+    pub underlying: i32,
+    pub water: i32,
+}
+
 #[repr(C)]
 #[derive(Clone, Copy, Debug, Default, PartialEq, Eq)]
 pub struct Shown {
@@ -183,15 +205,19 @@ pub struct Shown {
     pub x3: i32,
     pub index: i32,
     pub mark: u8,
+    pub month: Record,
+    pub v: i64,
 }
 
-/// The five columns, lent for a call. They may be of any lengths; what does not fit is refused.
+/// The seven columns, lent for a call. They may be of any lengths; what does not fit is refused.
 pub struct Columns<'a> {
     pub x1: &'a mut [i32],
     pub x2: &'a mut [i32],
     pub x3: &'a mut [i32],
     pub index: &'a mut [i32],
     pub mark: &'a mut [u8],
+    pub records: &'a mut [Record],
+    pub v: &'a mut [i64],
 }
 
 mod c {
@@ -200,11 +226,11 @@ mod c {
     extern "C" {
         pub fn card_read(reading: Reading) -> Answer;
         pub fn card_start(constants: *const i32, n: usize, capacity: i32, surface: i32, underlying: i32, month: i32) -> Started;
-        pub fn card_add_water(run: Run, p: Reading, pe: Reading, x1: *mut i32, n1: usize, x2: *mut i32, n2: usize, x3: *mut i32, n3: usize, index: *mut i32, ni: usize, mark: *mut u8, nm: usize) -> Added;
-        pub fn card_add_inches(run: Run, month: MonthInches, x1: *mut i32, n1: usize, x2: *mut i32, n2: usize, x3: *mut i32, n3: usize, index: *mut i32, ni: usize, mark: *mut u8, nm: usize) -> Added;
-        pub fn card_add_z(run: Run, z: i32, x1: *mut i32, n1: usize, x2: *mut i32, n2: usize, x3: *mut i32, n3: usize, index: *mut i32, ni: usize, mark: *mut u8, nm: usize) -> Added;
-        pub fn card_add_season(run: Run, p: *const i32, np: usize, pe: *const i32, npe: usize, x1: *mut i32, n1: usize, x2: *mut i32, n2: usize, x3: *mut i32, n3: usize, index: *mut i32, ni: usize, mark: *mut u8, nm: usize) -> Season;
-        pub fn card_row(run: Run, row: usize, x1: *const i32, n1: usize, x2: *const i32, n2: usize, x3: *const i32, n3: usize, index: *const i32, ni: usize, mark: *const u8, nm: usize) -> Shown;
+        pub fn card_add_water(run: Run, p: Reading, pe: Reading, x1: *mut i32, n1: usize, x2: *mut i32, n2: usize, x3: *mut i32, n3: usize, index: *mut i32, ni: usize, mark: *mut u8, nm: usize, records: *mut Record, nr: usize, v: *mut i64, nv: usize) -> Added;
+        pub fn card_add_inches(run: Run, month: MonthInches, x1: *mut i32, n1: usize, x2: *mut i32, n2: usize, x3: *mut i32, n3: usize, index: *mut i32, ni: usize, mark: *mut u8, nm: usize, records: *mut Record, nr: usize, v: *mut i64, nv: usize) -> Added;
+        pub fn card_add_z(run: Run, z: i32, x1: *mut i32, n1: usize, x2: *mut i32, n2: usize, x3: *mut i32, n3: usize, index: *mut i32, ni: usize, mark: *mut u8, nm: usize, records: *mut Record, nr: usize, v: *mut i64, nv: usize) -> Added;
+        pub fn card_add_season(run: Run, p: *const i32, np: usize, pe: *const i32, npe: usize, x1: *mut i32, n1: usize, x2: *mut i32, n2: usize, x3: *mut i32, n3: usize, index: *mut i32, ni: usize, mark: *mut u8, nm: usize, records: *mut Record, nr: usize, v: *mut i64, nv: usize) -> Season;
+        pub fn card_row(run: Run, row: usize, x1: *const i32, n1: usize, x2: *const i32, n2: usize, x3: *const i32, n3: usize, index: *const i32, ni: usize, mark: *const u8, nm: usize, records: *const Record, nr: usize, v: *const i64, nv: usize) -> Shown;
         pub fn card_whole_series(z: *const i32, nz: usize, index: *mut i32, ni: usize, mark: *mut u8, nm: usize) -> u8;
     }
 }
@@ -223,35 +249,35 @@ pub fn start(constants: &[i32], capacity: i32, surface: i32, underlying: i32, mo
 #[rustfmt::skip]
 pub fn add_water(run: Run, p: Reading, pe: Reading, k: &mut Columns) -> Added {
     unsafe {
-        c::card_add_water(run, p, pe, k.x1.as_mut_ptr(), k.x1.len(), k.x2.as_mut_ptr(), k.x2.len(), k.x3.as_mut_ptr(), k.x3.len(), k.index.as_mut_ptr(), k.index.len(), k.mark.as_mut_ptr(), k.mark.len())
+        c::card_add_water(run, p, pe, k.x1.as_mut_ptr(), k.x1.len(), k.x2.as_mut_ptr(), k.x2.len(), k.x3.as_mut_ptr(), k.x3.len(), k.index.as_mut_ptr(), k.index.len(), k.mark.as_mut_ptr(), k.mark.len(), k.records.as_mut_ptr(), k.records.len(), k.v.as_mut_ptr(), k.v.len())
     }
 }
 
 #[rustfmt::skip]
 pub fn add_inches(run: Run, month: MonthInches, k: &mut Columns) -> Added {
     unsafe {
-        c::card_add_inches(run, month, k.x1.as_mut_ptr(), k.x1.len(), k.x2.as_mut_ptr(), k.x2.len(), k.x3.as_mut_ptr(), k.x3.len(), k.index.as_mut_ptr(), k.index.len(), k.mark.as_mut_ptr(), k.mark.len())
+        c::card_add_inches(run, month, k.x1.as_mut_ptr(), k.x1.len(), k.x2.as_mut_ptr(), k.x2.len(), k.x3.as_mut_ptr(), k.x3.len(), k.index.as_mut_ptr(), k.index.len(), k.mark.as_mut_ptr(), k.mark.len(), k.records.as_mut_ptr(), k.records.len(), k.v.as_mut_ptr(), k.v.len())
     }
 }
 
 #[rustfmt::skip]
 pub fn add_z(run: Run, z: i32, k: &mut Columns) -> Added {
     unsafe {
-        c::card_add_z(run, z, k.x1.as_mut_ptr(), k.x1.len(), k.x2.as_mut_ptr(), k.x2.len(), k.x3.as_mut_ptr(), k.x3.len(), k.index.as_mut_ptr(), k.index.len(), k.mark.as_mut_ptr(), k.mark.len())
+        c::card_add_z(run, z, k.x1.as_mut_ptr(), k.x1.len(), k.x2.as_mut_ptr(), k.x2.len(), k.x3.as_mut_ptr(), k.x3.len(), k.index.as_mut_ptr(), k.index.len(), k.mark.as_mut_ptr(), k.mark.len(), k.records.as_mut_ptr(), k.records.len(), k.v.as_mut_ptr(), k.v.len())
     }
 }
 
 #[rustfmt::skip]
 pub fn add_season(run: Run, p: &[i32], pe: &[i32], k: &mut Columns) -> Season {
     unsafe {
-        c::card_add_season(run, p.as_ptr(), p.len(), pe.as_ptr(), pe.len(), k.x1.as_mut_ptr(), k.x1.len(), k.x2.as_mut_ptr(), k.x2.len(), k.x3.as_mut_ptr(), k.x3.len(), k.index.as_mut_ptr(), k.index.len(), k.mark.as_mut_ptr(), k.mark.len())
+        c::card_add_season(run, p.as_ptr(), p.len(), pe.as_ptr(), pe.len(), k.x1.as_mut_ptr(), k.x1.len(), k.x2.as_mut_ptr(), k.x2.len(), k.x3.as_mut_ptr(), k.x3.len(), k.index.as_mut_ptr(), k.index.len(), k.mark.as_mut_ptr(), k.mark.len(), k.records.as_mut_ptr(), k.records.len(), k.v.as_mut_ptr(), k.v.len())
     }
 }
 
 #[rustfmt::skip]
 pub fn row(run: Run, row: usize, k: &Columns) -> Shown {
     unsafe {
-        c::card_row(run, row, k.x1.as_ptr(), k.x1.len(), k.x2.as_ptr(), k.x2.len(), k.x3.as_ptr(), k.x3.len(), k.index.as_ptr(), k.index.len(), k.mark.as_ptr(), k.mark.len())
+        c::card_row(run, row, k.x1.as_ptr(), k.x1.len(), k.x2.as_ptr(), k.x2.len(), k.x3.as_ptr(), k.x3.len(), k.index.as_ptr(), k.index.len(), k.mark.as_ptr(), k.mark.len(), k.records.as_ptr(), k.records.len(), k.v.as_ptr(), k.v.len())
     }
 }
 

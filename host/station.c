@@ -23,6 +23,10 @@
  * and more digits, or a dash alone, which is a missing reading. A reading counts as the binary32 number nearest
  * to it, as a gauge would hand it over: 100.000001 is 100.
  *
+ * Printed are three tables, in thousandths: the months as their adds answered, or with MONTHS the calls; the rows
+ * of all months as they stand in the end; and of each month its water and what the two layers of soil stored at
+ * its end, with dashes for the water of a month that had none.
+ *
  * Nothing is printed on standard output before the whole file was found good, the run was started and every
  * month was added: a card must not show figures of half a file. What is wrong is said in one line on standard
  * error, with the line and column, and the status is
@@ -570,15 +574,15 @@ typedef struct step {
 } step;
 
 /* What will be printed: the calls one after the other, and then the rows of all months. */
-typedef struct record {
+typedef struct page {
     size_t steps;
     step step[CARD_MOST_MONTHS];
     size_t rows;
     card_shown row[CARD_MOST_MONTHS];
-} record;
+} page;
 
 /* Adds the months one by one. */
-static card_run add_singly(const station *st, card_columns columns, card_run run, record *r) {
+static card_run add_singly(const station *st, card_columns columns, card_run run, page *r) {
     for (size_t i = 0; i < st->count; i++) {
         const month *m = &st->months[i];
         card_added a = card_add_water_in(columns, run, m->precipitation.reading, m->pe.reading);
@@ -599,7 +603,7 @@ static int32_t listed(card_reading reading) {
 }
 
 /* Adds the months `most` at a time. */
-static card_run add_seasons(const station *st, card_columns columns, card_run run, record *r, size_t most) {
+static card_run add_seasons(const station *st, card_columns columns, card_run run, page *r, size_t most) {
     static int32_t p[CARD_MOST_MONTHS], pe[CARD_MOST_MONTHS];
     for (size_t first = 0; first < st->count; first += most) {
         size_t n = st->count - first < most ? st->count - first : most;
@@ -617,7 +621,7 @@ static card_run add_seasons(const station *st, card_columns columns, card_run ru
 }
 
 /* The rows of all months, as they stand after the last add: earlier ones may have been settled since. */
-static void look_back(card_columns columns, card_run run, record *r) {
+static void look_back(card_columns columns, card_run run, page *r) {
     for (; r->rows < run.months; r->rows++) {
         card_shown row = card_row_in(columns, run, r->rows);
         if (row.number != CARD_DONE)
@@ -646,7 +650,7 @@ static void flush(void) {
 }
 
 /* A row for each month, as its own add answered. */
-static void print_singly(const record *r, long first) {
+static void print_singly(const page *r, long first) {
     print("month P PE CAFEC Z percent index settled\n");
     for (size_t i = 0; i < r->steps; i++) {
         const card_figures *f = &r->step[i].figures;
@@ -658,7 +662,7 @@ static void print_singly(const record *r, long first) {
 }
 
 /* A row for each call: the months that it added and settled, and the index of the last one. */
-static void print_seasons(const record *r) {
+static void print_seasons(const page *r) {
     print("season added settled index\n");
     for (size_t i = 0; i < r->steps; i++)
         print("%zu %" PRIu32 " %" PRIu32 " %" PRId32 "\n", i + 1, r->step[i].added, r->step[i].settled,
@@ -666,13 +670,30 @@ static void print_seasons(const record *r) {
 }
 
 /* A row for each month, as the columns have it in the end. */
-static void print_rows(const record *r, long first) {
+static void print_rows(const page *r, long first) {
     print("month X1 X2 X3 index mark\n");
     for (size_t i = 0; i < r->rows; i++) {
         const card_shown *row = &r->row[i];
         long when = first + (long)i;
         print("%04ld-%02ld %" PRId32 " %" PRId32 " %" PRId32 " %" PRId32 " %c\n", when / 12, when % 12 + 1,
               row->x1, row->x2, row->x3, row->index, row->mark == CARD_SETTLED ? 'S' : 'O');
+    }
+}
+
+/* A row for each month: its water, and what the layers stored at its end. A month that was added as a Z had no
+ * water. */
+static void print_water(const page *r, long first) {
+    print("month P PE ET R L RO surface underlying\n");
+    for (size_t i = 0; i < r->rows; i++) {
+        const card_record *m = &r->row[i].month;
+        long when = first + (long)i;
+        print("%04ld-%02ld ", when / 12, when % 12 + 1);
+        if (m->water != CARD_HAD_WATER)
+            print("- - - - - - ");
+        else
+            print("%" PRId32 " %" PRId32 " %" PRId32 " %" PRId32 " %" PRId32 " %" PRId32 " ", m->p, m->pe, m->et,
+                  m->r, m->l, m->ro);
+        print("%" PRId32 " %" PRId32 "\n", m->surface, m->underlying);
     }
 }
 
@@ -715,10 +736,12 @@ static scanner read_input(void) {
 
 int main(int argc, char **argv) {
     static station st;
-    static record r;
+    static page r;
     static int32_t x1[CARD_MOST_MONTHS], x2[CARD_MOST_MONTHS], x3[CARD_MOST_MONTHS], index[CARD_MOST_MONTHS];
     static uint8_t mark[CARD_MOST_MONTHS];
-    card_columns columns = card_columns_of(x1, x2, x3, index, mark, CARD_MOST_MONTHS);
+    static card_record records[CARD_MOST_MONTHS];
+    static int64_t v[CARD_MOST_MONTHS];
+    card_columns columns = card_columns_of(x1, x2, x3, index, mark, records, v, CARD_MOST_MONTHS);
     /* a pipe that nobody reads is then a write that fails, and is said */
     signal(SIGPIPE, SIG_IGN);
     if (argc > 2)
@@ -739,6 +762,7 @@ int main(int argc, char **argv) {
     else
         print_seasons(&r);
     print_rows(&r, st.first);
+    print_water(&r, st.first);
     flush();
     return 0;
 }

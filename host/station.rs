@@ -9,8 +9,8 @@
 mod card;
 
 use card::{
-    meaning, Columns, Figures, Reading, Run, Shown, BAD_READING, CAPACITY_OUT, CONSTANTS, CONSTANT_OUT, DONE,
-    FULL, MISSING_READING, MOST_MONTHS, SETTLED, STORAGE_OUT, ZERO_K,
+    meaning, Columns, Figures, Reading, Record, Run, Shown, BAD_READING, CAPACITY_OUT, CONSTANTS, CONSTANT_OUT,
+    DONE, FULL, HAD_WATER, MISSING_READING, MOST_MONTHS, SETTLED, STORAGE_OUT, ZERO_K,
 };
 use std::fs::File;
 use std::io::{Read, Write};
@@ -774,6 +774,20 @@ fn rows_text(rows: &[Shown], first: usize) -> String {
     text
 }
 
+/// A row for each month: its water, and what the layers stored at its end. A month that was added as a Z had no
+/// water.
+fn water_text(rows: &[Shown], first: usize) -> String {
+    let mut text = "month P PE ET R L RO surface underlying\n".to_string();
+    for (i, Shown { month: m, .. }) in rows.iter().enumerate() {
+        let water = match m.water {
+            HAD_WATER => format!("{} {} {} {} {} {}", m.p, m.pe, m.et, m.r, m.l, m.ro),
+            _ => "- - - - - -".to_string(),
+        };
+        text += &format!("{} {water} {} {}\n", date(first + i), m.surface, m.underlying);
+    }
+    text
+}
+
 /// The head of station.c has it at more length.
 fn help_text() -> String {
     format!(
@@ -830,13 +844,23 @@ fn station() -> Result<String, Stop> {
     let st = read_station(&text)?;
     let [mut x1, mut x2, mut x3, mut index] = [(); 4].map(|()| vec![0; MOST_MONTHS]);
     let mut mark = vec![0; MOST_MONTHS];
-    let columns = &mut Columns { x1: &mut x1, x2: &mut x2, x3: &mut x3, index: &mut index, mark: &mut mark };
+    let mut records = vec![Record::default(); MOST_MONTHS];
+    let mut v = vec![0; MOST_MONTHS];
+    let columns = &mut Columns {
+        x1: &mut x1,
+        x2: &mut x2,
+        x3: &mut x3,
+        index: &mut index,
+        mark: &mut mark,
+        records: &mut records,
+        v: &mut v,
+    };
     let run = start(&st)?;
     let (run, steps) =
         if most == 0 { add_singly(&st, columns, run)? } else { add_seasons(&st, columns, run, most)? };
     let rows = look_back(columns, run)?;
     let first = if most == 0 { singly_text(&steps, st.first) } else { seasons_text(&steps) };
-    Ok(first + &rows_text(&rows, st.first))
+    Ok(first + &rows_text(&rows, st.first) + &water_text(&rows, st.first))
 }
 
 /// Prints a text, or says that it cannot: standard output may be closed, full, or a pipe that nobody reads. No

@@ -8,13 +8,15 @@
  *
  * Start a run with the station's sixty constants, then add one month after another, as water or as a Z.
  * The library keeps nothing of its own: the run goes in by value and comes back in the answer, and the
- * five columns that hold the months are the caller's memory, lent for the call. Keep the run that comes
+ * seven columns that hold the months are the caller's memory, lent for the call. Keep the run that comes
  * back; hand the same columns in each time.
  *
  *     static int32_t x1[600], x2[600], x3[600], indexes[600];
  *     static uint8_t marks[600];
+ *     static card_record records[600];
+ *     static int64_t v[600];
  *
- *     card_columns columns = card_columns_of(x1, x2, x3, indexes, marks, 600);
+ *     card_columns columns = card_columns_of(x1, x2, x3, indexes, marks, records, v, 600);
  *     card_started start = card_start(constants, CARD_CONSTANTS, 6000, 0, 1330, 6);   // from June on
  *     if (start.number != CARD_DONE) return complain(card_meaning(start.number));
  *     card_run run = start.run;
@@ -22,6 +24,8 @@
  *     card_added june = card_add_water_in(columns, run, card_inches(5.56f), card_inches(4.8f));
  *     if (june.number != CARD_DONE) return complain(card_meaning(june.number));
  *     run = june.run;
+ *
+ *     card_record water = card_row_in(columns, run, 0).month;   // June: ET, runoff, the soil at its end
  *
  * Every month is marked open or settled. An open month shows a provisional index and may still change. A
  * settled month never changes, and its index is what hindsight over the whole series would have chosen.
@@ -68,18 +72,18 @@
  *     card_read               8
  *     card_start            312
  *     card_add_water        760
- *     card_add_inches       744
- *     card_add_z            584
- *     card_add_season      1144
+ *     card_add_inches       760
+ *     card_add_z            568
+ *     card_add_season      1192
  *     card_row              376
  *     card_whole_series      88
  *
  * It is counted from the return address, which is included, down to the lowest word of 8 bytes that was
  * written by the call or by what it calls, memcpy and memset included. Not counted is what the caller
  * keeps: the arguments that are passed on the stack (a run alone is 288 bytes), the room for the answer
- * (card_started 296 bytes, card_added 368, card_season 376) and what the inline functions of this header
- * put into the caller's frame; nor is an interrupt. The figures are the deepest seen over months and
- * refusals of all sorts: measured, not proved.
+ * (card_started 296 bytes, card_added 368, card_season 376, card_shown 80) and what the inline functions
+ * of this header put into the caller's frame; nor is an interrupt. The figures are the deepest seen over
+ * months and refusals of all sorts: measured, not proved.
  */
 #ifndef CARD_H
 #define CARD_H
@@ -102,7 +106,7 @@ enum {
     CARD_CAPACITY = 4,       /* capacity outside its range, 100 to 30,000 */
     CARD_STORAGE = 5,        /* a start storage negative or above its layer: see card_soil */
     CARD_START_MONTH = 6,    /* start month not 1 to 12 */
-    CARD_NOT_A_RUN = 7,      /* not a run: see card_run */
+    CARD_NOT_A_RUN = 7,      /* not a run, or not the run of these columns: see card_run */
     CARD_MISSING_READING = 8,/* reading missing */
     CARD_BAD_READING = 9,    /* reading not acceptable */
     CARD_FULL = 10,          /* months already equal the column length */
@@ -216,23 +220,35 @@ typedef struct card_values {
  * not with memcmp.
  *
  * A run and its columns belong together. Store both or neither: a card that may lose power between the two
- * keeps the last whole pair to go back to. A run of before an add, with the columns of after it, is taken,
- * and its settled months may then change.
+ * keeps the last whole pair to go back to. Of a pair that does not belong together the calls see, beside columns
+ * too short for the months, only that the record of the run's last month does not end with the run's storages
+ * (7):
+ * - A run of after an add, with the columns of before it, is held against a place that this add has not
+ *   written. It is refused, unless both storages stand there by chance, as in columns of zeros where the soil
+ *   is empty.
+ * - A run of before an add, with the columns of after it, is taken: it is held against the record of its own
+ *   last month, which the add left as it was. Its settled months may then change.
+ * - A run with the columns of another is refused, unless both storages are the same there, as in two soils that
+ *   are empty, or of one capacity and full.
+ * - A run of no months is held against nothing.
  *
  * These are not a run, and the calls refuse them (7): months above the column length; open months above
  * months; a constant, the capacity or a storage out of range; a K of 0; a calendar month not 1 to 12; an X
  * beyond 13,000,000 in size; X1 negative or X2 positive; V beyond 4,000,150 x months in size; V above 0
- * without X3 below 0, or V below 0 without X3 above 0.
+ * without X3 below 0, or V below 0 without X3 above 0; after any month, the last record's storages at its
+ * end are not the run's. Nothing else of what the columns hold is asked.
  *
  * A card may hold a run that was started with a K of 0 before that was refused. Every call refuses it now,
- * card_row too: not even its rows are shown. Where run.constants[5 * month - 1] is 0, month 1 to 12, put the
- * station's K for that month there, and it is a run again, with its columns as they stand. If only Z were
- * added to it nothing is amiss, and any K will do. Otherwise what the columns hold is not made right by that:
- * each month of water of that name was added with a Z of 0, and settled months stay as they are. To have them
- * judged with the K, start anew and add all months again, in other columns.
+ * card_row too: not even its rows are shown. Where run.constants[5 * month - 1] is 0, month 1 to 12, put
+ * the station's K for that month there, and it is a run again, with its columns as they stand and the two
+ * lists beside them that such a card has not yet (see card_columns). If only Z were added to it nothing is
+ * amiss, and any K will do. Otherwise what the columns hold is not made right by that: each month of water
+ * of that name was added with a Z of 0, and settled months stay as they are. To have them judged with the
+ * K, start anew and add all months again, in other columns.
  *
- * 7 is no checksum. A run that was damaged within these ranges is taken, and so are constants that were
- * copied in the wrong order: whoever swaps a card compares all sixty with the station's own list. */
+ * 7 is no checksum. What was damaged, in the run or in the columns, and is still none of these is taken,
+ * and so are constants that were copied in the wrong order: whoever swaps a card compares all sixty with
+ * the station's own list. */
 typedef struct card_run {
     uint32_t months;   /* how many months it holds */
     uint32_t opens;    /* how many of them, the last ones, are open */
@@ -269,16 +285,57 @@ card_started card_start(const int32_t *constants, size_t constants_length,
 
 /* ---- Columns -------------------------------------------------------------------------------------- */
 
-/* The five columns that hold a run's months, each with its length. They are to be of one length, 1 to
- * CARD_MOST_MONTHS, which is how many months the run can come to hold; a month takes 17 bytes in all, the
- * longest columns 204,000. A struct of zeros is five lists of length 0, and refused with 1.
+/* Whether a month had water, as its record says it last: only 1 is water. */
+enum { CARD_HAD_NO_WATER = 0, CARD_HAD_WATER = 1 };
+
+/* A month's record: its Z, its water and what the soil stored, in thousandths, of an inch but for Z. It is
+ * 48 bytes without gaps. No number but z is ever below 0.
+ *
+ * The add that takes the month writes its record, at the month's place, and no add to the run that it hands
+ * back writes it again: the index of an open month may change, its record does not. Places after the last
+ * month are never written.
+ *
+ * The balance of a month of water is read from its record. What fell went back to the air, ran off or stayed
+ * in the soil, and where the soil lost, the gain is below 0:
+ *
+ *     p = et + ro + gain      gain = surface + underlying - ss - su = r - l
+ *
+ * An added Z has no water: p to ro are 0, and the storages at its end are those at its start. A run's first
+ * month starts with the storages that card_start was given, every other with those at the end of the month
+ * before. */
+typedef struct card_record {
+    int32_t z;          /* Z, as it was reckoned or given */
+    int32_t p;          /* precipitation */
+    int32_t pe;         /* potential evapotranspiration */
+    int32_t et;         /* evapotranspiration */
+    int32_t r;          /* recharge */
+    int32_t l;          /* loss from both layers, Ls + Lu */
+    int32_t ro;         /* runoff */
+    int32_t ss;         /* Ss, what the surface layer stored at the month's start */
+    int32_t su;         /* Su, what the underlying layer stored then */
+    int32_t surface;    /* what the surface layer stored at the month's end */
+    int32_t underlying; /* what the underlying layer stored then */
+    int32_t water;      /* CARD_HAD_WATER, or of an added Z CARD_HAD_NO_WATER */
+} card_record;
+
+/* The seven columns that hold a run's months, each with its length: X1, X2, X3, index and mark, the records,
+ * and V after each month, which is written as a record is. They are to be of one length, 1 to
+ * CARD_MOST_MONTHS, which is how many months the run can come to hold; a month takes 73 bytes in all, the
+ * longest columns 876,000. A struct of zeros is seven lists of length 0, and refused with 1.
+ *
+ * A card may hold five columns, from before records and V were kept. It goes on with the same run and two
+ * lists more, as long as the five. It has no record of its months, and of the last one every call wants the
+ * storages (7): where run.months is not 0, put run.soil's surface and underlying into the record at place
+ * run.months - 1. That is the least, and all else in the two lists may be 0. A row then shows these months
+ * without water and with a Z and a V of 0, and that says nothing of them. V after the last one is
+ * run.values.v; the rest is had only by adding all months again, to a new run in other columns.
  *
  * What a call answers and writes hangs on that length only where the months do not fit in (7) or fill it
- * (10). So columns made for 2,400, which was the most once, stay usable and give the same answers. And a run
- * that has filled its columns, also one that was stored so, goes on in longer ones, up to CARD_MOST_MONTHS:
- * copy its months to their beginning and hand them in with the same run. It comes to what it would have come
- * to there from its first month on; what stands after the months is not looked at. At CARD_MOST_MONTHS a new
- * run is needed, in other columns.
+ * (10). So columns made for 2,400, which was the most once, stay usable and give the same answers. And a
+ * run that has filled its columns, also one that was stored so, goes on in longer ones, up to
+ * CARD_MOST_MONTHS: copy its months, all seven lists, to their beginning and hand them in with the same
+ * run. It comes to what it would have come to there from its first month on; what stands after the months
+ * is not looked at. At CARD_MOST_MONTHS a new run is needed, in other columns.
  *
  * The calls whose names end in _in take the columns so, and are the usual way. The same calls with each
  * list by itself stand further down. card_row_in and card_row only read; card_row takes const columns. */
@@ -293,18 +350,24 @@ typedef struct card_columns {
     size_t index_length;
     uint8_t *mark;
     size_t mark_length;
+    card_record *records;
+    size_t records_length;
+    int64_t *v;
+    size_t v_length;
 } card_columns;
 
 /* Columns that are all of one length. */
 static inline card_columns card_columns_of(int32_t *x1, int32_t *x2, int32_t *x3, int32_t *index,
-                                           uint8_t *mark, size_t length) {
-    card_columns columns = {x1, length, x2, length, x3, length, index, length, mark, length};
+                                           uint8_t *mark, card_record *records, int64_t *v, size_t length) {
+    card_columns columns = {x1, length, x2, length, x3, length, index, length,
+                            mark, length, records, length, v, length};
     return columns;
 }
 
 /* ---- Adding a month ------------------------------------------------------------------------------- */
 
-/* The water of a month, in thousandths of an inch. All 0 for an added Z. */
+/* The water of a month, in thousandths of an inch. All 0 for an added Z. Of these the month's record keeps
+ * p, pe, et, r, ro and ls + lu. */
 typedef struct card_water {
     uint32_t p;     /* precipitation */
     uint32_t pe;    /* potential evapotranspiration */
@@ -342,7 +405,7 @@ typedef struct card_added {
 /* Adds a month of water from two readings. Refusals, in this order: 1, 7, precipitation 8 or 9, PE 8 or
  * 9, 10.
  *
- * The call writes the new month's place in the five columns (place run.months, counted from 0), and index
+ * The call writes the new month's place in the seven columns (place run.months, counted from 0), and index
  * and mark of the open months that it settles, and nothing else. It takes the run's open months as the
  * columns hold them and does not check what they hold. */
 static inline card_added card_add_water_in(card_columns columns, card_run run,
@@ -359,7 +422,7 @@ typedef struct card_month_inches {
 static inline card_added card_add_inches_in(card_columns columns, card_run run, card_month_inches month);
 
 /* Adds a Z, -4,000,000 to 4,000,000: the storages stay, the calendar moves on. Refusals, in this order:
- * 1, 7, 12, 10. It writes what card_add_water_in writes. */
+ * 1, 7, 12, 10. It writes the places that card_add_water_in writes; its record says that it had no water. */
 static inline card_added card_add_z_in(card_columns columns, card_run run, int32_t z);
 
 /* ---- Adding a season ------------------------------------------------------------------------------ */
@@ -384,7 +447,7 @@ typedef struct card_season {
  * precipitation and pe: lists of one length, any length, 0 included; whole thousandths of an inch, 0 to
  * 100,000, or CARD_NO_READING. card_read makes thousandths of inches and millimetres.
  *
- * Refusals: before the first month 1 (the five columns as ever, and the two lists of unequal length), then
+ * Refusals: before the first month 1 (the seven columns as ever, and the two lists of unequal length), then
  * 7; then of each month, in this order, precipitation 8 or 9, PE 8 or 9, 10. At the first month refused the
  * call stops: the months before it stay added, and nothing of it or of those after it is written. With 1 or
  * 7, or with empty lists, nothing is added. */
@@ -404,11 +467,12 @@ static inline card_season card_add_season_in(card_columns columns, card_run run,
  *   comes, add it and then the months after it; card_add_season_in takes them in one call.
  * - Add an estimate, as from neighbouring stations. The month is reckoned like any other, its water balance
  *   included, and nothing in the card tells that it was an estimate: the holder's own log must. Should the
- *   true reading turn up later, the record is put right only by starting again with it, from the first
+ *   true reading turn up later, the card is put right only by starting again with it, from the first
  *   month or from a copy of run and columns from before that month.
  * - Add a Z of 0 (card_add_z_in). The calendar moves on, the storages stay as they were before the month,
- *   and the month counts as normal: X1, X2 and X3 fade to 2691/3000 of themselves, a spell in force abates,
- *   and one whose X3 is at most 613 in size ends. A drought may seem to weaken or to end that did not.
+ *   its record says that it had no water, and the month counts as normal: X1, X2 and X3 fade to 2691/3000
+ *   of themselves, a spell in force abates, and one whose X3 is at most 613 in size ends. A drought may
+ *   seem to weaken or to end that did not.
  * - Start a new run, in other columns: in the same ones it would write over the past months. It knows no
  *   spell (X1, X2, X3 all 0) and needs start storages; months must pass before its index says anything.
  * - Never give 0 for a missing reading. A month without rain is a dry month that nobody measured, and it
@@ -420,7 +484,7 @@ static inline card_season card_add_season_in(card_columns columns, card_run run,
 
 /* ---- Looking back --------------------------------------------------------------------------------- */
 
-/* What the five columns hold of a month. */
+/* What the seven columns hold of a month. */
 typedef struct card_shown {
     uint8_t number;
     int32_t x1;
@@ -428,9 +492,12 @@ typedef struct card_shown {
     int32_t x3;
     int32_t index;
     uint8_t mark;
+    card_record month; /* its water and its soil, */
+    int64_t v;         /* and V after it, both as its add wrote them */
 } card_shown;
 
-/* Shows a month's row, counted from 0. Refusals, in this order: 1, 7, 11. It writes nothing. */
+/* Shows a month's row, counted from 0: index and mark as they stand now, all else as the month left it.
+ * Refusals, in this order: 1, 7, 11. It writes nothing. */
 static inline card_shown card_row_in(card_columns columns, card_run run, size_t row);
 
 /* The whole series of a list of Z: fills a list of indexes and one of marks, equal in length, 1 to
@@ -449,21 +516,27 @@ card_added card_add_water(card_run run, card_reading precipitation, card_reading
                           int32_t *x2, size_t x2_length,
                           int32_t *x3, size_t x3_length,
                           int32_t *index, size_t index_length,
-                          uint8_t *mark, size_t mark_length);
+                          uint8_t *mark, size_t mark_length,
+                          card_record *records, size_t records_length,
+                          int64_t *v, size_t v_length);
 
 card_added card_add_inches(card_run run, card_month_inches month,
                            int32_t *x1, size_t x1_length,
                            int32_t *x2, size_t x2_length,
                            int32_t *x3, size_t x3_length,
                            int32_t *index, size_t index_length,
-                           uint8_t *mark, size_t mark_length);
+                           uint8_t *mark, size_t mark_length,
+                           card_record *records, size_t records_length,
+                           int64_t *v, size_t v_length);
 
 card_added card_add_z(card_run run, int32_t z,
                       int32_t *x1, size_t x1_length,
                       int32_t *x2, size_t x2_length,
                       int32_t *x3, size_t x3_length,
                       int32_t *index, size_t index_length,
-                      uint8_t *mark, size_t mark_length);
+                      uint8_t *mark, size_t mark_length,
+                      card_record *records, size_t records_length,
+                      int64_t *v, size_t v_length);
 
 card_season card_add_season(card_run run,
                             const int32_t *precipitation, size_t precipitation_length,
@@ -472,76 +545,92 @@ card_season card_add_season(card_run run,
                             int32_t *x2, size_t x2_length,
                             int32_t *x3, size_t x3_length,
                             int32_t *index, size_t index_length,
-                            uint8_t *mark, size_t mark_length);
+                            uint8_t *mark, size_t mark_length,
+                            card_record *records, size_t records_length,
+                            int64_t *v, size_t v_length);
 
 card_shown card_row(card_run run, size_t row,
                     const int32_t *x1, size_t x1_length,
                     const int32_t *x2, size_t x2_length,
                     const int32_t *x3, size_t x3_length,
                     const int32_t *index, size_t index_length,
-                    const uint8_t *mark, size_t mark_length);
+                    const uint8_t *mark, size_t mark_length,
+                    const card_record *records, size_t records_length,
+                    const int64_t *v, size_t v_length);
 
 /* ---- NULL beside the length 0 --------------------------------------------------------------------- */
 
 /* A caller need read no further. The library itself must never be handed NULL, so the functions below
- * stand before it and lend a number of their own in place of a list of length 0. At the end each call that
+ * stand before it and lend something of their own in place of a list of length 0. At the end each call that
  * takes lists becomes a macro for its function here, as C's own library has it with getc: card_start(..)
  * is card_start_lent(..), while (card_start)(..) and &card_start are the library's function, which takes
  * no NULL. The cost is a test for each list, and with some compilers one more copy of the run.
  *
- * A further column is a field of card_columns, a line of card_not_null and two arguments of CARD_EACH. */
+ * A further column is a field of card_columns, a line of card_not_null and two arguments of CARD_EACH; one
+ * of another kind is a field of card_none too. */
+
+/* One of each kind that lists are of, to stand for a list of length 0. */
+typedef struct card_none {
+    int32_t number;
+    uint8_t mark;
+    card_record record;
+    int64_t v;
+} card_none;
+
+static inline card_none card_nothing(void) {
+    card_none none = {0, 0, {0, 0, 0, 0, 0, 0, 0, 0, 0, 0, 0, 0}, 0};
+    return none;
+}
 
 /* The columns with their empty lists at an address. */
-static inline card_columns card_not_null(card_columns columns, int32_t *none, uint8_t *no_mark) {
-    if (columns.x1_length == 0) columns.x1 = none;
-    if (columns.x2_length == 0) columns.x2 = none;
-    if (columns.x3_length == 0) columns.x3 = none;
-    if (columns.index_length == 0) columns.index = none;
-    if (columns.mark_length == 0) columns.mark = no_mark;
+static inline card_columns card_not_null(card_columns columns, card_none *none) {
+    if (columns.x1_length == 0) columns.x1 = &none->number;
+    if (columns.x2_length == 0) columns.x2 = &none->number;
+    if (columns.x3_length == 0) columns.x3 = &none->number;
+    if (columns.index_length == 0) columns.index = &none->number;
+    if (columns.mark_length == 0) columns.mark = &none->mark;
+    if (columns.records_length == 0) columns.records = &none->record;
+    if (columns.v_length == 0) columns.v = &none->v;
     return columns;
 }
 
 /* The columns as the library's calls take them. */
 #define CARD_EACH(columns)                                                                              \
     (columns).x1, (columns).x1_length, (columns).x2, (columns).x2_length, (columns).x3,                 \
-        (columns).x3_length, (columns).index, (columns).index_length, (columns).mark, (columns).mark_length
+        (columns).x3_length, (columns).index, (columns).index_length, (columns).mark,                   \
+        (columns).mark_length, (columns).records, (columns).records_length, (columns).v, (columns).v_length
 
 static inline card_added card_add_water_in(card_columns columns, card_run run,
                                            card_reading precipitation, card_reading pe) {
-    int32_t none = 0;
-    uint8_t no_mark = 0;
-    columns = card_not_null(columns, &none, &no_mark);
+    card_none none = card_nothing();
+    columns = card_not_null(columns, &none);
     return (card_add_water)(run, precipitation, pe, CARD_EACH(columns));
 }
 
 static inline card_added card_add_inches_in(card_columns columns, card_run run, card_month_inches month) {
-    int32_t none = 0;
-    uint8_t no_mark = 0;
-    columns = card_not_null(columns, &none, &no_mark);
+    card_none none = card_nothing();
+    columns = card_not_null(columns, &none);
     return (card_add_inches)(run, month, CARD_EACH(columns));
 }
 
 static inline card_added card_add_z_in(card_columns columns, card_run run, int32_t z) {
-    int32_t none = 0;
-    uint8_t no_mark = 0;
-    columns = card_not_null(columns, &none, &no_mark);
+    card_none none = card_nothing();
+    columns = card_not_null(columns, &none);
     return (card_add_z)(run, z, CARD_EACH(columns));
 }
 
 static inline card_season card_add_season_in(card_columns columns, card_run run,
                                              const int32_t *precipitation, size_t precipitation_length,
                                              const int32_t *pe, size_t pe_length) {
-    int32_t none = 0;
-    uint8_t no_mark = 0;
-    columns = card_not_null(columns, &none, &no_mark);
-    return (card_add_season)(run, precipitation_length ? precipitation : &none, precipitation_length,
-                             pe_length ? pe : &none, pe_length, CARD_EACH(columns));
+    card_none none = card_nothing();
+    columns = card_not_null(columns, &none);
+    return (card_add_season)(run, precipitation_length ? precipitation : &none.number, precipitation_length,
+                             pe_length ? pe : &none.number, pe_length, CARD_EACH(columns));
 }
 
 static inline card_shown card_row_in(card_columns columns, card_run run, size_t row) {
-    int32_t none = 0;
-    uint8_t no_mark = 0;
-    columns = card_not_null(columns, &none, &no_mark);
+    card_none none = card_nothing();
+    columns = card_not_null(columns, &none);
     return (card_row)(run, row, CARD_EACH(columns));
 }
 
@@ -550,12 +639,13 @@ static inline card_added card_add_water_lent(card_run run, card_reading precipit
                                              int32_t *x2, size_t x2_length,
                                              int32_t *x3, size_t x3_length,
                                              int32_t *index, size_t index_length,
-                                             uint8_t *mark, size_t mark_length) {
-    card_columns columns = {x1, x1_length, x2, x2_length, x3, x3_length,
-                            index, index_length, mark, mark_length};
-    int32_t none = 0;
-    uint8_t no_mark = 0;
-    columns = card_not_null(columns, &none, &no_mark);
+                                             uint8_t *mark, size_t mark_length,
+                                             card_record *records, size_t records_length,
+                                             int64_t *v, size_t v_length) {
+    card_columns columns = {x1, x1_length, x2, x2_length, x3, x3_length, index, index_length,
+                            mark, mark_length, records, records_length, v, v_length};
+    card_none none = card_nothing();
+    columns = card_not_null(columns, &none);
     return (card_add_water)(run, precipitation, pe, CARD_EACH(columns));
 }
 
@@ -564,12 +654,13 @@ static inline card_added card_add_inches_lent(card_run run, card_month_inches mo
                                               int32_t *x2, size_t x2_length,
                                               int32_t *x3, size_t x3_length,
                                               int32_t *index, size_t index_length,
-                                              uint8_t *mark, size_t mark_length) {
-    card_columns columns = {x1, x1_length, x2, x2_length, x3, x3_length,
-                            index, index_length, mark, mark_length};
-    int32_t none = 0;
-    uint8_t no_mark = 0;
-    columns = card_not_null(columns, &none, &no_mark);
+                                              uint8_t *mark, size_t mark_length,
+                                              card_record *records, size_t records_length,
+                                              int64_t *v, size_t v_length) {
+    card_columns columns = {x1, x1_length, x2, x2_length, x3, x3_length, index, index_length,
+                            mark, mark_length, records, records_length, v, v_length};
+    card_none none = card_nothing();
+    columns = card_not_null(columns, &none);
     return (card_add_inches)(run, month, CARD_EACH(columns));
 }
 
@@ -578,12 +669,13 @@ static inline card_added card_add_z_lent(card_run run, int32_t z,
                                          int32_t *x2, size_t x2_length,
                                          int32_t *x3, size_t x3_length,
                                          int32_t *index, size_t index_length,
-                                         uint8_t *mark, size_t mark_length) {
-    card_columns columns = {x1, x1_length, x2, x2_length, x3, x3_length,
-                            index, index_length, mark, mark_length};
-    int32_t none = 0;
-    uint8_t no_mark = 0;
-    columns = card_not_null(columns, &none, &no_mark);
+                                         uint8_t *mark, size_t mark_length,
+                                         card_record *records, size_t records_length,
+                                         int64_t *v, size_t v_length) {
+    card_columns columns = {x1, x1_length, x2, x2_length, x3, x3_length, index, index_length,
+                            mark, mark_length, records, records_length, v, v_length};
+    card_none none = card_nothing();
+    columns = card_not_null(columns, &none);
     return (card_add_z)(run, z, CARD_EACH(columns));
 }
 
@@ -594,14 +686,15 @@ static inline card_season card_add_season_lent(card_run run,
                                                int32_t *x2, size_t x2_length,
                                                int32_t *x3, size_t x3_length,
                                                int32_t *index, size_t index_length,
-                                               uint8_t *mark, size_t mark_length) {
-    card_columns columns = {x1, x1_length, x2, x2_length, x3, x3_length,
-                            index, index_length, mark, mark_length};
-    int32_t none = 0;
-    uint8_t no_mark = 0;
-    columns = card_not_null(columns, &none, &no_mark);
-    return (card_add_season)(run, precipitation_length ? precipitation : &none, precipitation_length,
-                             pe_length ? pe : &none, pe_length, CARD_EACH(columns));
+                                               uint8_t *mark, size_t mark_length,
+                                               card_record *records, size_t records_length,
+                                               int64_t *v, size_t v_length) {
+    card_columns columns = {x1, x1_length, x2, x2_length, x3, x3_length, index, index_length,
+                            mark, mark_length, records, records_length, v, v_length};
+    card_none none = card_nothing();
+    columns = card_not_null(columns, &none);
+    return (card_add_season)(run, precipitation_length ? precipitation : &none.number, precipitation_length,
+                             pe_length ? pe : &none.number, pe_length, CARD_EACH(columns));
 }
 
 static inline card_shown card_row_lent(card_run run, size_t row,
@@ -609,15 +702,18 @@ static inline card_shown card_row_lent(card_run run, size_t row,
                                        const int32_t *x2, size_t x2_length,
                                        const int32_t *x3, size_t x3_length,
                                        const int32_t *index, size_t index_length,
-                                       const uint8_t *mark, size_t mark_length) {
-    int32_t none = 0;
-    uint8_t no_mark = 0;
+                                       const uint8_t *mark, size_t mark_length,
+                                       const card_record *records, size_t records_length,
+                                       const int64_t *v, size_t v_length) {
+    card_none none = card_nothing();
     return (card_row)(run, row,
-                      x1_length ? x1 : &none, x1_length,
-                      x2_length ? x2 : &none, x2_length,
-                      x3_length ? x3 : &none, x3_length,
-                      index_length ? index : &none, index_length,
-                      mark_length ? mark : &no_mark, mark_length);
+                      x1_length ? x1 : &none.number, x1_length,
+                      x2_length ? x2 : &none.number, x2_length,
+                      x3_length ? x3 : &none.number, x3_length,
+                      index_length ? index : &none.number, index_length,
+                      mark_length ? mark : &none.mark, mark_length,
+                      records_length ? records : &none.record, records_length,
+                      v_length ? v : &none.v, v_length);
 }
 
 static inline card_started card_start_lent(const int32_t *constants, size_t constants_length,
