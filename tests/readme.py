@@ -171,6 +171,7 @@ def main():
     blocks = [body.strip().split('\n') for language, body in BLOCKS if language == '']
     shown(block('host/palmer <samples'), next(lines for lines in blocks if lines[0].startswith('1 0 0')))
     shown(block('host/division 14 07'), next(lines for lines in blocks if lines[0].startswith('2019')))
+    shown('host/station samples/western-kansas-station.txt', next(lines for lines in blocks if lines[0].startswith('1932-06 5560')))
     c_program()
     station()
     refusals()

@@ -6,7 +6,8 @@ asked that the status is 1, that standard output is empty, and that standard err
 the column of the fault and the words that tell it from the others. It prints how many cases were run.
 
 How the programs are started is told by STATION_C and STATION_RUST, in words as the shell has them; without them
-target/host/station-c and target/host/station-rust are run, as host/run builds them.
+target/host/station-c and target/host/station-rust are run, as host/run builds them. STATION_Z_C and STATION_Z_RUST
+tell the same of the two programs over station_z.c; without them what is printed of an added Z is not tried.
 """
 import os
 import random
@@ -22,6 +23,7 @@ from stored import TOP
 
 PROGRAMS = [shlex.split(os.environ.get(name, '')) or [os.path.join(TOP, 'target', 'host', file)]
             for name, file in (('STATION_C', 'station-c'), ('STATION_RUST', 'station-rust'))]
+WITH_Z = [shlex.split(os.environ.get(name, '')) for name in ('STATION_Z_C', 'STATION_Z_RUST')]
 
 with open(os.path.join(TOP, 'samples', 'western-kansas-station.txt'), 'rb') as sample:
     SAMPLE = sample.read()
@@ -41,6 +43,11 @@ ROWS = [b'month X1 X2 X3 index mark',
         b'1932-07 0 -532 0 -532 S',
         b'1935-04 0 0 -5464 -5464 S',
         b'1935-05 826 0 -4076 -4076 O']
+WATER = [b'month P PE ET R L RO surface underlying',
+         b'1932-06 5560 4800 4800 760 0 0 760 1330',
+         b'1932-07 1780 7040 3538 0 1758 0 0 332',
+         b'1935-04 250 1570 250 0 0 0 0 0',
+         b'1935-05 4650 2520 2520 2130 0 0 1000 1130']
 SEASONS = [b'season added settled index', b'1 6 6 -1793', b'2 6 5 -2140', b'3 6 3 -2617', b'4 6 10 -3755', b'5 6 6 -4968', b'6 6 5 -4076']
 
 # what a run holds
@@ -418,22 +425,58 @@ def soiled(capacity, surface, underlying):
     return b''.join(b'%s %d\n' % pair for pair in zip((b'capacity', b'surface', b'underlying'), (capacity, surface, underlying))) + b''.join(text + b'\n' for text in LINES[3:])
 
 
-def thin_files(count):
-    """Soils at and beside an inch, and the thinnest: CAFEC and Z of the sample's months are those of a reckoning of its own."""
-    for soil in ((100, 0, 0), (100, 100, 0), (101, 50, 0), (999, 999, 0), (1000, 0, 0), (1000, 1000, 0), (1001, 1000, 1), (1001, 0, 0)):
-        constants = [[int(word) for word in text.split(b' ')[1:]] for text in LINES[JANUARY - 1:DECEMBER]]
-        surface, underlying = soil[1:]
-        wanted = []
-        for text in LINES[FIRST - 1:LAST]:
-            when, p, pe = text.split(b' ')
-            p, pe = [10 * int(word.replace(b'.', b'')) for word in (p, pe)]
-            m = source_tables.water(soil[0], surface, underlying, p, pe, *constants[int(when[5:]) - 1])
+def reckoned(data):
+    """A file like the good one, without comments, by the reckoning of tests/source_tables.py: of each month how its row as
+    it was added begins, and the row of its water. A month of dashes is one that was added as a Z of 0."""
+    lines = data.split(b'\n')
+    capacity, surface, underlying = [int(text.split(b' ')[1]) for text in lines[:3]]
+    constants = [[int(word) for word in text.split(b' ')[1:]] for text in lines[JANUARY - 1:DECEMBER]]
+    added, water = [], []
+    for text in lines[FIRST - 1:lines.index(b'end')]:
+        when, *readings = text.split(b' ')
+        month, fell = b'0 0 0 0', b'- - - - - -'
+        if readings != [b'-', b'-']:
+            p, pe = [10 * int(word.replace(b'.', b'')) for word in readings]
+            m = source_tables.water(capacity, surface, underlying, p, pe, *constants[int(when[5:]) - 1])
+            month = b'%d %d %d %d' % (p, pe, m['CAFEC'], m['Z'])
+            fell = b'%d %d %d %d %d %d' % (p, pe, m['ET'], m['R'], m['Ls'] + m['Lu'], m['RO'])
             surface, underlying = m['Ss'], m['Su']
-            wanted.append(b'%s %d %d %d %d' % (when, p, pe, m['CAFEC'], m['Z']))
+        added.append(when + b' ' + month)
+        water.append(b'%s %s %d %d' % (when, fell, surface, underlying))
+    return added, water
+
+
+def check_water(name, data, out):
+    """Holds what was printed of single months to that reckoning."""
+    added, water = reckoned(data)
+    lines = out.split(b'\n')
+    first = [b' '.join(line.split(b' ')[:5]) for line in lines[1:len(added) + 1]]
+    for got, wanted in ((first, added), (lines[2 * len(water) + 2:], WATER[:1] + water + [b''])):
+        if got != wanted:
+            at = next((i for i, pair in enumerate(zip(got, wanted)) if pair[0] != pair[1]), min(len(got), len(wanted)))
+            sys.exit('station: %s: the months are not those of tests/source_tables.py: %r, and not %r' % (name, got[at:at + 1], wanted[at:at + 1]))
+
+
+def thin_files(count):
+    """Soils at and beside an inch, and the thinnest."""
+    for soil in ((100, 0, 0), (100, 100, 0), (101, 50, 0), (999, 999, 0), (1000, 0, 0), (1000, 1000, 0), (1001, 1000, 1), (1001, 0, 0)):
         name = 'the soil %d %d %d' % soil
-        lines = good(name, (), soiled(*soil)).split(b'\n')[1:len(wanted) + 1]
-        if [b' '.join(line.split(b' ')[:5]) for line in lines] != wanted:
-            sys.exit('station: %s: the months are not those of tests/source_tables.py: %r' % (name, lines))
+        check_water(name, soiled(*soil), good(name, (), soiled(*soil)))
+        count['good'] += 1
+
+
+def z_files(count):
+    """Months that had no water, among others, first and last; and with these programs, too, the good file."""
+    if not all(WITH_Z):
+        return
+    dashes = [text.split(b' ')[0] + b' - -' for text in LINES]
+    for places in ((), (FIRST,), (LAST,), (FIRST + 1, FIRST + 2, FIRST + 8), range(FIRST, END), range(FIRST, END, 2), range(FIRST + 1, END, 2)):
+        data = b''.join((dashes if number in places else LINES)[number - 1] + b'\n' for number in range(1, END + 1))
+        name = 'a Z of 0 in lines %r' % (list(places),)
+        out, err, status = agree(name, (), data, programs=WITH_Z)
+        if err or status:
+            sys.exit('station: %s: status %d, %r' % (name, status, err))
+        check_water(name, data, out)
         count['good'] += 1
 
 
@@ -451,9 +494,9 @@ def same_cases():
     yield '1,048,576 bytes', padded(1048576)
 
 
-def agree(name, arguments, data, how=running.printed, *more):
+def agree(name, arguments, data, how=running.printed, *more, programs=PROGRAMS):
     """What both print, and the status, which must be the same."""
-    first, second = [how(words + list(arguments), data, *(more or (1,))) for words in PROGRAMS]
+    first, second = [how(words + list(arguments), data, *(more or (1,))) for words in programs]
     if first != second:
         sys.exit('station: %s, arguments %r: in C %r, in Rust %r' % (name, arguments, [part if isinstance(part, int) else part[:300] for part in first], [part if isinstance(part, int) else part[:300] for part in second]))
     return first
@@ -500,8 +543,10 @@ def good_files(count):
     """Of each, the rows are the same however the months are added."""
     singly = {arguments: good('the sample', arguments, SAMPLE) for arguments in WAYS}
     lines = singly[()].split(b'\n')
-    if lines[:3] + lines[35:37] != SINGLY or lines[37:40] + lines[72:74] != ROWS or lines[74:] != [b'']:
+    tables = [lines[at:at + 3] + lines[at + 35:at + 37] for at in (0, 37, 74)]
+    if tables != [SINGLY, ROWS, WATER] or lines[111:] != [b'']:
         sys.exit('station: the rows of the sample are not the stored ones: %r' % lines)
+    check_water('the sample', GOOD, singly[()])
     if singly['6',].split(b'\n')[:7] != SEASONS:
         sys.exit('station: the seasons of the sample are not the stored ones: %r' % singly['6',])
     for name, data in same_cases():
@@ -514,13 +559,15 @@ def good_files(count):
         name, data = '%d months from %04d-%02d' % (length, *first), months(length, first)
         whole = good(name, (), data)
         last = whole.split(b'\n')[-2]
-        if whole.count(b'\n') != 2 * length + 2 or not last.startswith(date(12 * first[0] + first[1] + length - 2)):
+        check_water(name, data, whole)
+        if whole.count(b'\n') != 3 * length + 3 or not last.startswith(date(12 * first[0] + first[1] + length - 2)):
             sys.exit('station: %s: %d lines, the last %r' % (name, whole.count(b'\n'), last))
         for arguments in WAYS + [('7',), ('0006',), ('2399',), ('2400',), ('2401',), (str(MOST - 1),)]:
             if rows(good(name, arguments, data)) != rows(whole):
                 sys.exit('station: %s, arguments %r: the rows are not those of single months' % (name, arguments))
             count['good'] += 1
     thin_files(count)
+    z_files(count)
     for pieces in (7, 200):
         if good('the sample in pieces', (), SAMPLE, pieces) != singly[()]:
             sys.exit('station: the sample in %d pieces: it should print the same' % pieces)
@@ -608,7 +655,7 @@ def streams(count):
 def main():
     if sys.argv[1:]:
         sys.exit('station.py')
-    for words in PROGRAMS:
+    for words in PROGRAMS + [words for words in WITH_Z if words]:
         if shutil.which(words[0]) is None:
             sys.exit('station: %s is not there; host/run builds it' % words[0])
     count = Counter()

@@ -17,11 +17,12 @@ pub fn pick_inches(random: &mut Random, most_p: i64, most_pe: i64) -> MonthInche
 /// Every pair of edges, and each edge beside any good number.
 pub fn edges_in_inches(c: &mut Check) {
     c.kind("adds of inches, edges");
-    let mut lists = Lists::new(&mut c.random, [6; 5], Fill::AnyBits);
+    let mut lists = Lists::new(&mut c.random, [6; 7], Fill::AnyBits);
     let edges: Vec<f32> = edge_patterns().into_iter().map(f32::from_bits).collect();
     for &p in &edges {
         let mut run = any_good_run(&mut c.random, 5);
         run.months = run.months.max(1);
+        lists.meet(&run);
         for &pe in &edges {
             c.add(Add::Inches(MonthInches { p, pe }), &run, &mut lists);
         }

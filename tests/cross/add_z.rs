@@ -84,9 +84,10 @@ fn threshold_z(random: &mut Random, values: &Values) -> i64 {
 /// Values just before a month that turns out one way or the other, and the Z at the turn and beside it.
 pub fn thresholds(c: &mut Check) {
     c.kind("at the thresholds");
-    let mut lists = Lists::new(&mut c.random, [4; 5], Fill::Small);
+    let mut lists = Lists::new(&mut c.random, [4; 7], Fill::Small);
     let mut run = any_good_run(&mut c.random, 4);
     (run.months, run.opens) = (3, 2);
+    lists.meet(&run);
     let mut at = |x1: i64, x2: i64, x3: i64, v: i64, z: i64| {
         run.values = Values { x1: x1 as i32, x2: x2 as i32, x3: x3 as i32, v };
         for z in z - 2..=z + 2 {
@@ -122,9 +123,10 @@ pub fn thresholds(c: &mut Check) {
 /// the provisional index at its tie.
 pub fn ties(c: &mut Check) {
     c.kind("between the thresholds, and ties");
-    let mut lists = Lists::new(&mut c.random, [4; 5], Fill::Small);
+    let mut lists = Lists::new(&mut c.random, [4; 7], Fill::Small);
     let mut run = any_good_run(&mut c.random, 4);
     (run.months, run.opens) = (3, 2);
+    lists.meet(&run);
     let mut at = |x1: i32, x2: i32, x3: i32, v: i64, z: i32| {
         run.values = Values { x1, x2, x3, v };
         for z in z - 2..=z + 2 {
@@ -151,7 +153,7 @@ pub fn ends_for_years(c: &mut Check) {
     c.kind("Z at its ends for years");
     let years = [(MOST_Z, 60), (-MOST_Z, 15), (150, 5), (-MOST_Z, 40), (MOST_Z, 15), (-150, 4), (0, 30)];
     for sign in [1, -1] {
-        let mut lists = Lists::new(&mut c.random, [300; 5], Fill::AnyBits);
+        let mut lists = Lists::new(&mut c.random, [300; 7], Fill::AnyBits);
         let (constants, soil) = (good_constants(&mut c.random), good_soil(&mut c.random));
         let mut run = c.start(&constants, soil).run;
         let mut zs = Vec::new();

@@ -13,8 +13,15 @@ use crate::runs::{
 use crate::season::Months;
 use crate::whole_series::whole_refusals;
 
-/// All the calls that take a run.
+/// All the calls that take a run, with a last record that ends where it stands: what is refused is refused for the run's
+/// own sake.
 pub fn all_calls(c: &mut Check, run: &Run, lists: &mut Lists) {
+    lists.meet(run);
+    calls(c, run, lists);
+}
+
+/// All the calls that take a run, with the columns as they are.
+pub fn calls(c: &mut Check, run: &Run, lists: &mut Lists) {
     let z = c.random.within(-3_000, 3_000) as i32;
     c.add(Add::Z(z), run, lists);
     let (p, pe) = (pick_reading(&mut c.random, 9_000), pick_reading(&mut c.random, 9_000));
@@ -40,7 +47,7 @@ pub fn spoiled_runs(c: &mut Check) {
     ];
     let length = 8;
     for zs in beginnings {
-        let mut lists = Lists::new(&mut c.random, [length; 5], Fill::AnyBits);
+        let mut lists = Lists::new(&mut c.random, [length; 7], Fill::AnyBits);
         let (constants, soil) = (good_constants(&mut c.random), good_soil(&mut c.random));
         c.kind("runs spoiled, one field");
         let mut run = c.start(&constants, soil).run;
@@ -81,8 +88,9 @@ pub fn any_runs(c: &mut Check, times: u64) {
         let most = c.random.pick(&[1, 6, 30, 30, 200]);
         let length = c.random.within(1, most) as usize;
         let fill = c.random.pick(&[Fill::AnyBits, Fill::Small, Fill::Small]);
-        let mut lists = Lists::new(&mut c.random, [length; 5], fill);
+        let mut lists = Lists::new(&mut c.random, [length; 7], fill);
         let mut run = any_good_run(&mut c.random, length);
+        lists.meet(&run);
         for _ in 0..c.random.below(8) {
             let style = c.random.pick(&STYLES);
             let what = pick_add(&mut c.random, Way::Mixed, style, &run.values);
@@ -93,7 +101,7 @@ pub fn any_runs(c: &mut Check, times: u64) {
         c.untouched(&run, &mut lists);
     }
     c.kind("any numbers as a run");
-    let mut lists = Lists::new(&mut c.random, [9; 5], Fill::AnyBits);
+    let mut lists = Lists::new(&mut c.random, [9; 7], Fill::AnyBits);
     for _ in 0..10_000 * times {
         let mut run = any_good_run(&mut c.random, 9);
         for _ in 0..c.random.within(1, 3) {
@@ -107,7 +115,7 @@ pub fn any_runs(c: &mut Check, times: u64) {
 
 pub fn refusals(c: &mut Check) {
     c.kind("several refusals, adds and rows");
-    let mut small = Lists::new(&mut c.random, [5; 5], Fill::AnyBits);
+    let mut small = Lists::new(&mut c.random, [5; 7], Fill::AnyBits);
     let (constants, soil) = (good_constants(&mut c.random), good_soil(&mut c.random));
     let mut run = c.start(&constants, soil).run;
     for z in [900, -700, 30] {
@@ -124,6 +132,7 @@ pub fn refusals(c: &mut Check) {
     for lengths in length_faults() {
         let mut lists = Lists::new(&mut c.random, lengths, Fill::AnyBits);
         for run in run_faults(&run) {
+            lists.meet(&run);
             for p in readings {
                 for pe in readings {
                     c.add(Add::Water(p, pe), &run, &mut lists);
@@ -168,7 +177,7 @@ fn ends(run: &Run, field: usize, length: i64) -> Vec<i64> {
 pub fn two_fields(c: &mut Check) {
     c.kind("runs spoiled, two fields");
     let length = 8;
-    let mut lists = Lists::new(&mut c.random, [length; 5], Fill::AnyBits);
+    let mut lists = Lists::new(&mut c.random, [length; 7], Fill::AnyBits);
     for run in [0, 1, 4, 8].map(|months| Run { months, ..any_good_run(&mut c.random, 0) }) {
         for first in 0..FIELDS {
             for a in ends(&run, first, length as i64) {
@@ -185,20 +194,20 @@ pub fn two_fields(c: &mut Check) {
         }
     }
     for length in [0, 1, 8, 2_400, MOST_MONTHS] {
-        let mut lists = Lists::new(&mut c.random, [length; 5], Fill::AnyBits);
+        let mut lists = Lists::new(&mut c.random, [length; 7], Fill::AnyBits);
         all_calls(c, &NO_RUN, &mut lists);
     }
 }
 
-/// Each column of another length than the four, beside short columns, those about 2,400 and the longest; and five of any
+/// Each column of another length than the six, beside short columns, those about 2,400 and the longest; and seven of any
 /// lengths.
 pub fn lengths(c: &mut Check) {
     c.kind("columns of other lengths");
     let long = [2_399, 2_400, 2_401, MOST_MONTHS - 1, MOST_MONTHS, MOST_MONTHS + 1];
     for length in [1, 2, 30].into_iter().chain(long) {
-        for column in 0..5 {
+        for column in 0..7 {
             for other in [0, length - 1, length, length + 1].into_iter().chain(long) {
-                let mut lengths = [length; 5];
+                let mut lengths = [length; 7];
                 lengths[column] = other;
                 let mut lists = Lists::new(&mut c.random, lengths, Fill::AnyBits);
                 for months in 0..2 {
@@ -209,7 +218,7 @@ pub fn lengths(c: &mut Check) {
         }
     }
     for _ in 0..200 {
-        let lengths = [(); 5].map(|()| c.random.below(MOST_MONTHS as u64 + 2) as usize);
+        let lengths = [(); 7].map(|()| c.random.below(MOST_MONTHS as u64 + 2) as usize);
         let run = any_good_run(&mut c.random, lengths[0].max(1));
         let mut lists = Lists::new(&mut c.random, lengths, Fill::Sparse);
         all_calls(c, &run, &mut lists);
@@ -222,7 +231,7 @@ pub fn most_v(c: &mut Check) {
     c.kind("V at its ends");
     for months in [1, 2, 2_399, 2_400, 2_401, MOST_MONTHS - 1, MOST_MONTHS] {
         for length in [months, MOST_MONTHS] {
-            let mut lists = Lists::new(&mut c.random, [length; 5], Fill::Sparse);
+            let mut lists = Lists::new(&mut c.random, [length; 7], Fill::Sparse);
             for (sign, past) in [(1, -1), (1, 0), (1, 1), (-1, -1), (-1, 0), (-1, 1)] {
                 let most = 4_000_150 * months as i64;
                 let values = Values { x1: 0, x2: 0, x3: -sign * 13_000_000, v: i64::from(sign) * (most + past) };
@@ -247,12 +256,13 @@ pub fn long_columns(c: &mut Check, times: u64) {
     for number in 0..1_050 * times {
         let length = c.random.pick(&[300, 2_399, 2_400, 2_401, MOST_MONTHS - 1, MOST_MONTHS, MOST_MONTHS]);
         let fill = c.random.pick(&[Fill::AnyBits, Fill::Small, Fill::Sparse, Fill::Sparse]);
-        let mut lists = Lists::new(&mut c.random, [length; 5], fill);
+        let mut lists = Lists::new(&mut c.random, [length; 7], fill);
         let mut run = any_good_run(&mut c.random, length);
         if number % 2 == 0 {
             run.months = c.random.within(length as i64 - 10, length as i64) as u32;
             (run.opens, run.values.v) = (c.random.pick(&[0, 3, run.months - 1, run.months]), 0);
         }
+        lists.meet(&run);
         for _ in 0..4 {
             let style = c.random.pick(&STYLES);
             let what = pick_add(&mut c.random, Way::Mixed, style, &run.values);

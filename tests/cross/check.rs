@@ -4,6 +4,7 @@ use crate::card::{Added, Run, Values};
 use crate::mirror::Turned;
 use crate::random::Random;
 use crate::reference::{self, Decides};
+use crate::water::Kept;
 use std::fmt::Debug;
 
 #[derive(Clone, Copy, Debug)]
@@ -61,6 +62,7 @@ pub struct Check {
     branches: Branches,
     pub seasons: Seasons,
     pub turned: Turned,
+    pub kept: Kept,
 }
 
 impl Check {
@@ -73,6 +75,7 @@ impl Check {
             branches: Branches::default(),
             seasons: Seasons::default(),
             turned: Turned::default(),
+            kept: Kept::default(),
         }
     }
 
@@ -139,6 +142,11 @@ impl Check {
         println!(
             "turned series of {} months, open and tied {}; spells ended {}, with their own side at most {} from 0",
             t.months, t.tied, t.ended, t.furthest
+        );
+        let k = &self.kept;
+        println!(
+            "records of {} months of water, drying {}, filling {}, running off {}, and of {} Z; with a V {}",
+            k.water, k.dried, k.filled, k.ran_off, k.z, k.v
         );
         println!();
         let cases: u64 = self.kinds.iter().map(|kind| kind.1).sum();

@@ -8,7 +8,7 @@ import sys
 ROOM = 'target/host/faults'
 FILES = ['tests/cross/reference.rs', 'tests/cross/conversion.rs']
 
-# a name, and what is changed to what, in the file that has it
+# a name, and what is changed to what, and maybe a second change, in the file that has it
 FAULTS = [
     ('next(x) by 2690', '2691 * i64::from(x) + 1000', '2690 * i64::from(x) + 1000'),
     ('halves below zero toward zero', 'if n < 0 { n - half }', 'if n < 0 { n - half + 1 }'),
@@ -73,6 +73,48 @@ FAULTS = [
     ('a whole series settled from no more than 2,400 back', 'fill(&series, index, first, month);', 'fill(&series, index, first.max(month.saturating_sub(2_400)), month);'),
     ("an index that goes by the columns' length", 'let index = own_index(&step);', 'let index = if k.x1.len() > 2_400 { step.values.x3 } else { own_index(&step) };'),
     ('what stands after the months looked at', 'let mut held = decides;', 'let mut held = if k.x1.get(month + 1).is_some_and(|x| *x < 0) { Decides::WithX1 } else { decides };'),
+    ('the end storages where those at the start belong', 'ss: start[0] as i32,\n        su: start[1] as i32,\n', 'ss: end.surface as i32,\n        su: end.underlying as i32,\n'),
+    ('the start storages where those at the end belong', 'surface: end.surface as i32,\n        underlying: end.underlying as i32,\n', 'surface: start[0] as i32,\n        underlying: start[1] as i32,\n'),
+    ('ET where PE belongs in a record', 'pe: w.pe as i32,\n', 'pe: w.et as i32,\n'),
+    ('PE where ET belongs in a record', 'et: w.et as i32,\n', 'et: w.pe as i32,\n'),
+    ("a record's L without the underlying layer's", 'l: (w.ls + w.lu) as i32,', 'l: w.ls as i32,'),
+    ("a record's L without the surface layer's", 'l: (w.ls + w.lu) as i32,', 'l: w.lu as i32,'),
+    ('recharge and loss exchanged in a record', '        r: w.r as i32,\n        l: (w.ls + w.lu) as i32,\n', '        r: (w.ls + w.lu) as i32,\n        l: w.r as i32,\n'),
+    ('a record without its runoff', 'ro: w.ro as i32,', 'ro: 0,'),
+    ("an added Z keeps the last month's water", 'record_of(&water, z, carried, &run.soil, NO_WATER);', 'Record { z, water: NO_WATER, ..k.records[(run.months as usize).saturating_sub(1)] };'),
+    ('an added Z records no storages', 'record_of(&water, z, carried, &run.soil, NO_WATER);', 'Record { z, ..Record::default() };'),
+    ('every month marked as one of water', 'NO_WATER: i32 = 0;', 'NO_WATER: i32 = 1;'),
+    ('no month marked as one of water', 'WATER: i32 = 1;', 'WATER: i32 = 0;'),
+    ("an added Z's record without its Z", 'record_of(&water, z, carried,', 'record_of(&water, 0, carried,'),
+    ('V of the month before', 'k.v[month] = step.values.v;', 'k.v[month] = run.values.v;'),
+    ("V left as it was", '    k.v[month] = step.values.v;\n', ''),
+    ('V cut to 32 binary digits', 'k.v[month] = step.values.v;', 'k.v[month] = i64::from(step.values.v as i32);'),
+    ('V written a place too far', 'k.v[month] = step.values.v;', 'k.v[(month + 1).min(k.x1.len() - 1)] = step.values.v;'),
+    ('a refused month of water writes its record', '    if run.months as usize == k.x1.len() {\n        return Err(Refusal::Full);\n    }\n    let first', '    if run.months as usize == k.x1.len() {\n        k.records[run.months as usize - 1].p = p as i32;\n        return Err(Refusal::Full);\n    }\n    let first'),
+    ('a refused Z writes its record', '        return Err(Refusal::BadZ);\n    }\n    if run.months as usize == length', '        if let Some(record) = k.records.get_mut(run.months as usize) {\n            record.z = z;\n        }\n        return Err(Refusal::BadZ);\n    }\n    if run.months as usize == length'),
+    ("a settled month's record written again", '    k.mark[first..month].fill(SETTLED);\n', '    k.mark[first..month].fill(SETTLED);\n    k.records[first..month].iter_mut().for_each(|record| record.water = NO_WATER);\n'),
+    ("a season's months without their records", '    for (&p, &pe) in p.iter().zip(pe) {\n', '    for (&p, &pe) in p.iter().zip(pe) {\n        let kept = k.records.to_vec();\n', '        season.figures = month.figures;\n', '        season.figures = month.figures;\n        k.records.copy_from_slice(&kept);\n'),
+    ('the ends not asked', 'is_run(run, length) && ends_meet(run, k.records)', 'is_run(run, length)'),
+    ('the ends asked of the record before the last', '&records[run.months as usize - 1];', '&records[(run.months as usize).max(2) - 2];'),
+    ('the ends asked of the place after the last', '&records[run.months as usize - 1];', '&records[(run.months as usize).min(records.len() - 1)];'),
+    ('the ends asked of a run of no months', '    if run.months == 0 {\n        return true;\n    }\n    let last = &records[run.months as usize - 1];', '    let last = &records[(run.months as usize).max(1) - 1];'),
+    ('the ends asked from the second month on', '    if run.months == 0 {\n        return true;', '    if run.months <= 1 {\n        return true;'),
+    ('the ends not asked where the columns are full', '    if run.months == 0 {\n        return true;', '    if run.months == 0 || run.months as usize == records.len() {\n        return true;'),
+    ('the surface layer alone asked', 'last.surface as u32 == run.soil.surface && last.underlying as u32 == run.soil.underlying', 'last.surface as u32 == run.soil.surface'),
+    ('the underlying layer alone asked', 'last.surface as u32 == run.soil.surface && last.underlying as u32 == run.soil.underlying', 'last.underlying as u32 == run.soil.underlying'),
+    ('the sum of both layers asked', 'last.surface as u32 == run.soil.surface && last.underlying as u32 == run.soil.underlying', '(last.surface as u32).wrapping_add(last.underlying as u32) == run.soil.surface + run.soil.underlying'),
+    ('the ends asked by their size', 'last.surface as u32 == run.soil.surface', 'last.surface.unsigned_abs() == run.soil.surface'),
+    ('the ends asked in 16 binary digits', 'last.underlying as u32 == run.soil.underlying', 'last.underlying as u16 == run.soil.underlying as u16'),
+    ('the storages at the start asked', 'last.surface as u32 == run.soil.surface', 'last.ss as u32 == run.soil.surface'),
+    ('the mark of water asked too', 'last.surface as u32 == run.soil.surface', 'last.water == WATER && last.surface as u32 == run.soil.surface'),
+    ('the ends not asked in a row', '    check(run, k)?;\n    if row >= run.months as usize {\n', '    if check(run, k) == Err(Refusal::Lengths) || check(run, k).is_err() && !is_run(run, k.x1.len()) {\n        check(run, k)?;\n    }\n    if row >= run.months as usize {\n'),
+    ('the ends not asked in a season', '    check(run, k)?;\n    for (&p, &pe)', '    if check(run, k) == Err(Refusal::Lengths) || !is_run(run, k.x1.len()) {\n        check(run, k)?;\n    }\n    for (&p, &pe)'),
+    ('the ends asked before the lengths', '    let length = k.x1.len();\n    let others', '    if (run.months as usize) <= k.records.len() && !ends_meet(run, k.records) {\n        return Err(Refusal::NotARun);\n    }\n    let length = k.x1.len();\n    let others'),
+    ('records longer than the others let in', 'k.mark.len(), k.records.len(), k.v.len()]', 'k.mark.len(), k.records.len().min(length), k.v.len()]'),
+    ('a V longer than the others let in', 'k.mark.len(), k.records.len(), k.v.len()]', 'k.mark.len(), k.records.len(), k.v.len().min(length)]'),
+    ('a row without its record', 'record: k.records[row],', 'record: Record::default(),'),
+    ('a row with the last record', 'record: k.records[row],', 'record: k.records[run.months as usize - 1],'),
+    ("a row with the run's V", 'v: k.v[row],', 'v: run.values.v,'),
     ('exact halves down', 'halfway <= 2.0', 'halfway < 2.0'),
     ('an exact 126 for 127', 'of: 127 }', 'of: 126 }'),
     ("the range's top left out of the exact one", '(0.0..=self.top)', '(0.0..self.top)'),
@@ -84,16 +126,18 @@ def read(name):
         return f.read()
 
 
-def caught(old, new):
+def caught(changes):
     """Whether the cross-check ends with a difference where its own side has this fault."""
     texts = {name: read(name) for name in FILES}
-    assert sum(text.count(old) for text in texts.values()) == 1, old
+    for old, new in zip(changes[::2], changes[1::2]):
+        assert sum(text.count(old) for text in texts.values()) == 1, old
+        texts = {name: text.replace(old, new) for name, text in texts.items()}
     shutil.rmtree(ROOM, ignore_errors=True)
     shutil.copytree('tests/cross', ROOM + '/tests/cross')
     shutil.copytree('host', ROOM + '/host')
     for name, text in texts.items():
         with open(ROOM + '/' + name, 'w') as f:
-            f.write(text.replace(old, new))
+            f.write(text)
     program = ROOM + '/cross'
     build = os.environ['RUSTC'].split() + ['-A', 'warnings', '-C', 'opt-level=3', '-L', 'native=target/staticlib', '-l', 'static=card']
     subprocess.run(build + [ROOM + '/tests/cross/main.rs', '-o', program], check=True)
@@ -102,7 +146,7 @@ def caught(old, new):
 
 
 def main():
-    missed = [name for name, old, new in FAULTS if not caught(old, new)]
+    missed = [name for name, *changes in FAULTS if not caught(changes)]
     shutil.rmtree(ROOM)
     print('%d faults, %d caught%s' % (len(FAULTS), len(FAULTS) - len(missed), ''.join('; missed: ' + name for name in missed)))
     sys.exit(1 if missed else 0)

@@ -1,14 +1,16 @@
 #!/usr/bin/env python3
 """Whether C, Rust and the library mean the same by each call of the card: reads crates/card, include/card.h and
 host/card.rs, and lays out every argument and answer of every call as a list of numbers with their names and types, in
-order. All three lists must be the same: every struct is laid out as C lays it out, so equal lists are equal places.
-No proof sees the order of a struct's fields, and no compiler sees two of these three at once."""
+order, and so a place of a list that holds several. All three lists must be the same: every struct is laid out as C lays it
+out, so equal lists are equal places. A month's record is a struct to C and Rust; the library has it in its list as its
+numbers, in the order of the fields of its own struct of that name. No proof sees the order of a struct's fields, and no compiler sees two of these three at once."""
 import glob
 import os
 import re
 import sys
 
 TOP = os.path.join(os.path.dirname(os.path.abspath(__file__)), '..', '..')
+RECORD = 'Record'
 C_TYPES = {'uint8_t': 'u8', 'uint32_t': 'u32', 'int32_t': 'i32', 'int64_t': 'i64', 'float': 'f32', 'size_t': 'usize'}
 
 
@@ -28,12 +30,29 @@ class Layouts:
     def __init__(self, name):
         self.name, self.structs, self.calls, self.numbers = name, {}, {}, {}
 
+    def of_list(self, kind):
+        """What a list that is lent has at a place: of an array of numbers the struct that stands there as its numbers, and
+        otherwise None."""
+        pointed = re.fullmatch(r'\*\w+ (.+)', kind)
+        if not pointed or pointed[1] in self.structs:
+            return pointed and pointed[1]
+        array = re.fullmatch(r'\[(\w+); (\w+)\]', pointed[1])
+        if not array:
+            return None
+        fields = [(field, array[1]) for field, _ in self.structs.get(RECORD, [])]
+        if len(fields) != int(self.numbers.get(array[2], array[2])) or fields != self.structs[RECORD]:
+            sys.exit('layout: %s has a list of %s, and that is not %s as its numbers' % (self.name, pointed[1], RECORD))
+        return RECORD
+
     def flat(self, kind, path=''):
         """A type as a list of (place, simple type)."""
         array = re.fullmatch(r'\[(\w+); (\w+)\]', kind)
         if array:
             count = self.numbers.get(array[2], array[2])
             return [('%s[%s]' % (path, count), array[1])]
+        listed = self.of_list(kind)
+        if listed:
+            return self.flat(listed, path + kind.split()[0])
         if kind not in self.structs:
             return [(path, kind)]
         return [place for field, inner in self.structs[kind] for place in self.flat(inner, path + '.' + field)]
@@ -45,7 +64,9 @@ class Layouts:
 def of_rust(name, source, structs):
     """Of Rattle and Rust alike: structs that are laid out as C's, and the calls of C's."""
     found = Layouts(name)
+    named = {}
     for part in structs:
+        named.update(re.findall(r'^pub type (\w+) = ([^;]+; \w+\]);', part, re.M))
         found.numbers.update(re.findall(r'^(?:pub )?const (\w+): usize = (\d+);', part, re.M))
         for struct, body in re.findall(r'#\[repr\(C\)\](?:\s*#\[derive\([^)]*\)\])?\s*pub struct (\w+) \{(.*?)^\}', part, re.M | re.S):
             fields = re.findall(r'pub (\w+): ([^,]+),', re.sub(r'//.*', '', body))
@@ -53,13 +74,14 @@ def of_rust(name, source, structs):
                 sys.exit('layout: %s has two structs %s that are laid out as C lays them out' % (name, struct))
     for call, arguments, answer in re.findall(r'pub (?:extern "C" )?fn (card_\w+)\(([^)]*)\) -> (\w+)', source):
         kinds = [re.sub(r'\w+::', '', argument.split(':', 1)[1].strip()) for argument in arguments.split(',') if ':' in argument]
+        kinds = [re.sub(r'\w+', lambda word: named.get(word[0], word[0]), kind) for kind in kinds]
         found.calls[call] = [answer] + [one for kind in kinds for one in lent(kind)]
     return found
 
 
 def lent(kind):
     """A slice as the pointer and the length that it is to C."""
-    slice_of = re.fullmatch(r'&(mut )?\[(\w+)\]', kind)
+    slice_of = re.fullmatch(r'&(mut )?\[(.+)\]', kind)
     if not slice_of:
         return [kind]
     return ['*%s %s' % ('mut' if slice_of[1] else 'const', slice_of[2]), 'usize']

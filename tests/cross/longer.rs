@@ -54,7 +54,7 @@ impl Step {
 
 /// What a run's months are made of.
 #[derive(Clone, Copy, Debug)]
-enum Record {
+enum Made {
     /// Water, Z and seasons of any size, by any constants.
     Any,
     /// The same, with every Z of one style.
@@ -72,22 +72,22 @@ fn styled(style: Style, run: &Run) -> Style {
     }
 }
 
-impl Record {
+impl Made {
     fn constants(self, random: &mut Random) -> Vec<i32> {
         match self {
-            Record::Styled(_) => PLAIN.to_vec(),
-            Record::Any | Record::Z(_) => good_constants(random),
+            Made::Styled(_) => PLAIN.to_vec(),
+            Made::Any | Made::Z(_) => good_constants(random),
         }
     }
 
     fn one(self, random: &mut Random, run: &Run) -> Step {
         let inches = |thousandths| thousandths as f32 / 1000.0;
         Step::One(match self {
-            Record::Any => {
+            Made::Any => {
                 let style = random.pick(&STYLES);
                 pick_add(random, Way::Mixed, style, &run.values)
             }
-            Record::Styled(style) => {
+            Made::Styled(style) => {
                 let (p, pe) = plain_month(random, styled(style, run), &run.values);
                 let month = MonthInches { p: inches(p), pe: inches(pe) };
                 random.pick(&[
@@ -96,15 +96,15 @@ impl Record {
                     Add::Inches(month),
                 ])
             }
-            Record::Z(style) => Add::Z(pick_z(random, styled(style, run), &run.values)),
+            Made::Z(style) => Add::Z(pick_z(random, styled(style, run), &run.values)),
         })
     }
 
     /// A season of so many months; of Z there is none, and one of them stands for it.
     fn season(self, random: &mut Random, run: &Run, length: usize) -> Step {
         match self {
-            Record::Any => Step::Season(good_months(random, run, length)),
-            Record::Styled(style) => {
+            Made::Any => Step::Season(good_months(random, run, length)),
+            Made::Styled(style) => {
                 let mut values = run.values;
                 let month = |_| {
                     let (p, pe) = plain_month(random, style, &values);
@@ -114,7 +114,7 @@ impl Record {
                 let (p, pe) = (0..length).map(month).unzip();
                 Step::Season(Months { p, pe })
             }
-            Record::Z(_) => self.one(random, run),
+            Made::Z(_) => self.one(random, run),
         }
     }
 }
@@ -135,7 +135,9 @@ impl Pair {
         let (k, l) = (self.moved.library.lend(), self.straight.library.lend());
         let numbers = [(k.x1, l.x1), (k.x2, l.x2), (k.x3, l.x3), (k.index, l.index)];
         let held = numbers.iter().all(|(held, other)| held[months.clone()] == other[months.clone()]);
-        if moved != straight || !held || k.mark[months.clone()] != l.mark[months] {
+        let held = held && k.mark[months.clone()] == l.mark[months.clone()];
+        let held = held && k.records[months.clone()] == l.records[months.clone()];
+        if moved != straight || !held || k.v[months.clone()] != l.v[months] {
             let inputs =
                 (step, self.run, self.moved.lengths(), self.straight.lengths(), "in columns of two lengths");
             differ(step.call(), &inputs, &moved, &straight);
@@ -157,13 +159,13 @@ impl Pair {
     }
 
     /// Steps until there are so many months, for which there is room.
-    fn fill(&mut self, c: &mut Check, record: Record, until: usize) {
+    fn fill(&mut self, c: &mut Check, made: Made, until: usize) {
         while (self.run.months as usize) < until {
             let room = until - self.run.months as usize;
             let season = c.random.pick(&[0, 1, 2, 6, 12, 40]).min(room);
             let step = match c.random.below(2) {
-                0 => record.one(&mut c.random, &self.run),
-                _ => record.season(&mut c.random, &self.run, season),
+                0 => made.one(&mut c.random, &self.run),
+                _ => made.season(&mut c.random, &self.run, season),
             };
             let number = self.both(c, &step);
             if number != 0 {
@@ -216,21 +218,21 @@ fn full(c: &mut Check, run: &Run, lists: &mut Lists) {
 }
 
 /// A run that fills columns of one length and goes on to fill those of the other.
-fn one_run(c: &mut Check, record: Record, short: usize, long: usize) {
-    let (constants, soil) = (record.constants(&mut c.random), good_soil(&mut c.random));
+fn one_run(c: &mut Check, made: Made, short: usize, long: usize) {
+    let (constants, soil) = (made.constants(&mut c.random), good_soil(&mut c.random));
     let run = c.start(&constants, soil).run;
-    let [moved, straight] = [short, long].map(|length| Lists::new(&mut c.random, [length; 5], Fill::AnyBits));
+    let [moved, straight] = [short, long].map(|length| Lists::new(&mut c.random, [length; 7], Fill::AnyBits));
     let mut pair = Pair { run, moved, straight, zs: Vec::new() };
     // so many places are left for the season that runs full
-    let left = match record {
-        Record::Z(_) => 0,
+    let left = match made {
+        Made::Z(_) => 0,
         _ => c.random.below(short.min(4) as u64 + 1) as usize,
     };
-    pair.fill(c, record, short - left);
-    let step = record.season(&mut c.random, &pair.run, left + 1);
+    pair.fill(c, made, short - left);
+    let step = made.season(&mut c.random, &pair.run, left + 1);
     pair.go_on(c, &step);
-    pair.fill(c, record, long - left);
-    let step = record.season(&mut c.random, &pair.run, left + 1);
+    pair.fill(c, made, long - left);
+    let step = made.season(&mut c.random, &pair.run, left + 1);
     pair.both(c, &step);
     full(c, &pair.run, &mut pair.moved);
     full(c, &pair.run, &mut pair.straight);
@@ -258,8 +260,8 @@ pub fn longer_columns(c: &mut Check, times: u64) {
     for _ in 0..times {
         for (short, long) in LENGTHS {
             for style in [Style::Ordinary, Style::Still] {
-                for record in [Record::Any, Record::Styled(style), Record::Z(style)] {
-                    one_run(c, record, short, long);
+                for made in [Made::Any, Made::Styled(style), Made::Z(style)] {
+                    one_run(c, made, short, long);
                 }
             }
         }

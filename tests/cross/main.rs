@@ -1,8 +1,9 @@
 //! Calls the library and the reference on the same inputs and compares everything: every field of the answer, the
-//! run handed back, and every place of every list lent, with some places before and after it that nobody lent. A
-//! season is compared with the library's single adds of its months as well, and readings are held to the exact
-//! computation. At the first difference it prints the call, its inputs and the outcomes, and ends with status 1.
-//! An argument multiplies the random cases.
+//! run handed back, and every place of every list lent, with some places before and after it that nobody lent; the
+//! records and V of long columns not all of them each time (`Lists::agree_after`). A season is compared with the
+//! library's single adds of its months as well, and readings are held to the exact computation. At the first
+//! difference it prints the call, its inputs and the outcomes, and ends with status 1. An argument multiplies the
+//! random cases.
 
 mod add;
 mod add_inches;
@@ -13,6 +14,7 @@ mod all_calls;
 mod card;
 mod check;
 mod conversion;
+mod ends;
 mod lists;
 mod longer;
 mod mirror;
@@ -25,6 +27,7 @@ mod season;
 mod series;
 mod start;
 mod thin;
+mod water;
 mod whole_series;
 mod worked;
 mod zero_k;
@@ -42,6 +45,8 @@ fn main() {
     };
     let mut check = Check::new(0x5eed_0001);
     worked::worked_months(&mut check);
+    ends::ends(&mut check);
+    water::records(&mut check, times);
     read::readings(&mut check, times);
     read::readings_exactly(&mut check);
     start::starts(&mut check, times);

@@ -4,7 +4,7 @@
 
 use crate::add::Add;
 use crate::add_z::{pick_z, STYLES};
-use crate::card::{Added, Columns, Run, Values};
+use crate::card::{Added, Columns, Record, Run, Values};
 use crate::check::Check;
 use crate::lists::{Fill, Lists};
 use crate::reference::{self, MOST_Z};
@@ -27,11 +27,11 @@ struct Side {
     lists: Lists,
 }
 
-/// What the columns hold of a month: X1, X2, X3, index, mark.
-type Held = ([i32; 3], i32, u8);
+/// What the columns hold of a month: X1, X2, X3, index, mark, record, V.
+type Held = ([i32; 3], i32, u8, Record, i64);
 
 fn held(k: &Columns, i: usize) -> Held {
-    ([k.x1[i], k.x2[i], k.x3[i]], k.index[i], k.mark[i])
+    ([k.x1[i], k.x2[i], k.x3[i]], k.index[i], k.mark[i], k.records[i], k.v[i])
 }
 
 fn mirror(values: &Values) -> Values {
@@ -39,14 +39,14 @@ fn mirror(values: &Values) -> Values {
 }
 
 /// Open, with no X3, and X1 and X2 of one size and not 0.
-fn excepted(([x1, x2, x3], _, mark): &Held) -> bool {
+fn excepted(([x1, x2, x3], _, mark, ..): &Held) -> bool {
     *mark == 1 && *x3 == 0 && *x1 == -x2 && *x1 != 0
 }
 
 fn holds_turned(plain: &Held, turned: &Held) {
-    let ([x1, x2, x3], index, mark) = *plain;
+    let ([x1, x2, x3], index, mark, record, v) = *plain;
     let shown = if excepted(plain) { x2 } else { -index };
-    assert_eq!(*turned, ([-x2, -x1, -x3], shown, mark));
+    assert_eq!(*turned, ([-x2, -x1, -x3], shown, mark, Record { z: -record.z, ..record }, -v));
     assert!(!excepted(plain) || index == x2);
 }
 
@@ -54,7 +54,7 @@ fn holds_turned(plain: &Held, turned: &Held) {
 fn beside(c: &mut Check, zs: &[i32]) -> Vec<Added> {
     let (constants, soil) = (good_constants(&mut c.random), good_soil(&mut c.random));
     let run = c.start(&constants, soil).run;
-    let mut sides = [0; 2].map(|_| Side { run, lists: Lists::new(&mut c.random, [zs.len(); 5], Fill::AnyBits) });
+    let mut sides = [0; 2].map(|_| Side { run, lists: Lists::new(&mut c.random, [zs.len(); 7], Fill::AnyBits) });
     let mut added = Vec::new();
     for (i, &z) in zs.iter().enumerate() {
         let [a, b] = [0, 1].map(|side| {

@@ -64,7 +64,7 @@ def pairs(library, other):
     found = {}
     for call, kinds in library.calls.items():
         for ours, theirs in zip(kinds, other.calls.get(call, [])):
-            pair(library, other, ours, theirs, found)
+            pair(library, other, library.of_list(ours) or ours, other.of_list(theirs) or theirs, found)
     return found
 
 

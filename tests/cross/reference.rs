@@ -1,10 +1,10 @@
-//! Document 01 in plain Rust and in its order, with document 02's season in one call (E2), thin soils (E5), longer lists
-//! (E9) and refused zero K (E11), written from these two alone, for the library to be compared with and measured against.
-//! The sentences quoted in the comments are the documents'. It shares the library's data types and nothing else. A call
-//! borrows the run and changes it only where it does what it was asked, a season month by month.
+//! Document 01 in plain Rust and in its order, with document 02's season in one call (E2), thin soils (E5), rows that show
+//! the water (E6), longer lists (E9) and refused zero K (E11), written from these two alone, for the library to be compared
+//! with and measured against. The sentences quoted in the comments are the documents'. It shares the library's data types
+//! and nothing else. A call borrows the run and changes it only where it does what it was asked, a season month by month.
 #![allow(dead_code)]
 
-use crate::card::{self, Columns, Figures, MonthInches, Reading, Run, Shown, Soil, Values, Water};
+use crate::card::{self, Columns, Figures, MonthInches, Reading, Record, Run, Shown, Soil, Values, Water};
 use std::ops::RangeInclusive;
 
 // ---- Quantities --------------------------------------------------------------------------------------------
@@ -377,14 +377,14 @@ pub fn start(constants: &[i32], capacity: i32, surface: i32, underlying: i32, mo
 }
 
 /// Refusals 1 and 7, and otherwise the column length.
-#[inline]
+#[inline(always)]
 fn check(run: &Run, k: &Columns) -> Result<usize, Refusal> {
     let length = k.x1.len();
-    let others = [k.x2.len(), k.x3.len(), k.index.len(), k.mark.len()];
-    if length == 0 || length > MOST_MONTHS || others != [length; 4] {
+    let others = [k.x2.len(), k.x3.len(), k.index.len(), k.mark.len(), k.records.len(), k.v.len()];
+    if length == 0 || length > MOST_MONTHS || others.iter().any(|other| *other != length) {
         return Err(Refusal::Lengths);
     }
-    if is_run(run, length) {
+    if is_run(run, length) && ends_meet(run, k.records) {
         Ok(length)
     } else {
         Err(Refusal::NotARun)
@@ -392,6 +392,7 @@ fn check(run: &Run, k: &Columns) -> Result<usize, Refusal> {
 }
 
 /// The paragraph "Not a run", turned round. "A run holding one is 7": a zero K.
+#[inline(always)]
 fn is_run(run: &Run, length: usize) -> bool {
     let Values { x1, x2, x3, v } = run.values;
     run.months as usize <= length
@@ -409,7 +410,41 @@ fn is_run(run: &Run, length: usize) -> bool {
         && !holds_zero_k(&run.constants)
 }
 
-/// Adds a month whose water and Z are known. The month's place is there.
+/// "After any month, the last row's end storages equal the run's." A number below 0 comes out above every range, and the
+/// run's are in theirs.
+#[inline]
+fn ends_meet(run: &Run, records: &[Record]) -> bool {
+    if run.months == 0 {
+        return true;
+    }
+    let last = &records[run.months as usize - 1];
+    last.surface as u32 == run.soil.surface && last.underlying as u32 == run.soil.underlying
+}
+
+/// What a month's record says of whether it had water.
+const NO_WATER: i32 = 0;
+const WATER: i32 = 1;
+
+/// "Each month's record keeps Z, .. P, PE, ET, R, L, RO and both storages at its start and end". L is what both layers lose.
+#[inline]
+fn record_of(w: &Water, z: i32, start: [u32; 2], end: &Soil, water: i32) -> Record {
+    Record {
+        z,
+        p: w.p as i32,
+        pe: w.pe as i32,
+        et: w.et as i32,
+        r: w.r as i32,
+        l: (w.ls + w.lu) as i32,
+        ro: w.ro as i32,
+        ss: start[0] as i32,
+        su: start[1] as i32,
+        surface: end.surface as i32,
+        underlying: end.underlying as i32,
+        water,
+    }
+}
+
+/// Adds a month whose water and Z are known, but for its record. The month's place is there.
 fn add(run: &mut Run, water: Water, z: i32, k: &mut Columns) -> Added {
     let month = run.months as usize;
     let step = spell_month(&run.values, z);
@@ -432,6 +467,7 @@ fn add(run: &mut Run, water: Water, z: i32, k: &mut Columns) -> Added {
     k.x3[month] = x3;
     k.index[month] = index;
     k.mark[month] = mark;
+    k.v[month] = step.values.v;
     run.months += 1;
     run.calendar = run.calendar % 12 + 1;
     run.values = step.values;
@@ -444,7 +480,9 @@ fn add_amounts(run: &mut Run, p: u32, pe: u32, k: &mut Columns) -> Result<Added,
         return Err(Refusal::Full);
     }
     let first = 5 * (run.calendar as usize - 1);
+    let start = [run.soil.surface, run.soil.underlying];
     let (water, z) = water_month(&mut run.soil, &run.constants[first..first + 5], p, pe);
+    k.records[run.months as usize] = record_of(&water, z, start, &run.soil, WATER);
     Ok(add(run, water, z, k))
 }
 
@@ -473,8 +511,11 @@ pub fn add_z(run: &mut Run, z: i32, k: &mut Columns) -> Result<Added, Refusal> {
     if run.months as usize == length {
         return Err(Refusal::Full);
     }
-    // "For an added Z all those before Z are 0."
-    Ok(add(run, Water::default(), z, k))
+    // "For an added Z all those before Z are 0." "A Z-only month records its Z .., zeros for the six water figures and the
+    // carried storages, with a mark that it had no water."
+    let (water, carried) = (Water::default(), [run.soil.surface, run.soil.underlying]);
+    k.records[run.months as usize] = record_of(&water, z, carried, &run.soil, NO_WATER);
+    Ok(add(run, water, z, k))
 }
 
 /// What a season answers. All but the refusal tells of the months that were added.
@@ -523,13 +564,23 @@ fn add_months(run: &mut Run, p: &[i32], pe: &[i32], k: &mut Columns, season: &mu
     Ok(())
 }
 
-/// "Show a month's row (what the five columns hold there)." "Row: 1, 7, 11." "Rows are numbered from 0."
+/// "Show a month's row (what the five columns hold there)", and its record and V. "Row: 1, 7, 11." "Rows are numbered from
+/// 0."
 pub fn row(run: &Run, row: usize, k: &Columns) -> Result<Shown, Refusal> {
     check(run, k)?;
     if row >= run.months as usize {
         return Err(Refusal::NoRow);
     }
-    Ok(Shown { number: 0, x1: k.x1[row], x2: k.x2[row], x3: k.x3[row], index: k.index[row], mark: k.mark[row] })
+    Ok(Shown {
+        number: 0,
+        x1: k.x1[row],
+        x2: k.x2[row],
+        x3: k.x3[row],
+        index: k.index[row],
+        mark: k.mark[row],
+        month: k.records[row],
+        v: k.v[row],
+    })
 }
 
 /// The months of a whole series, before hindsight.

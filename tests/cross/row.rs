@@ -34,10 +34,11 @@ pub fn rows(c: &mut Check) {
     c.kind("rows, near and far");
     let far = [1 << 31, 1 << 32, 1 << 63, usize::MAX - 1];
     for length in [1, 2, 40, 2_399, 2_400, 2_401, MOST_MONTHS - 1, MOST_MONTHS, MOST_MONTHS + 1] {
-        let mut lists = Lists::new(&mut c.random, [length; 5], Fill::AnyBits);
+        let mut lists = Lists::new(&mut c.random, [length; 7], Fill::AnyBits);
         for months in [0, 1, length / 2, length - 1, length] {
             let mut run = any_good_run(&mut c.random, length);
             (run.months, run.opens, run.values.v) = (months as u32, c.random.below(months as u64 + 1) as u32, 0);
+            lists.meet(&run);
             let near = [0, 1, months, length, 2_400, MOST_MONTHS, c.random.below(MOST_MONTHS as u64) as usize];
             for row in near.into_iter().chain(far) {
                 for row in [row.wrapping_sub(1), row, row.wrapping_add(1)] {

@@ -108,13 +108,13 @@ pub fn limits(run: &Run, length: usize) -> Vec<i64> {
     values
 }
 
-/// Lengths of the five columns: all good first, then with faults.
-pub fn length_faults() -> Vec<[usize; 5]> {
+/// Lengths of the seven columns: all good first, then with faults.
+pub fn length_faults() -> Vec<[usize; 7]> {
     let equal = [5, 2_401, MOST_MONTHS, 0, MOST_MONTHS + 1, MOST_MONTHS + 600];
-    let mut found = equal.map(|length| [length; 5]).to_vec();
-    for column in 0..5 {
+    let mut found = equal.map(|length| [length; 7]).to_vec();
+    for column in 0..7 {
         for (length, other) in [(5, 0), (5, 4), (5, 6), (2_400, 2_401), (MOST_MONTHS, MOST_MONTHS + 1)] {
-            let mut lengths = [length; 5];
+            let mut lengths = [length; 7];
             lengths[column] = other;
             found.push(lengths);
         }

@@ -168,8 +168,9 @@ fn season_lengths(c: &mut Check, times: u64) {
         for number in 0..3_900 * times {
             let length = c.random.within(1, 40) as usize;
             let fill = c.random.pick(&[Fill::AnyBits, Fill::Small, Fill::Small]);
-            let mut lists = Lists::new(&mut c.random, [length; 5], fill);
+            let mut lists = Lists::new(&mut c.random, [length; 7], fill);
             let run = season_run(&mut c.random, length, fresh);
+            lists.meet(&run);
             let mut months = good_months(&mut c.random, &run, number as usize % 13);
             if c.random.one_in(4) {
                 spoil(&mut c.random, &mut months);
@@ -180,11 +181,12 @@ fn season_lengths(c: &mut Check, times: u64) {
     c.kind("seasons, running full");
     for length in 1..=12 {
         for held in 0..=length {
-            let mut lists = Lists::new(&mut c.random, [length; 5], Fill::Small);
+            let mut lists = Lists::new(&mut c.random, [length; 7], Fill::Small);
             for months in 0..=13 {
                 let mut run = season_run(&mut c.random, length, false);
                 run.months = held as u32;
                 (run.opens, run.values.v) = (run.opens.min(run.months), 0);
+                lists.meet(&run);
                 let months = good_months(&mut c.random, &run, months);
                 c.season(&months, &run, &mut lists);
             }
@@ -200,9 +202,10 @@ fn season_edges(c: &mut Check) {
         for place in 0..length {
             for room in [place.saturating_sub(1), place, place + 1, length + 2] {
                 let held = c.random.within(1, 6) as usize;
-                let mut lists = Lists::new(&mut c.random, [held + room; 5], Fill::Small);
+                let mut lists = Lists::new(&mut c.random, [held + room; 7], Fill::Small);
                 let mut run = season_run(&mut c.random, held, false);
                 run.months = held as u32;
+                lists.meet(&run);
                 let good = good_months(&mut c.random, &run, length);
                 for p in EDGES {
                     for pe in EDGES {
@@ -224,6 +227,7 @@ fn season_refusals(c: &mut Check) {
     for lengths in length_faults() {
         let mut lists = Lists::new(&mut c.random, lengths, Fill::AnyBits);
         for run in run_faults(&run) {
+            lists.meet(&run);
             for (p, pe) in [(0, 0), (0, 1), (1, 0), (1, 1), (2, 3), (3, 2), (4, 4)] {
                 for reading in [700, -1, 100_001] {
                     c.season(&Months { p: vec![reading; p], pe: vec![700; pe] }, &run, &mut lists);
@@ -246,8 +250,9 @@ fn long_seasons(c: &mut Check, times: u64) {
             let season = c.random.within(least, most) as usize;
             let any = c.random.within(1, season.min(MOST_MONTHS) as i64) as usize;
             let length = [MOST_MONTHS, any, 2_400][number as usize % 3];
-            let mut lists = Lists::new(&mut c.random, [length; 5], Fill::AnyBits);
+            let mut lists = Lists::new(&mut c.random, [length; 7], Fill::AnyBits);
             let run = season_run(&mut c.random, length, number % 4 < 2);
+            lists.meet(&run);
             let mut months = good_months(&mut c.random, &run, season);
             if c.random.one_in(3) {
                 spoil(&mut c.random, &mut months);
@@ -264,7 +269,7 @@ fn long_seasons(c: &mut Check, times: u64) {
 /// Seasons that fill columns of this length but for a month, to the last, and beyond; and with a month more in one list.
 fn full_seasons(c: &mut Check, length: usize) {
     for season in [length - 1, length, length + 1, length + 7_600] {
-        let mut lists = Lists::new(&mut c.random, [length; 5], Fill::AnyBits);
+        let mut lists = Lists::new(&mut c.random, [length; 7], Fill::AnyBits);
         let mut run = season_run(&mut c.random, length, true);
         let mut months = good_months(&mut c.random, &run, season);
         c.season(&months, &run, &mut lists);
@@ -287,7 +292,7 @@ fn mixed_seasons(c: &mut Check, times: u64) {
     for _ in 0..400 * times {
         let most = c.random.pick(&[12, 30, 60, 120, 400]);
         let length = c.random.within(1, most) as usize;
-        let mut lists = Lists::new(&mut c.random, [length; 5], Fill::AnyBits);
+        let mut lists = Lists::new(&mut c.random, [length; 7], Fill::AnyBits);
         let mut run = season_run(&mut c.random, length, true);
         while (run.months as usize) < length {
             run = if c.random.one_in(2) {

@@ -30,7 +30,7 @@ pub fn series(c: &mut Check, times: u64) {
 
 /// Adds months until the columns are full, some refused adds between, and looks back.
 fn one_series(c: &mut Check, length: usize, way: Way) {
-    let mut lists = Lists::new(&mut c.random, [length; 5], Fill::AnyBits);
+    let mut lists = Lists::new(&mut c.random, [length; 7], Fill::AnyBits);
     let (constants, soil) = (good_constants(&mut c.random), good_soil(&mut c.random));
     let mut run = c.start(&constants, soil).run;
     let mut zs = Vec::new();
@@ -70,7 +70,7 @@ pub fn open_to_the_last(c: &mut Check, times: u64) {
     c.kind("series, open to the last month");
     for number in 0..9 * times {
         let length = [MOST_MONTHS, 2_400, c.random.within(2, 600) as usize][number as usize % 3];
-        let mut lists = Lists::new(&mut c.random, [length; 5], Fill::AnyBits);
+        let mut lists = Lists::new(&mut c.random, [length; 7], Fill::AnyBits);
         let constants = good_constants(&mut c.random);
         let mut run = c.start(&constants, [6_000, 0, 0, 1]).run;
         let mut zs = Vec::new();
@@ -83,6 +83,7 @@ pub fn open_to_the_last(c: &mut Check, times: u64) {
             run = c.add(Add::Z(z), &run, &mut lists).run;
             zs.push(z);
         }
+        c.untouched(&run, &mut lists);
         c.whole_against(&zs, &mut lists);
     }
 }

@@ -46,7 +46,7 @@ fn starts(c: &mut Check) {
 /// The same in a run that is handed in.
 fn runs(c: &mut Check) {
     c.kind("thin soils, runs");
-    let mut lists = Lists::new(&mut c.random, [3; 5], Fill::AnyBits);
+    let mut lists = Lists::new(&mut c.random, [3; 7], Fill::AnyBits);
     for capacity in -2..=INCH + 102 {
         let run = any_good_run(&mut c.random, 2);
         let [upper, lower] = storages(capacity);
@@ -54,7 +54,9 @@ fn runs(c: &mut Check) {
             for underlying in lower {
                 let soil =
                     Soil { capacity: capacity as u32, surface: surface as u32, underlying: underlying as u32 };
-                c.row(&Run { soil, ..run }, 0, &mut lists);
+                let run = Run { soil, ..run };
+                lists.meet(&run);
+                c.row(&run, 0, &mut lists);
             }
         }
     }
@@ -64,12 +66,13 @@ fn runs(c: &mut Check) {
 /// months that fill it but for a thousandth, to the last, and overflow.
 fn months(c: &mut Check) {
     c.kind("thin soils, months");
-    let mut lists = Lists::new(&mut c.random, [4; 5], Fill::Small);
+    let mut lists = Lists::new(&mut c.random, [4; 7], Fill::Small);
     for capacity in 100..INCH {
         let run = any_good_run(&mut c.random, 3);
         for surface in 0..=capacity {
             let soil = Soil { capacity: capacity as u32, surface: surface as u32, underlying: 0 };
             let run = Run { soil, ..run };
+            lists.meet(&run);
             let room = capacity - surface;
             for (p, pe) in [(1, surface), (0, surface), (30, surface + 31), (room, 1), (room, 0), (room + 31, 30)] {
                 let after = c.add(water(p, pe), &run, &mut lists).run.soil;
@@ -85,7 +88,7 @@ fn months(c: &mut Check) {
 fn years(c: &mut Check) {
     c.kind("thin soils, dry and wet years");
     let constants = good_constants(&mut c.random);
-    let mut lists = Lists::new(&mut c.random, [12; 5], Fill::AnyBits);
+    let mut lists = Lists::new(&mut c.random, [12; 7], Fill::AnyBits);
     for capacity in 100..=INCH {
         for (p, pe, left) in [(0, capacity, 0), (capacity, 0, capacity)] {
             for surface in [0, capacity / 2, capacity] {

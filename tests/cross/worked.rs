@@ -3,7 +3,7 @@
 use crate::add::Add;
 use crate::card::{self, MonthInches, Reading, Season};
 use crate::check::Check;
-use crate::lists::{Fill, Lists};
+use crate::lists::{record, Fill, Lists};
 use crate::season::Months;
 
 /// Some of the document's worked months, so that both sides are also held to numbers that neither has reckoned.
@@ -12,13 +12,15 @@ pub fn worked_months(c: &mut Check) {
     let readings = [Reading::inches(0.0625), Reading::inches(1.0 / 2048.0), Reading::millimetres(7.9375)];
     assert_eq!(readings.map(|reading| card::read(reading).water), [63, 0, 313]);
     let constants: Vec<i32> = [8000, 1000, 500, 2000, 15000].repeat(12);
-    let mut lists = Lists::new(&mut c.random, [8; 5], Fill::AnyBits);
+    let mut lists = Lists::new(&mut c.random, [8; 7], Fill::AnyBits);
 
     let run = c.start(&constants, [6000, 500, 3000, 1]).run;
     let w1 = c.add(Add::Water(Reading::whole(1000), Reading::whole(2500)), &run, &mut lists);
     let w = w1.figures.water;
     assert_eq!((w.ls, w.lu, w.et, w.pl, w.cafec, w1.figures.z), (500, 500, 2000, 1500, 2125, -1688));
     assert_eq!((w1.run.soil.surface, w1.run.soil.underlying, w1.run.calendar), (0, 2500, 2));
+    let kept = [-1688, 1000, 2500, 2000, 0, 1000, 0, 500, 3000, 0, 2500, 1];
+    assert_eq!(lists.library.lend().records[0], record(kept));
     let months = Months { p: vec![1000, 700, 700], pe: vec![2500, -1, 700] };
     let w1_alone = Season { number: 8, added: 1, settled: w1.settled, figures: w1.figures, run: w1.run };
     assert_eq!(c.season(&months, &run, &mut lists), w1_alone);
@@ -26,6 +28,8 @@ pub fn worked_months(c: &mut Check) {
     let run = c.start(&constants, [6000, 500, 4900, 12]).run;
     let w2 = c.add(Add::Inches(MonthInches { p: 2.0, pe: 0.4 }), &run, &mut lists);
     assert_eq!((w2.figures.water.r, w2.figures.water.ro, w2.run.calendar), (600, 1000, 1));
+    let kept = [w2.figures.z, 2000, 400, 400, 600, 0, 1000, 500, 4900, 1000, 5000, 1];
+    assert_eq!(lists.library.lend().records[0], record(kept));
 
     // S4, then S5 and S6.
     let mut run = c.start(&constants, [6000, 0, 0, 1]).run;
@@ -37,6 +41,10 @@ pub fn worked_months(c: &mut Check) {
         run = added.run;
     }
     assert_eq!(percents, [40, 27, 12]);
+    // V is the sum of Z + 150 since the drought abates; a Z has no water, and the storages stay.
+    assert_eq!(lists.library.lend().v[..3], [3740, 2430, 980]);
+    let kept = [3590, -1460, -1600].map(|z| record([z, 0, 0, 0, 0, 0, 0, 0, 0, 0, 0, 0]));
+    assert_eq!(lists.library.lend().records[..3], kept);
     let s5 = c.add(Add::Z(-1130), &run, &mut lists);
     assert_eq!((s5.settled, s5.figures.index), (4, -3017));
     assert_eq!(lists.library.lend().index[..4], [-2454, -2688, -2944, -3017]);
@@ -54,7 +62,7 @@ pub fn worked_months(c: &mut Check) {
 fn longest_lists(c: &mut Check, constants: &[i32]) {
     let run = c.start(constants, [6000, 0, 0, 1]).run;
     for (length, number) in [(2400, 0), (2401, 0), (12_000, 0), (12_001, 1)] {
-        let mut lists = Lists::new(&mut c.random, [length; 5], Fill::AnyBits);
+        let mut lists = Lists::new(&mut c.random, [length; 7], Fill::AnyBits);
         assert_eq!(c.add(Add::Z(0), &run, &mut lists).number, number);
         assert_eq!(c.whole(&vec![0; length], length, length).0, number);
     }

@@ -83,7 +83,7 @@ fn runs(c: &mut Check) {
 /// "3 still allows it": each of the others at 0, one by one and all together beside a K of 1, at a start and in a month.
 fn zeros_elsewhere(c: &mut Check) {
     c.kind("zeros that are no K");
-    let mut lists = Lists::new(&mut c.random, [2; 5], Fill::AnyBits);
+    let mut lists = Lists::new(&mut c.random, [2; 7], Fill::AnyBits);
     let one: Vec<Vec<i32>> = (0..60)
         .filter(|at| at % 5 != 4)
         .map(|at| {
@@ -105,7 +105,7 @@ fn zeros_elsewhere(c: &mut Check) {
 fn put_right(c: &mut Check) {
     c.kind("zero K, put right");
     for month in 0..12 {
-        let mut lists = Lists::new(&mut c.random, [30; 5], Fill::AnyBits);
+        let mut lists = Lists::new(&mut c.random, [30; 7], Fill::AnyBits);
         let constants = good_constants(&mut c.random);
         let mut run = c.start(&constants, [6_000, 500, 3_000, 7]).run;
         for z in [-9_000, -50, 300, 10, 2_000] {

@@ -1,9 +1,11 @@
 /* Tries what include/card.h adds to the library for C: NULL beside the length 0, the columns as one struct, the
- * meanings of the numbers, and what it says of missing months. The library's own functions, asked with valid
+ * meanings of the numbers, and what it says of records, of runs and columns that do not belong together, and of
+ * missing months. The library's own functions, asked with valid
  * pointers, are what the header's are held to. It is linked so that every call of the library is watched for
  * NULL: see tests/header/run. */
 #include "card.h"
 
+#include <stddef.h>
 #include <stdio.h>
 #include <stdlib.h>
 #include <string.h>
@@ -31,9 +33,10 @@ static void check_number(const char *where, uint8_t got, uint8_t expected) {
 
 /* The linker leads each call of card_start to __wrap_card_start, and __real_card_start to the library. */
 
-#define WRITTEN int32_t *, size_t, int32_t *, size_t, int32_t *, size_t, int32_t *, size_t, uint8_t *, size_t
+#define WRITTEN int32_t *, size_t, int32_t *, size_t, int32_t *, size_t, int32_t *, size_t, uint8_t *, \
+                size_t, card_record *, size_t, int64_t *, size_t
 #define READ const int32_t *, size_t, const int32_t *, size_t, const int32_t *, size_t, const int32_t *, \
-             size_t, const uint8_t *, size_t
+             size_t, const uint8_t *, size_t, const card_record *, size_t, const int64_t *, size_t
 
 static unsigned long watched;
 
@@ -43,11 +46,23 @@ static void watch(const char *where, int good) {
 }
 
 #define LENT int32_t *x1, size_t n1, int32_t *x2, size_t n2, int32_t *x3, size_t n3, int32_t *i, size_t ni, \
-             uint8_t *m, size_t nm
+             uint8_t *m, size_t nm, card_record *r, size_t nr, int64_t *v, size_t nv
 #define LENT_TO_READ const int32_t *x1, size_t n1, const int32_t *x2, size_t n2, const int32_t *x3, size_t n3, \
-                     const int32_t *i, size_t ni, const uint8_t *m, size_t nm
-#define HANDED x1, n1, x2, n2, x3, n3, i, ni, m, nm
-#define NONE_NULL (x1 && x2 && x3 && i && m)
+                     const int32_t *i, size_t ni, const uint8_t *m, size_t nm, const card_record *r, \
+                     size_t nr, const int64_t *v, size_t nv
+#define HANDED x1, n1, x2, n2, x3, n3, i, ni, m, nm, r, nr, v, nv
+#define NONE_NULL (x1 && x2 && x3 && i && m && r && v)
+
+/* The columns that the last call of the library was handed, and their lengths. */
+static const void *handed[7];
+static size_t handed_lengths[7];
+
+static void note(LENT_TO_READ) {
+    const void *at[7] = {x1, x2, x3, i, m, r, v};
+    size_t lengths[7] = {n1, n2, n3, ni, nm, nr, nv};
+    memcpy(handed, at, sizeof at);
+    memcpy(handed_lengths, lengths, sizeof lengths);
+}
 
 card_started __real_card_start(const int32_t *, size_t, int32_t, int32_t, int32_t, int32_t);
 card_started __wrap_card_start(const int32_t *list, size_t n, int32_t c, int32_t s, int32_t u, int32_t month) {
@@ -58,18 +73,21 @@ card_started __wrap_card_start(const int32_t *list, size_t n, int32_t c, int32_t
 card_added __real_card_add_water(card_run, card_reading, card_reading, WRITTEN);
 card_added __wrap_card_add_water(card_run run, card_reading p, card_reading pe, LENT) {
     watch("card_add_water", NONE_NULL);
+    note(HANDED);
     return __real_card_add_water(run, p, pe, HANDED);
 }
 
 card_added __real_card_add_inches(card_run, card_month_inches, WRITTEN);
 card_added __wrap_card_add_inches(card_run run, card_month_inches month, LENT) {
     watch("card_add_inches", NONE_NULL);
+    note(HANDED);
     return __real_card_add_inches(run, month, HANDED);
 }
 
 card_added __real_card_add_z(card_run, int32_t, WRITTEN);
 card_added __wrap_card_add_z(card_run run, int32_t z, LENT) {
     watch("card_add_z", NONE_NULL);
+    note(HANDED);
     return __real_card_add_z(run, z, HANDED);
 }
 
@@ -77,12 +95,14 @@ card_season __real_card_add_season(card_run, const int32_t *, size_t, const int3
 card_season __wrap_card_add_season(card_run run, const int32_t *p, size_t np, const int32_t *pe, size_t npe,
                                    LENT) {
     watch("card_add_season", NONE_NULL && p && pe);
+    note(HANDED);
     return __real_card_add_season(run, p, np, pe, npe, HANDED);
 }
 
 card_shown __real_card_row(card_run, size_t, READ);
 card_shown __wrap_card_row(card_run run, size_t row, LENT_TO_READ) {
     watch("card_row", NONE_NULL);
+    note(HANDED);
     return __real_card_row(run, row, HANDED);
 }
 
@@ -97,10 +117,12 @@ uint8_t __wrap_card_whole_series(const int32_t *z, size_t nz, int32_t *i, size_t
 typedef struct lists {
     int32_t x1[MONTHS], x2[MONTHS], x3[MONTHS], index[MONTHS];
     uint8_t mark[MONTHS];
+    card_record records[MONTHS];
+    int64_t v[MONTHS];
 } lists;
 
 static card_columns lent(lists *of, size_t length) {
-    return card_columns_of(of->x1, of->x2, of->x3, of->index, of->mark, length);
+    return card_columns_of(of->x1, of->x2, of->x3, of->index, of->mark, of->records, of->v, length);
 }
 
 /* Of numbers and bytes without gaps between them, so that they can be compared as bytes. */
@@ -117,6 +139,10 @@ static lists fresh_lists(void) {
         made.x3[i] = 3000 + i;
         made.index[i] = 4000 + i;
         made.mark[i] = (uint8_t)(100 + i);
+        int32_t n = 100000 + 12 * i;
+        card_record r = {n, n + 1, n + 2, n + 3, n + 4, n + 5, n + 6, n + 7, n + 8, n + 9, n + 10, n + 11};
+        made.records[i] = r;
+        made.v[i] = 5000000000 + i;
     }
     return made;
 }
@@ -176,7 +202,8 @@ static answer of_shown(card_shown s, card_run run) {
 }
 
 #define EACH(k) (k).x1, (k).x1_length, (k).x2, (k).x2_length, (k).x3, (k).x3_length, \
-                (k).index, (k).index_length, (k).mark, (k).mark_length
+                (k).index, (k).index_length, (k).mark, (k).mark_length, \
+                (k).records, (k).records_length, (k).v, (k).v_length
 #define SEASON_OF(c) (c).list_p, (c).list_p_length, (c).list_pe, (c).list_pe_length
 
 /* By the library's own functions, which take no NULL. */
@@ -225,9 +252,13 @@ static int same_figures(const card_figures *a, const card_figures *b) {
            a->x1 == b->x1 && a->x2 == b->x2 && a->x3 == b->x3 && a->index == b->index && a->mark == b->mark;
 }
 
+static int same_record(const card_record *a, const card_record *b) {
+    return memcmp(a, b, sizeof *a) == 0;
+}
+
 static int same_shown(const card_shown *a, const card_shown *b) {
     return a->number == b->number && a->x1 == b->x1 && a->x2 == b->x2 && a->x3 == b->x3 &&
-           a->index == b->index && a->mark == b->mark;
+           a->index == b->index && a->mark == b->mark && same_record(&a->month, &b->month) && a->v == b->v;
 }
 
 static void check_same(const char *where, const answer *a, const answer *b) {
@@ -311,8 +342,31 @@ static void try_sizes(void) {
     check("sizes", sizeof(card_started) == 296, "card_started is not 296 bytes");
     check("sizes", sizeof(card_added) == 368, "card_added is not 368 bytes");
     check("sizes", sizeof(card_season) == 376, "card_season is not 376 bytes");
-    check("sizes", sizeof(lists) == 17 * MONTHS, "a month is not 17 bytes in the columns");
-    check("sizes", CARD_MOST_MONTHS == 12000 && 17 * CARD_MOST_MONTHS == 204000, "the longest columns");
+    check("sizes", sizeof(card_shown) == 80, "card_shown is not 80 bytes");
+    check("sizes", sizeof(card_record) == 48, "a record is not 48 bytes");
+    check("sizes", sizeof(lists) == 73 * MONTHS, "a month is not 73 bytes in the columns");
+    check("sizes", CARD_MOST_MONTHS == 12000 && 73 * CARD_MOST_MONTHS == 876000, "the longest columns");
+}
+
+/* Where the fields of a record, of the columns and of a row stand. */
+static void try_offsets(void) {
+    static const size_t of_record[12] = {
+        offsetof(card_record, z), offsetof(card_record, p), offsetof(card_record, pe), offsetof(card_record, et),
+        offsetof(card_record, r), offsetof(card_record, l), offsetof(card_record, ro),
+        offsetof(card_record, ss), offsetof(card_record, su),
+        offsetof(card_record, surface), offsetof(card_record, underlying), offsetof(card_record, water)};
+    static const size_t of_columns[14] = {
+        offsetof(card_columns, x1), offsetof(card_columns, x1_length), offsetof(card_columns, x2),
+        offsetof(card_columns, x2_length), offsetof(card_columns, x3), offsetof(card_columns, x3_length),
+        offsetof(card_columns, index), offsetof(card_columns, index_length), offsetof(card_columns, mark),
+        offsetof(card_columns, mark_length), offsetof(card_columns, records),
+        offsetof(card_columns, records_length), offsetof(card_columns, v), offsetof(card_columns, v_length)};
+    for (size_t i = 0; i < 12; i++) check("offsets", of_record[i] == 4 * i, "a record's numbers have gaps");
+    for (size_t i = 0; i < 14; i++) check("offsets", of_columns[i] == 8 * i, "the columns in another order");
+    check("offsets", sizeof(card_columns) == 112, "the columns are not 112 bytes");
+    check("offsets", offsetof(card_shown, x1) == 4 && offsetof(card_shown, index) == 16 &&
+          offsetof(card_shown, mark) == 20 && offsetof(card_shown, month) == 24 &&
+          offsetof(card_shown, v) == 72, "a row in another order");
 }
 
 /* The columns with length 0 for each in the set, at the address that they have, or at NULL. */
@@ -322,12 +376,16 @@ static card_columns emptied(card_columns k, unsigned set, int null) {
     if (set & 4) k.x3_length = 0;
     if (set & 8) k.index_length = 0;
     if (set & 16) k.mark_length = 0;
+    if (set & 32) k.records_length = 0;
+    if (set & 64) k.v_length = 0;
     if (!null) return k;
     if (set & 1) k.x1 = NULL;
     if (set & 2) k.x2 = NULL;
     if (set & 4) k.x3 = NULL;
     if (set & 8) k.index = NULL;
     if (set & 16) k.mark = NULL;
+    if (set & 32) k.records = NULL;
+    if (set & 64) k.v = NULL;
     return k;
 }
 
@@ -337,7 +395,7 @@ static void try_null_columns(void) {
     const lists before = held;
     card_run run = station();
     for (int kind = 0; kind < KINDS; kind++) {
-        for (unsigned set = 1; set < 32; set++) {
+        for (unsigned set = 1; set < 128; set++) {
             call c = good_call(kind);
             answer expected = by_library(c, run, emptied(lent(&held, MONTHS), set, 0));
             card_columns null = emptied(lent(&held, MONTHS), set, 1);
@@ -376,7 +434,7 @@ static void try_null_season(void) {
         if (set & 2) c.list_pe = NULL;
         answer lists_null = by_lists(c, run, lent(&held, MONTHS));
         answer columns_null = by_columns(c, run, lent(&held, MONTHS));
-        answer all_null = by_columns(c, run, emptied(lent(&held, MONTHS), 31, 1));
+        answer all_null = by_columns(c, run, emptied(lent(&held, MONTHS), 127, 1));
         check_refused("season, lists NULL", &expected, set == 3 ? CARD_DONE : CARD_LENGTHS, run);
         check_same("season, lists NULL", &lists_null, &expected);
         check_same("season, lists NULL", &columns_null, &expected);
@@ -413,23 +471,37 @@ static void try_zeros(void) {
     }
 }
 
+/* The last call handed on each list of these columns with its own length. */
+static void check_handed(const char *where, card_columns k) {
+    const void *at[7] = {k.x1, k.x2, k.x3, k.index, k.mark, k.records, k.v};
+    size_t lengths[7] = {k.x1_length, k.x2_length, k.x3_length, k.index_length, k.mark_length, k.records_length,
+                         k.v_length};
+    for (int i = 0; i < 7; i++)
+        check(where, handed[i] == at[i] && handed_lengths[i] == lengths[i], "a list or a length is handed on wrongly");
+}
+
 /* Each length of card_columns by itself, one below and one above the others. */
 static void try_unequal(void) {
     lists held = fresh_lists();
     const lists before = held;
     card_run run = station();
-    for (int i = 0; i < KINDS * 10; i++) {
-        call c = good_call(i / 10);
+    for (int i = 0; i < KINDS * 14; i++) {
+        call c = good_call(i / 14);
         card_columns k = lent(&held, MONTHS - 1);
         size_t other = i % 2 ? MONTHS : MONTHS - 2;
-        switch (i / 2 % 5) {
+        switch (i / 2 % 7) {
         case 0: k.x1_length = other; break;
         case 1: k.x2_length = other; break;
         case 2: k.x3_length = other; break;
         case 3: k.index_length = other; break;
-        default: k.mark_length = other;
+        case 4: k.mark_length = other; break;
+        case 5: k.records_length = other; break;
+        default: k.v_length = other;
         }
-        answer a = by_library(c, run, k), b = by_lists(c, run, k), d = by_columns(c, run, k);
+        answer a = by_library(c, run, k), b = by_lists(c, run, k);
+        check_handed("unequal lengths", k);
+        answer d = by_columns(c, run, k);
+        check_handed("unequal lengths", k);
         check_refused("unequal lengths", &a, CARD_LENGTHS, run);
         check_same("unequal lengths", &b, &a);
         check_same("unequal lengths", &d, &a);
@@ -528,9 +600,250 @@ static void try_a_run(void) {
         c.row = row;
         answer a = in_three_ways(&t, c, MONTHS);
         check_number("row", a.number, CARD_DONE);
-        check("row", a.shown.index == t.library.index[row] && a.shown.mark == t.library.mark[row] &&
-              a.shown.x3 == t.library.x3[row], "not what the columns hold");
+        card_shown held = {0, t.library.x1[row], t.library.x2[row], t.library.x3[row], t.library.index[row],
+                           t.library.mark[row], t.library.records[row], t.library.v[row]};
+        check("row", same_shown(&a.shown, &held), "not what the columns hold");
     }
+}
+
+/* ---- Records -------------------------------------------------------------------------------------- */
+
+/* The record of a month that was added to this run. */
+static card_record record_of(const answer *a, card_run before, int water) {
+    const card_water *w = &a->figures.water;
+    card_record made = {
+        a->figures.z, (int32_t)w->p, (int32_t)w->pe, (int32_t)w->et, (int32_t)w->r, (int32_t)(w->ls + w->lu),
+        (int32_t)w->ro, (int32_t)before.soil.surface, (int32_t)before.soil.underlying,
+        (int32_t)a->run.soil.surface, (int32_t)a->run.soil.underlying, water};
+    return made;
+}
+
+/* Both lists as they were, but for the place of a month, which holds this. */
+static void check_put(const lists *after, const lists *before, uint32_t place, card_record r, int64_t v) {
+    lists expected = *before;
+    expected.records[place] = r;
+    expected.v[place] = v;
+    check("a record", memcmp(after->records, expected.records, sizeof expected.records) == 0, "not as it should be");
+    check("a record", memcmp(after->v, expected.v, sizeof expected.v) == 0, "V is not as it should be");
+}
+
+/* What the header says of every record of a run: the balance, or no water; and that the storages follow on. */
+static void check_balance(const card_record *r, const card_record *before) {
+    int32_t gain = r->surface + r->underlying - r->ss - r->su;
+    check("a balance", r->p == r->et + r->ro + gain && gain == r->r - r->l, "it does not come out");
+    check("a balance", r->p >= 0 && r->pe >= 0 && r->et >= 0 && r->r >= 0 && r->l >= 0 && r->ro >= 0 &&
+          r->surface >= 0 && r->underlying >= 0, "a number below 0");
+    if (r->water == 0)
+        check("a balance", gain == 0 && r->p == 0 && r->pe == 0 && r->et == 0 && r->r == 0 && r->ro == 0,
+              "an added Z has water");
+    if (before == NULL)
+        check("a balance", r->ss == 0 && r->su == 1330, "not the storages of the start");
+    else
+        check("a balance", r->ss == before->surface && r->su == before->underlying,
+              "a month does not start where the one before it ended");
+}
+
+/* Runs of all kinds of months. A season's are added one by one too, and write the same. */
+static void try_records(void) {
+    for (int n = 0; n < 300; n++) {
+        lists held = fresh_lists(), singly = held;
+        card_run run = station();
+        while (run.months < MONTHS) {
+            call c = good_call(MONTHS - run.months < 3 ? Z : drawn(WATER, SEASON));
+            lists before = held;
+            answer a = by_columns(c, run, lent(&held, MONTHS));
+            check_number("a record", a.number, CARD_DONE);
+            if (c.kind != SEASON) {
+                check_put(&held, &before, run.months, record_of(&a, run, c.kind != Z), a.run.values.v);
+                by_columns(c, run, lent(&singly, MONTHS));
+            }
+            for (size_t i = 0; c.kind == SEASON && i < 3; i++) {
+                lists was = singly;
+                call one = good_call(WATER);
+                one.p = card_whole(c.list_p[i]);
+                one.pe = card_whole(c.list_pe[i]);
+                answer b = by_columns(one, run, lent(&singly, MONTHS));
+                check_put(&singly, &was, run.months, record_of(&b, run, 1), b.run.values.v);
+                run = b.run;
+            }
+            check("a record", same_lists(&held, &singly), "a season writes others");
+            run = a.run;
+        }
+        for (int i = 0; i < MONTHS; i++) check_balance(&held.records[i], i ? &held.records[i - 1] : NULL);
+    }
+}
+
+/* A run of so many months in fresh columns. */
+static card_run run_of(lists *held, uint32_t months) {
+    card_run run = station();
+    *held = fresh_lists();
+    while (run.months < months) {
+        answer a = by_columns(good_call(drawn(WATER, Z)), run, lent(held, MONTHS));
+        check_number("a run", a.number, CARD_DONE);
+        run = a.run;
+    }
+    return run;
+}
+
+/* Every call on a run, with a month, a Z and a row that would be refused too: all answer 7 and write nothing. */
+static void check_not_a_run(const char *where, card_run run, lists *held) {
+    const lists before = *held;
+    for (int kind = 0; kind < 2 * KINDS; kind++) {
+        call c = good_call(kind % KINDS);
+        if (kind >= KINDS) {
+            c.p = card_missing();
+            c.inches.p = -1.0f;
+            c.z = 4000001;
+            c.list_p_length = c.list_pe_length = 0;
+            c.row = SIZE_MAX;
+        }
+        answer a = by_columns(c, run, lent(held, MONTHS)), b = by_library(c, run, lent(held, MONTHS));
+        check_refused(where, &a, CARD_NOT_A_RUN, run);
+        check_same(where, &b, &a);
+        if (run.months > 0) a = by_columns(c, run, lent(held, run.months));
+        check_refused(where, &a, CARD_NOT_A_RUN, run);
+        card_columns unequal = lent(held, MONTHS);
+        unequal.v_length--;
+        a = by_columns(c, run, unequal);
+        check_refused(where, &a, CARD_LENGTHS, run);
+        check(where, same_lists(held, &before), "a refused call has written");
+    }
+}
+
+/* The last record's storages at its end: any but the run's are refused. */
+static void try_last_record(void) {
+    lists held;
+    for (uint32_t months = 1; months < MONTHS; months++) {
+        card_run run = run_of(&held, months);
+        card_record *last = &held.records[months - 1];
+        int32_t *storages[2] = {&last->surface, &last->underlying};
+        for (int i = 0; i < 2; i++) {
+            int32_t right = *storages[i];
+            int32_t wrong[] = {right + 1, right - 1, -1 - right, ~right, right ^ INT32_MIN, right + 65536, right + 256,
+                               INT32_MAX, INT32_MIN};
+            for (size_t j = 0; j < sizeof wrong / sizeof *wrong; j++) {
+                *storages[i] = wrong[j];
+                check_not_a_run("the last record's storages", run, &held);
+            }
+            *storages[i] = right;
+        }
+        if (last->surface != last->underlying) {
+            int32_t surface = last->surface;
+            last->surface = last->underlying;
+            last->underlying = surface;
+            check_not_a_run("the last record's storages exchanged", run, &held);
+        }
+    }
+}
+
+/* Anything else in the two lists is not looked at, and but by a row not shown; what is not the month's is left. */
+static void try_others(void) {
+    lists right, held;
+    for (uint32_t months = 0; months + 3 < MONTHS; months++) {
+        card_run run = run_of(&right, months);
+        lists odd = right;
+        memset(odd.records, 0x4d, sizeof odd.records);
+        memset(odd.v, 0x4d, sizeof odd.v);
+        if (months > 0) odd.records[months - 1].surface = (int32_t)run.soil.surface;
+        if (months > 0) odd.records[months - 1].underlying = (int32_t)run.soil.underlying;
+        for (int kind = WATER; kind <= SEASON; kind++) {
+            call c = good_call(kind);
+            lists expected = right;
+            held = odd;
+            answer a = by_columns(c, run, lent(&expected, MONTHS)), b = by_columns(c, run, lent(&held, MONTHS));
+            check_number("odd records", b.number, CARD_DONE);
+            check_same("odd records", &b, &a);
+            size_t added = kind == SEASON ? 3 : 1;
+            memcpy(odd.x1, expected.x1, offsetof(lists, records));
+            memcpy(odd.records + months, expected.records + months, added * sizeof *odd.records);
+            memcpy(odd.v + months, expected.v + months, added * sizeof *odd.v);
+            check("odd records", same_lists(&held, &odd), "other columns");
+            memcpy(odd.x1, right.x1, offsetof(lists, records));
+            memset(odd.records + months, 0x4d, added * sizeof *odd.records);
+            memset(odd.v + months, 0x4d, added * sizeof *odd.v);
+        }
+        for (size_t row = 0; row < months; row++) {
+            card_shown shown = card_row_in(lent(&odd, MONTHS), run, row);
+            check_number("odd records", shown.number, CARD_DONE);
+            check("odd records", same_record(&shown.month, &odd.records[row]) && shown.v == odd.v[row],
+                  "a row does not show them");
+        }
+    }
+}
+
+/* ---- Columns of before there were records --------------------------------------------------------- */
+
+/* A run of five columns goes on beside two lists of zeros, with the last month's storages put in. */
+static void try_five_columns(void) {
+    for (uint32_t months = 0; months + 3 < MONTHS; months++) {
+        lists straight, held;
+        card_run run = run_of(&straight, months);
+        held = straight;
+        memset(held.records, 0, sizeof held.records);
+        memset(held.v, 0, sizeof held.v);
+        if (months > 0) {
+            if (run.soil.surface + run.soil.underlying > 0) check_not_a_run("no records", run, &held);
+            held.records[months - 1].surface = (int32_t)run.soil.surface;
+            held.records[months - 1].underlying = (int32_t)run.soil.underlying;
+        }
+        for (size_t row = 0; row < months; row++) {
+            card_shown shown = card_row_in(lent(&held, MONTHS), run, row);
+            check_number("no records", shown.number, CARD_DONE);
+            check("no records", shown.index == straight.index[row] && shown.month.z == 0 &&
+                  shown.month.water == 0 && shown.v == 0, "a row shows what nobody knows");
+        }
+        while (run.months + 3 < MONTHS) {
+            call c = good_call(drawn(WATER, SEASON));
+            answer a = by_columns(c, run, lent(&straight, MONTHS)), b = by_columns(c, run, lent(&held, MONTHS));
+            check_number("no records", b.number, CARD_DONE);
+            check_same("no records", &b, &a);
+            run = a.run;
+        }
+        check("no records", memcmp(held.x1, straight.x1, offsetof(lists, records)) == 0, "the five columns differ");
+        for (size_t i = months; i < run.months; i++)
+            check("no records", same_record(&held.records[i], &straight.records[i]) && held.v[i] == straight.v[i],
+                  "the months that followed differ");
+    }
+}
+
+/* ---- Runs and columns that do not belong together ------------------------------------------------- */
+
+/* A run of before an add is taken with the columns of after it, and one of after it refused with those of before,
+ * but where the storages are there by chance. */
+static void try_not_together(void) {
+    unsigned changed = 0;
+    for (int n = 0; n < 2000; n++) {
+        lists before, after;
+        card_run earlier = run_of(&before, (uint32_t)drawn(0, 20));
+        after = before;
+        answer a = by_columns(good_call(drawn(WATER, Z)), earlier, lent(&after, MONTHS));
+        check_not_a_run("a run of after, columns of before", a.run, &before);
+        memset(&before.records[earlier.months], 0, sizeof *before.records);
+        uint8_t number = card_row_in(lent(&before, MONTHS), a.run, 0).number;
+        int empty = a.run.soil.surface + a.run.soil.underlying == 0;
+        check_number("a run of after, zeros", number, empty ? CARD_DONE : CARD_NOT_A_RUN);
+
+        lists again = after;
+        card_added b = card_add_z_in(lent(&again, MONTHS), earlier, drawn(-6000, 6000));
+        check_number("a run of before, columns of after", b.number, CARD_DONE);
+        for (uint32_t i = 0; i < earlier.months; i++) {
+            check("a run of before", same_record(&again.records[i], &after.records[i]) && again.v[i] == after.v[i],
+                  "it changes a record");
+            changed += after.mark[i] == CARD_SETTLED && again.index[i] != after.index[i];
+        }
+    }
+    check("a run of before", changed > 0, "no settled month was changed");
+    /* another's columns, and a full soil in both */
+    lists ours, others;
+    card_run run = run_of(&ours, 9), other = run_of(&others, 30);
+    others.records[8].surface = (int32_t)run.soil.surface + 1;
+    check_not_a_run("another's columns", run, &others);
+    run = card_add_water_in(lent(&ours, MONTHS), run, card_whole(20000), card_whole(0)).run;
+    while (other.months < 40)
+        other = card_add_water_in(lent(&others, MONTHS), other, card_whole(20000), card_whole(0)).run;
+    memcpy(&others.records[9], &others.records[39], sizeof *others.records);
+    check_number("a full soil in both", card_row_in(lent(&others, MONTHS), run, 0).number, CARD_DONE);
+    check_number("a run of no months", card_add_z_in(lent(&others, MONTHS), station(), 0).number, CARD_DONE);
 }
 
 /* ---- Long columns --------------------------------------------------------------------------------- */
@@ -540,10 +853,12 @@ typedef struct long_lists {
     int32_t x1[CARD_MOST_MONTHS + 1], x2[CARD_MOST_MONTHS + 1], x3[CARD_MOST_MONTHS + 1];
     int32_t index[CARD_MOST_MONTHS + 1];
     uint8_t mark[CARD_MOST_MONTHS + 1];
+    card_record records[CARD_MOST_MONTHS + 1];
+    int64_t v[CARD_MOST_MONTHS + 1];
 } long_lists;
 
 static card_columns lent_long(long_lists *of, size_t length) {
-    return card_columns_of(of->x1, of->x2, of->x3, of->index, of->mark, length);
+    return card_columns_of(of->x1, of->x2, of->x3, of->index, of->mark, of->records, of->v, length);
 }
 
 /* Every call by the length of its lists: 2,400 and its sides are lengths as others are, and 1 begins above 12,000. */
@@ -577,6 +892,8 @@ static void copy_months(long_lists *to, const long_lists *from, size_t months) {
     memcpy(to->x3, from->x3, months * sizeof *to->x3);
     memcpy(to->index, from->index, months * sizeof *to->index);
     memcpy(to->mark, from->mark, months * sizeof *to->mark);
+    memcpy(to->records, from->records, months * sizeof *to->records);
+    memcpy(to->v, from->v, months * sizeof *to->v);
 }
 
 /* Adds months in both sets of columns until the first is full; all answers must be the same. */
@@ -602,7 +919,9 @@ static void try_longer(void) {
     copy_months(&longer, &shorter, run.months);
     run = fill_beside(run, lent_long(&longer, CARD_MOST_MONTHS), all);
     check_full(run, all);
-    check("longer columns", longer.index[CARD_MOST_MONTHS] == 0x4d4d4d4d, "a place was written that was not lent");
+    check("longer columns", longer.index[CARD_MOST_MONTHS] == 0x4d4d4d4d &&
+          longer.records[CARD_MOST_MONTHS].z == 0x4d4d4d4d && longer.v[CARD_MOST_MONTHS] == 0x4d4d4d4d4d4d4d4d,
+          "a place was written that was not lent");
     for (size_t row = 0; row < run.months; row++) {
         call c = good_call(ROW);
         c.row = row;
@@ -735,6 +1054,12 @@ static void try_z_alone(void) {
         run = card_add_z_in(lent(&held, MONTHS), run, z).run;
         stations = card_add_z_in(lent(&other, MONTHS), stations, z).run;
     }
+    for (int i = 0; i < MONTHS; i++) {
+        card_record *r = &held.records[i], *s = &other.records[i];
+        check("sixty ones", r->surface == 0 && r->underlying == 0 && s->surface == 0 && s->underlying == 1330,
+              "the storages are not those of the start");
+        r->su = r->underlying = 1330;
+    }
     check("sixty ones", same_lists(&held, &other), "a Z is reckoned with constants");
 }
 
@@ -759,7 +1084,8 @@ static void try_missing(void) {
     card_season s = card_add_season_in(k, run, list, 3, SEASON_PE, 3);
     check_number("a season", s.number, CARD_MISSING_READING);
     check("a season", s.added == 1 && s.run.months == 1 && s.run.calendar == 7, "it did not stop there");
-    check("a season", held.x3[1] == before.x3[1] && held.mark[1] == before.mark[1], "it wrote the month");
+    check("a season", held.x3[1] == before.x3[1] && held.mark[1] == before.mark[1] &&
+          same_record(&held.records[1], &before.records[1]) && held.v[1] == before.v[1], "it wrote the month");
 }
 
 /* Waiting, and putting an estimate right from a copy, both come to what the straight record is. */
@@ -841,6 +1167,7 @@ static void try_new_run_and_no_rain(void) {
 int main(void) {
     try_meanings();
     try_sizes();
+    try_offsets();
     try_null_columns();
     try_null_constants();
     try_null_season();
@@ -848,6 +1175,11 @@ int main(void) {
     try_zeros();
     try_unequal();
     try_a_run();
+    try_records();
+    try_last_record();
+    try_others();
+    try_five_columns();
+    try_not_together();
     try_lengths();
     try_longer();
     try_pointers();

@@ -1,6 +1,6 @@
 //! Runs of the card's library over the paper's months.
 
-use crate::card::{self, Added, Columns, Reading, Run};
+use crate::card::{self, Added, Columns, Reading, Record, Run};
 use crate::tables::{bad, Fault, Table, When};
 
 /// Sixty constants from table 3.
@@ -22,6 +22,8 @@ pub struct Card {
     pub run: Run,
     x: [Vec<i32>; 4],
     mark: Vec<u8>,
+    records: Vec<Record>,
+    v: Vec<i64>,
 }
 
 fn done(number: u8, call: &str, when: When) -> Result<(), Fault> {
@@ -38,7 +40,8 @@ impl Card {
         let started = card::start(constants, capacity, surface, underlying, when.month as i32);
         done(started.number, "the start", when)?;
         let x = [(); 4].map(|()| vec![0; months]);
-        Ok(Card { run: started.run, x, mark: vec![0; months] })
+        let records = vec![Record::default(); months];
+        Ok(Card { run: started.run, x, mark: vec![0; months], records, v: vec![0; months] })
     }
 
     /// A run for Z alone: no Z is reckoned with constants or soil, but no K of a run is 0.
@@ -53,7 +56,7 @@ impl Card {
 
     fn columns(&mut self) -> Columns<'_> {
         let [x1, x2, x3, index] = &mut self.x;
-        Columns { x1, x2, x3, index, mark: &mut self.mark }
+        Columns { x1, x2, x3, index, mark: &mut self.mark, records: &mut self.records, v: &mut self.v }
     }
 
     fn keep(&mut self, added: Added, call: &str, when: When) -> Result<Added, Fault> {

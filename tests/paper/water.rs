@@ -157,9 +157,9 @@ pub fn kansas(tables: &Tables, chained: bool) -> Result<Part, Fault> {
         let stored = table.figure(next, "PRO")?;
         run.part.hold(when, "S", stored, surface + underlying, allowed);
         if !chained {
+            // A run ends where its last record does, so that other storages are another run's.
             let surface = surface.min(stored);
-            let soil = &mut run.card.run.soil;
-            (soil.surface, soil.underlying) = (surface as u32, (stored - surface) as u32);
+            run.card = Card::start(&run.constants, [KANSAS_CAPACITY, surface, stored - surface], next, 1)?;
         }
     }
     Ok(run.part)
