@@ -13,7 +13,7 @@ mod card;
 mod reference;
 mod stack;
 
-use card::{Columns, MonthInches, Reading, Run, MOST_MONTHS};
+use card::{Columns, MonthInches, Reading, Record, Run, MOST_MONTHS};
 use reference::{Added, Refusal, Season};
 use std::hint::black_box;
 use std::time::{Duration, Instant};
@@ -200,8 +200,11 @@ impl Inputs {
 }
 
 fn fresh_run() -> Run {
-    card::start(&CONSTANTS, 6_000, 1_000, 5_000, 1).run
+    card::start(&CONSTANTS, 6_000, SURFACE, UNDERLYING, 1).run
 }
+
+const SURFACE: i32 = 1_000;
+const UNDERLYING: i32 = 5_000;
 
 const CONSTANTS: [i32; card::CONSTANTS] = {
     let mut constants = [0; card::CONSTANTS];
@@ -213,28 +216,39 @@ const CONSTANTS: [i32; card::CONSTANTS] = {
     constants
 };
 
-/// Five columns: X1, X2, X3 and index, and mark. No two places of one hold the same number at first.
+/// The columns: X1, X2, X3 and index, mark, records and V. No two places of one hold the same at first, but for the marks;
+/// every record ends where a fresh run stands.
 struct Lists {
     numbers: [Vec<i32>; 4],
     mark: Vec<u8>,
+    records: Vec<Record>,
+    v: Vec<i64>,
 }
 
 impl Lists {
     fn new(length: usize) -> Lists {
         let numbers = [0, 1, 2, 3].map(|column| (0..length as i32).map(|place| 4 * place + column).collect());
-        Lists { numbers, mark: vec![card::SETTLED; length] }
+        let record = |z| Record { z, surface: SURFACE, underlying: UNDERLYING, ..Record::default() };
+        let records = (0..length as i32).map(record).collect();
+        Lists { numbers, mark: vec![card::SETTLED; length], records, v: (0..length as i64).collect() }
     }
 
     fn lend(&mut self) -> Columns<'_> {
         let [x1, x2, x3, index] = &mut self.numbers;
-        Columns { x1, x2, x3, index, mark: &mut self.mark }
+        Columns { x1, x2, x3, index, mark: &mut self.mark, records: &mut self.records, v: &mut self.v }
     }
 
     fn sum(&self) -> u64 {
-        let numbers = self.numbers.iter().flatten().map(|x| *x as u64);
-        let all = numbers.chain(self.mark.iter().map(|x| u64::from(*x)));
+        let numbers = self.numbers.iter().flatten().copied().chain(self.records.iter().flat_map(all_of));
+        let wide = self.v.iter().map(|x| *x as u64);
+        let all = numbers.map(|x| x as u64).chain(self.mark.iter().map(|x| u64::from(*x))).chain(wide);
         all.fold(0, |sum, x| sum.wrapping_mul(31).wrapping_add(x))
     }
+}
+
+fn all_of(record: &Record) -> [i32; 12] {
+    let Record { z, p, pe, et, r, l, ro, ss, su, surface, underlying, water } = *record;
+    [z, p, pe, et, r, l, ro, ss, su, surface, underlying, water]
 }
 
 // ---- The rounds --------------------------------------------------------------------------------------------
@@ -309,10 +323,10 @@ mod handed {
     use super::*;
 
     #[rustfmt::skip]
-    type Add = extern "C" fn(Run, Reading, Reading, *mut i32, usize, *mut i32, usize, *mut i32, usize, *mut i32, usize, *mut u8, usize) -> card::Added;
+    type Add = extern "C" fn(Run, Reading, Reading, *mut i32, usize, *mut i32, usize, *mut i32, usize, *mut i32, usize, *mut u8, usize, *mut Record, usize, *mut i64, usize) -> card::Added;
 
     #[rustfmt::skip]
-    extern "C" fn back(run: Run, _: Reading, _: Reading, _: *mut i32, _: usize, _: *mut i32, _: usize, _: *mut i32, _: usize, _: *mut i32, _: usize, _: *mut u8, _: usize) -> card::Added {
+    extern "C" fn back(run: Run, _: Reading, _: Reading, _: *mut i32, _: usize, _: *mut i32, _: usize, _: *mut i32, _: usize, _: *mut i32, _: usize, _: *mut u8, _: usize, _: *mut Record, _: usize, _: *mut i64, _: usize) -> card::Added {
         card::Added { number: card::DONE, settled: 0, figures: card::Figures::default(), run }
     }
 
@@ -321,7 +335,7 @@ mod handed {
         let add: Add = black_box(back);
         let (mut run, k) = (inputs.run, inputs.lists.lend());
         for &(p, pe) in &inputs.water {
-            run = add(run, Reading::whole(p), Reading::whole(pe), k.x1.as_mut_ptr(), k.x1.len(), k.x2.as_mut_ptr(), k.x2.len(), k.x3.as_mut_ptr(), k.x3.len(), k.index.as_mut_ptr(), k.index.len(), k.mark.as_mut_ptr(), k.mark.len()).run;
+            run = add(run, Reading::whole(p), Reading::whole(pe), k.x1.as_mut_ptr(), k.x1.len(), k.x2.as_mut_ptr(), k.x2.len(), k.x3.as_mut_ptr(), k.x3.len(), k.index.as_mut_ptr(), k.index.len(), k.mark.as_mut_ptr(), k.mark.len(), k.records.as_mut_ptr(), k.records.len(), k.v.as_mut_ptr(), k.v.len()).run;
         }
         run.months
     }
@@ -377,7 +391,8 @@ mod row {
     }
 
     fn sum(shown: &Shown) -> u32 {
-        (shown.x1 + shown.x2 + shown.x3 + shown.index) as u32 + u32::from(shown.mark)
+        let last = shown.month.water + shown.v as i32;
+        (shown.x1 + shown.x2 + shown.x3 + shown.index + shown.month.z + last) as u32 + u32::from(shown.mark)
     }
 
     pub fn library(inputs: &mut Inputs) -> u32 {

@@ -13,7 +13,9 @@ mod card;
 mod reference;
 mod series;
 
-use card::{Added, Answer, Columns, Figures, MonthInches, Reading, Run, Season, Shown, Soil, Started, Values};
+use card::{
+    Added, Answer, Columns, Figures, MonthInches, Reading, Record, Run, Season, Shown, Soil, Started, Values,
+};
 use reference::Refusal;
 use std::slice::{from_raw_parts, from_raw_parts_mut};
 
@@ -27,15 +29,17 @@ const NO_RUN: Run = Run {
     constants: [0; card::CONSTANTS],
 };
 
-/// The five columns as the reference takes them.
+/// The columns as the reference takes them.
 macro_rules! columns {
-    ($x1:ident $n1:ident $x2:ident $n2:ident $x3:ident $n3:ident $index:ident $ni:ident $mark:ident $nm:ident) => {
+    ($x1:ident $n1:ident $x2:ident $n2:ident $x3:ident $n3:ident $index:ident $ni:ident $mark:ident $nm:ident $records:ident $nr:ident $v:ident $nv:ident) => {
         Columns {
             x1: from_raw_parts_mut($x1, $n1),
             x2: from_raw_parts_mut($x2, $n2),
             x3: from_raw_parts_mut($x3, $n3),
             index: from_raw_parts_mut($index, $ni),
             mark: from_raw_parts_mut($mark, $nm),
+            records: from_raw_parts_mut($records, $nr),
+            v: from_raw_parts_mut($v, $nv),
         }
     };
 }
@@ -67,32 +71,32 @@ pub unsafe extern "C" fn card_start(constants: *const i32, n: usize, capacity: i
 
 #[no_mangle]
 #[rustfmt::skip]
-pub unsafe extern "C" fn card_add_water(mut run: Run, p: Reading, pe: Reading, x1: *mut i32, n1: usize, x2: *mut i32, n2: usize, x3: *mut i32, n3: usize, index: *mut i32, ni: usize, mark: *mut u8, nm: usize) -> Added {
-    let mut k = columns!(x1 n1 x2 n2 x3 n3 index ni mark nm);
+pub unsafe extern "C" fn card_add_water(mut run: Run, p: Reading, pe: Reading, x1: *mut i32, n1: usize, x2: *mut i32, n2: usize, x3: *mut i32, n3: usize, index: *mut i32, ni: usize, mark: *mut u8, nm: usize, records: *mut Record, nr: usize, v: *mut i64, nv: usize) -> Added {
+    let mut k = columns!(x1 n1 x2 n2 x3 n3 index ni mark nm records nr v nv);
     let answer = reference::add_water(&mut run, &p, &pe, &mut k);
     added(answer, &run)
 }
 
 #[no_mangle]
 #[rustfmt::skip]
-pub unsafe extern "C" fn card_add_inches(mut run: Run, month: MonthInches, x1: *mut i32, n1: usize, x2: *mut i32, n2: usize, x3: *mut i32, n3: usize, index: *mut i32, ni: usize, mark: *mut u8, nm: usize) -> Added {
-    let mut k = columns!(x1 n1 x2 n2 x3 n3 index ni mark nm);
+pub unsafe extern "C" fn card_add_inches(mut run: Run, month: MonthInches, x1: *mut i32, n1: usize, x2: *mut i32, n2: usize, x3: *mut i32, n3: usize, index: *mut i32, ni: usize, mark: *mut u8, nm: usize, records: *mut Record, nr: usize, v: *mut i64, nv: usize) -> Added {
+    let mut k = columns!(x1 n1 x2 n2 x3 n3 index ni mark nm records nr v nv);
     let answer = reference::add_inches(&mut run, month, &mut k);
     added(answer, &run)
 }
 
 #[no_mangle]
 #[rustfmt::skip]
-pub unsafe extern "C" fn card_add_z(mut run: Run, z: i32, x1: *mut i32, n1: usize, x2: *mut i32, n2: usize, x3: *mut i32, n3: usize, index: *mut i32, ni: usize, mark: *mut u8, nm: usize) -> Added {
-    let mut k = columns!(x1 n1 x2 n2 x3 n3 index ni mark nm);
+pub unsafe extern "C" fn card_add_z(mut run: Run, z: i32, x1: *mut i32, n1: usize, x2: *mut i32, n2: usize, x3: *mut i32, n3: usize, index: *mut i32, ni: usize, mark: *mut u8, nm: usize, records: *mut Record, nr: usize, v: *mut i64, nv: usize) -> Added {
+    let mut k = columns!(x1 n1 x2 n2 x3 n3 index ni mark nm records nr v nv);
     let answer = reference::add_z(&mut run, z, &mut k);
     added(answer, &run)
 }
 
 #[no_mangle]
 #[rustfmt::skip]
-pub unsafe extern "C" fn card_add_season(mut run: Run, p: *const i32, np: usize, pe: *const i32, npe: usize, x1: *mut i32, n1: usize, x2: *mut i32, n2: usize, x3: *mut i32, n3: usize, index: *mut i32, ni: usize, mark: *mut u8, nm: usize) -> Season {
-    let mut k = columns!(x1 n1 x2 n2 x3 n3 index ni mark nm);
+pub unsafe extern "C" fn card_add_season(mut run: Run, p: *const i32, np: usize, pe: *const i32, npe: usize, x1: *mut i32, n1: usize, x2: *mut i32, n2: usize, x3: *mut i32, n3: usize, index: *mut i32, ni: usize, mark: *mut u8, nm: usize, records: *mut Record, nr: usize, v: *mut i64, nv: usize) -> Season {
+    let mut k = columns!(x1 n1 x2 n2 x3 n3 index ni mark nm records nr v nv);
     let season = reference::add_season(&mut run, from_raw_parts(p, np), from_raw_parts(pe, npe), &mut k);
     let number = season.refused.map_or(card::DONE, |refusal| refusal as u8);
     Season { number, added: season.added, settled: season.settled, figures: season.figures, run }
@@ -101,8 +105,8 @@ pub unsafe extern "C" fn card_add_season(mut run: Run, p: *const i32, np: usize,
 /// The columns are to const: they are lent on, and the reference only reads them.
 #[no_mangle]
 #[rustfmt::skip]
-pub unsafe extern "C" fn card_row(run: Run, row: usize, x1: *mut i32, n1: usize, x2: *mut i32, n2: usize, x3: *mut i32, n3: usize, index: *mut i32, ni: usize, mark: *mut u8, nm: usize) -> Shown {
-    let k = columns!(x1 n1 x2 n2 x3 n3 index ni mark nm);
+pub unsafe extern "C" fn card_row(run: Run, row: usize, x1: *mut i32, n1: usize, x2: *mut i32, n2: usize, x3: *mut i32, n3: usize, index: *mut i32, ni: usize, mark: *mut u8, nm: usize, records: *mut Record, nr: usize, v: *mut i64, nv: usize) -> Shown {
+    let k = columns!(x1 n1 x2 n2 x3 n3 index ni mark nm records nr v nv);
     match reference::row(&run, row, &k) {
         Ok(shown) => shown,
         Err(refusal) => Shown { number: refusal as u8, ..Shown::default() },

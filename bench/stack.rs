@@ -31,11 +31,11 @@ global_asm!(
 extern "C" {
     fn probe_read(reading: Reading) -> card::Answer;
     fn probe_start(constants: *const i32, n: usize, capacity: i32, surface: i32, underlying: i32, month: i32) -> card::Started;
-    fn probe_add_water(run: Run, p: Reading, pe: Reading, x1: *mut i32, n1: usize, x2: *mut i32, n2: usize, x3: *mut i32, n3: usize, index: *mut i32, ni: usize, mark: *mut u8, nm: usize) -> card::Added;
-    fn probe_add_inches(run: Run, month: MonthInches, x1: *mut i32, n1: usize, x2: *mut i32, n2: usize, x3: *mut i32, n3: usize, index: *mut i32, ni: usize, mark: *mut u8, nm: usize) -> card::Added;
-    fn probe_add_z(run: Run, z: i32, x1: *mut i32, n1: usize, x2: *mut i32, n2: usize, x3: *mut i32, n3: usize, index: *mut i32, ni: usize, mark: *mut u8, nm: usize) -> card::Added;
-    fn probe_add_season(run: Run, p: *const i32, np: usize, pe: *const i32, npe: usize, x1: *mut i32, n1: usize, x2: *mut i32, n2: usize, x3: *mut i32, n3: usize, index: *mut i32, ni: usize, mark: *mut u8, nm: usize) -> card::Season;
-    fn probe_row(run: Run, row: usize, x1: *const i32, n1: usize, x2: *const i32, n2: usize, x3: *const i32, n3: usize, index: *const i32, ni: usize, mark: *const u8, nm: usize) -> card::Shown;
+    fn probe_add_water(run: Run, p: Reading, pe: Reading, x1: *mut i32, n1: usize, x2: *mut i32, n2: usize, x3: *mut i32, n3: usize, index: *mut i32, ni: usize, mark: *mut u8, nm: usize, records: *mut card::Record, nr: usize, v: *mut i64, nv: usize) -> card::Added;
+    fn probe_add_inches(run: Run, month: MonthInches, x1: *mut i32, n1: usize, x2: *mut i32, n2: usize, x3: *mut i32, n3: usize, index: *mut i32, ni: usize, mark: *mut u8, nm: usize, records: *mut card::Record, nr: usize, v: *mut i64, nv: usize) -> card::Added;
+    fn probe_add_z(run: Run, z: i32, x1: *mut i32, n1: usize, x2: *mut i32, n2: usize, x3: *mut i32, n3: usize, index: *mut i32, ni: usize, mark: *mut u8, nm: usize, records: *mut card::Record, nr: usize, v: *mut i64, nv: usize) -> card::Added;
+    fn probe_add_season(run: Run, p: *const i32, np: usize, pe: *const i32, npe: usize, x1: *mut i32, n1: usize, x2: *mut i32, n2: usize, x3: *mut i32, n3: usize, index: *mut i32, ni: usize, mark: *mut u8, nm: usize, records: *mut card::Record, nr: usize, v: *mut i64, nv: usize) -> card::Season;
+    fn probe_row(run: Run, row: usize, x1: *const i32, n1: usize, x2: *const i32, n2: usize, x3: *const i32, n3: usize, index: *const i32, ni: usize, mark: *const u8, nm: usize, records: *const card::Record, nr: usize, v: *const i64, nv: usize) -> card::Shown;
     fn probe_whole_series(z: *const i32, nz: usize, index: *mut i32, ni: usize, mark: *mut u8, nm: usize) -> u8;
 }
 
@@ -70,14 +70,15 @@ fn with_run(call: Call, run: &Run, lists: &mut Lists, marks: usize) -> (usize, R
     let n = lists.mark.len();
     let k = lists.lend();
     let (x1, x2, x3, index, mark) = (k.x1.as_mut_ptr(), k.x2.as_mut_ptr(), k.x3.as_mut_ptr(), k.index.as_mut_ptr(), k.mark.as_mut_ptr());
+    let (records, v) = (k.records.as_mut_ptr(), k.v.as_mut_ptr());
     let mut next = *run;
     let depth = depth(&mut || unsafe {
         match call {
-            Call::Water(p, pe) => next = probe_add_water(*run, p, pe, x1, n, x2, n, x3, n, index, n, mark, marks).run,
-            Call::Inches(p, pe) => next = probe_add_inches(*run, MonthInches { p, pe }, x1, n, x2, n, x3, n, index, n, mark, marks).run,
-            Call::Z(z) => next = probe_add_z(*run, z, x1, n, x2, n, x3, n, index, n, mark, marks).run,
-            Call::Season(p, pe) => next = probe_add_season(*run, p.as_ptr(), 6, pe.as_ptr(), 6, x1, n, x2, n, x3, n, index, n, mark, marks).run,
-            Call::Row(row) => _ = black_box(probe_row(*run, row, x1, n, x2, n, x3, n, index, n, mark, marks)),
+            Call::Water(p, pe) => next = probe_add_water(*run, p, pe, x1, n, x2, n, x3, n, index, n, mark, marks, records, n, v, n).run,
+            Call::Inches(p, pe) => next = probe_add_inches(*run, MonthInches { p, pe }, x1, n, x2, n, x3, n, index, n, mark, marks, records, n, v, n).run,
+            Call::Z(z) => next = probe_add_z(*run, z, x1, n, x2, n, x3, n, index, n, mark, marks, records, n, v, n).run,
+            Call::Season(p, pe) => next = probe_add_season(*run, p.as_ptr(), 6, pe.as_ptr(), 6, x1, n, x2, n, x3, n, index, n, mark, marks, records, n, v, n).run,
+            Call::Row(row) => _ = black_box(probe_row(*run, row, x1, n, x2, n, x3, n, index, n, mark, marks, records, n, v, n)),
         }
     });
     (depth, next)
