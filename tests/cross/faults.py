@@ -1,5 +1,5 @@
 """Faults put into the reference or the exact computation, one at a time; the cross-check must end with a difference.
-Run by tests/cross/faults."""
+Run by tests/cross/faults. With --fit it only sees that each fault can still be put in, which tests/cross/run asks for."""
 import os
 import shutil
 import subprocess
@@ -112,8 +112,8 @@ FAULTS = [
     ('the ends asked before the lengths', '    let length = k.x1.len();\n    let others', '    if (run.months as usize) <= k.records.len() && !ends_meet(run, k.records) {\n        return Err(Refusal::NotARun);\n    }\n    let length = k.x1.len();\n    let others'),
     ('records longer than the others let in', 'k.mark.len(), k.records.len(), k.v.len()]', 'k.mark.len(), k.records.len().min(length), k.v.len()]'),
     ('a V longer than the others let in', 'k.mark.len(), k.records.len(), k.v.len()]', 'k.mark.len(), k.records.len(), k.v.len().min(length)]'),
-    ('a row without its record', 'record: k.records[row],', 'record: Record::default(),'),
-    ('a row with the last record', 'record: k.records[row],', 'record: k.records[run.months as usize - 1],'),
+    ('a row without its record', 'month: k.records[row],', 'month: Record::default(),'),
+    ('a row with the last record', 'month: k.records[row],', 'month: k.records[run.months as usize - 1],'),
     ("a row with the run's V", 'v: k.v[row],', 'v: run.values.v,'),
     ('exact halves down', 'halfway <= 2.0', 'halfway < 2.0'),
     ('an exact 126 for 127', 'of: 127 }', 'of: 126 }'),
@@ -126,12 +126,19 @@ def read(name):
         return f.read()
 
 
-def caught(changes):
-    """Whether the cross-check ends with a difference where its own side has this fault."""
+def put_in(fault, changes):
+    """The files with this fault put in. What is changed must stand in them once."""
     texts = {name: read(name) for name in FILES}
     for old, new in zip(changes[::2], changes[1::2]):
-        assert sum(text.count(old) for text in texts.values()) == 1, old
+        found = sum(text.count(old) for text in texts.values())
+        if found != 1:
+            sys.exit('faults: %s: what is changed stands %d times in %s: %r' % (fault, found, ' and '.join(FILES), old))
         texts = {name: text.replace(old, new) for name, text in texts.items()}
+    return texts
+
+
+def caught(texts):
+    """Whether the cross-check ends with a difference where its own side has this fault."""
     shutil.rmtree(ROOM, ignore_errors=True)
     shutil.copytree('tests/cross', ROOM + '/tests/cross')
     shutil.copytree('host', ROOM + '/host')
@@ -146,7 +153,13 @@ def caught(changes):
 
 
 def main():
-    missed = [name for name, *changes in FAULTS if not caught(changes)]
+    spoiled = [(name, put_in(name, changes)) for name, *changes in FAULTS]
+    if sys.argv[1:] == ['--fit']:
+        print('faults: %d, and each can be put in' % len(spoiled))
+        return
+    if sys.argv[1:]:
+        sys.exit('faults.py [--fit]')
+    missed = [name for name, texts in spoiled if not caught(texts)]
     shutil.rmtree(ROOM)
     print('%d faults, %d caught%s' % (len(FAULTS), len(FAULTS) - len(missed), ''.join('; missed: ' + name for name in missed)))
     sys.exit(1 if missed else 0)
