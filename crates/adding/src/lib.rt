@@ -1,10 +1,9 @@
-// The month's work, once nothing is refused: its water, its spells, and what they leave of the run and in the columns.
+// The parts of a month's work, once nothing is refused: its spells, written to the columns, its figures, and its answer.
 //
-// For the crates that make the calls, `drought` and `season`, which ask for every refusal first: what has a `requires` is
+// For the crates that add a month, `taking` and `season_month`, and those that make the calls, `drought` and `season`, which ask for every refusal first: what has a `requires` is
 // for them alone. A run goes through here without its sixty constants, and an answer is put together once, where a call
 // hands it back.
 use outline::MANY_CONSTANTS;
-use records::RecordNumbers;
 use runs::Progress;
 use runs::Run;
 use spells::Running;
@@ -14,19 +13,13 @@ ghost use mathlib.Core.Path.{_≡_};
 ghost use mathlib.Core.Bool.{true};
 ghost use Prim.Native.Nat.{_≤_, _<_};
 ghost use lib.IntN.{natAbs};
-ghost use lib.ListN.{length};
 ghost use Rattle.outline.specs.Numbers.{mostZ, mostMonths};
-ghost use Rattle.door.specs.Readings.{mostReading};
 ghost use Rattle.ranges.specs.Ranges.{calendarFits};
-ghost use Rattle.water.specs.Layers.{SoilFits};
-ghost use Rattle.runs.specs.Progress.{runOf};
-ghost use Rattle.records.specs.Record.{zRecord};
 ghost use Rattle.refusals.specs.Columns.{columns};
-ghost use Rattle.refusals.specs.Book.{book};
 ghost use Rattle.adding.specs.Figures.{waterFigures, noWater};
-ghost use Rattle.adding.specs.Taken.{result, soilAfter, takenWater};
-ghost use Rattle.adding.specs.Ready.{Ready, Watered};
-ghost use Rattle.adding.specs.Progress.{addedOf, monthAdded, notAdded, Takes};
+ghost use Rattle.adding.specs.Taken.{soilAfter};
+ghost use Rattle.adding.specs.Ready.{Ready};
+ghost use Rattle.adding.specs.Progress.{addedOf, monthAdded, notAdded};
 ghost use Rattle.adding.specs.Spelled.{Spells};
 
 // The water of a month: all 0 for an added Z.
@@ -76,66 +69,6 @@ pub struct MonthAdded {
 }
 
 // ---- the month
-
-// The balance of the run's month with precipitation p and PE pe, and the month added.
-pub fn add_measured(
-    at: Progress,
-    constants: &[i32; MANY_CONSTANTS],
-    p: u32,
-    pe: u32,
-    x1: &mut [i32],
-    x2: &mut [i32],
-    x3: &mut [i32],
-    index: &mut [i32],
-    mark: &mut [u8],
-    records: &mut [RecordNumbers],
-    v: &mut [i64],
-) -> MonthAdded
-    requires { ⌜ Ready (at .months) (at .opens) (at .values) (columns (now x1) (now x2) (now x3) (now index) (now mark)) ⌝ }
-    requires { ⌜ (at .months < length (now records)) × (at .months < length (now v)) ⌝ }
-    requires { ⌜ Watered (runOf at (now constants)) ⌝ }
-    requires { ⌜ (p ≤ mostReading) × (pe ≤ mostReading) ⌝ }
-    ensures { λ t. ⌜ result (addedOf t (now (constants .entry))) (book (now (x1 .exit)) (now (x2 .exit)) (now (x3 .exit)) (now (index .exit)) (now (mark .exit)) (now (records .exit)) (now (v .exit))) ≡ takenWater (runOf at (now (constants .entry))) p pe (book (now (x1 .entry)) (now (x2 .entry)) (now (x3 .entry)) (now (index .entry)) (now (mark .entry)) (now (records .entry)) (now (v .entry))) ⌝ }
-{
-    let soil = at.soil;
-    let values = at.values;
-    let k = calendar::constants_at(constants, at.calendar);
-    let m = water::month_of(soil, p, pe, k);
-    let kept = records::water_record(soil, p, pe, m);
-    records::put(at.months as usize, kept, records);
-    let s = add_spells(at.months, at.opens, values, m.z, x1, x2, x3, index, mark);
-    let after = s.values;
-    records::put_v(at.months as usize, after.v, v);
-    watered(at, p, pe, m, s)
-}
-
-// An added Z: no water, and the storages stay.
-pub fn add_z(
-    at: Progress,
-    z: i32,
-    x1: &mut [i32],
-    x2: &mut [i32],
-    x3: &mut [i32],
-    index: &mut [i32],
-    mark: &mut [u8],
-    records: &mut [RecordNumbers],
-    v: &mut [i64],
-) -> MonthAdded
-    requires { ⌜ Ready (at .months) (at .opens) (at .values) (columns (now x1) (now x2) (now x3) (now index) (now mark)) ⌝ }
-    requires { ⌜ (at .months < length (now records)) × (at .months < length (now v)) ⌝ }
-    requires { ⌜ (natAbs z ≤ mostZ) × (calendarFits (at .calendar) ≡ true) × SoilFits (at .soil) ⌝ }
-    ensures { λ t. ⌜ Takes at (at .soil) noWater z (zRecord (at .soil) z) (book (now (x1 .entry)) (now (x2 .entry)) (now (x3 .entry)) (now (index .entry)) (now (mark .entry)) (now (records .entry)) (now (v .entry))) t (book (now (x1 .exit)) (now (x2 .exit)) (now (x3 .exit)) (now (index .exit)) (now (mark .exit)) (now (records .exit)) (now (v .exit))) ⌝ }
-{
-    let soil = at.soil;
-    let values = at.values;
-    let water = no_water();
-    let kept = records::z_record(soil, z);
-    records::put(at.months as usize, kept, records);
-    let s = add_spells(at.months, at.opens, values, z, x1, x2, x3, index, mark);
-    let after = s.values;
-    records::put_v(at.months as usize, after.v, v);
-    month_added(at, soil, water, z, s)
-}
 
 // What a month of spells leaves beside the columns.
 pub struct Spelled {
@@ -231,7 +164,7 @@ fn water_figures(p: u32, pe: u32, m: Month) -> WaterFigures
 }
 
 // The figures of a month and the run with it added.
-fn month_added(at: Progress, soil: Soil, water: WaterFigures, z: i32, s: Spelled) -> MonthAdded
+pub fn month_added(at: Progress, soil: Soil, water: WaterFigures, z: i32, s: Spelled) -> MonthAdded
     requires { ⌜ (at .months < mostMonths) × (calendarFits (at .calendar) ≡ true) ⌝ }
     ensures { λ t. ⌜ t ≡ monthAdded at soil water z s ⌝ }
 {
@@ -329,7 +262,7 @@ fn same_figures(f: Figures) -> Figures
     }
 }
 
-fn no_water() -> WaterFigures
+pub fn no_water() -> WaterFigures
     ensures { λ w. ⌜ w ≡ noWater ⌝ }
 {
     WaterFigures {

@@ -173,7 +173,7 @@ fn try_water(
     if number != 0 {
         return adding::refuse(number, at);
     }
-    adding::add_measured(at, constants, p, pe, x1, x2, x3, index, mark, records, v)
+    taking::add_measured(at, constants, p, pe, x1, x2, x3, index, mark, records, v)
 }
 
 // Adds a Z: the storages stay, the calendar moves on. 1, 7, 12, 10.
@@ -224,7 +224,7 @@ fn try_z(
     if number != 0 {
         return adding::refuse(number, at);
     }
-    adding::add_z(at, z, x1, x2, x3, index, mark, records, v)
+    taking::add_z(at, z, x1, x2, x3, index, mark, records, v)
 }
 
 // Shows a month's row, from 0 on: 1, 7, 11.

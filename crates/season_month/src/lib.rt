@@ -20,7 +20,7 @@ ghost use Rattle.season_month.specs.Listed.{listed};
 const MISSING_MONTH: i32 = -1;
 
 // The single add of a month of the lists, to columns and a run that have been asked for 1 and 7. The month's work stands
-// here as in `adding::add_measured`, so that it is compiled within the season's loop: called from two places it is not.
+// here as in `taking::add_measured`, so that it is compiled within the season's loop: called from two places it is not.
 pub fn add_listed(
     at: Progress,
     constants: &[i32; MANY_CONSTANTS],

@@ -1,4 +1,4 @@
--- `adding::add_z` meets its contract: no water, its record, the month of spells, and all put together. Assumes nothing.
+-- `taking::add_z` meets its contract: no water, its record, the month of spells, and all put together. Assumes nothing.
 use mathlib.Core.Path.{_≡_, ap, _∙_}
 use native.Mathlib.Omega.{arith}
 use borrow.Author.Needs.{needs}
@@ -10,10 +10,10 @@ use denote.Ref.{now}
 use Rattle.records.specs.Record.{zRecord, numbersOf}
 use Rattle.refusals.specs.Columns.{columns}
 use Rattle.refusals.specs.Book.{book}
 use Rattle.adding.specs.Figures.{noWater}
 use Rattle.adding.proofs.Taken.{taken-is}
-use Rattle.adding.proofs.add_z.Statement.{statement}
-use Rattle.adding.proofs.add_z.Tie as tie
+use Rattle.taking.proofs.add_z.Statement.{statement}
+use Rattle.taking.proofs.add_z.Tie as tie
 
 no-water-requires : tie.Need-no-water-requires
 no-water-requires c κs = search needs

@@ -1,4 +1,4 @@
--- `adding::add_measured` meets its contract: the run's constants of the calendar month, its month of water, its record, and that month added.
+-- `taking::add_measured` meets its contract: the run's constants of the calendar month, its month of water, its record, and that month added.
 -- Assumes nothing.
 use mathlib.Core.Path.{_≡_, ap, _∙_}
 use native.Mathlib.Omega.{arith}
@@ -11,9 +11,9 @@ use denote.Ref.{now}
 use Rattle.records.specs.Record.{waterRecord, numbersOf}
 use Rattle.refusals.specs.Columns.{columns}
 use Rattle.refusals.specs.Book.{book}
 use Rattle.adding.proofs.Measured.{Measured, fit, measured, measured-is}
-use Rattle.adding.proofs.add_measured.Statement.{statement}
-use Rattle.adding.proofs.add_measured.Tie as tie
+use Rattle.taking.proofs.add_measured.Statement.{statement}
+use Rattle.taking.proofs.add_measured.Tie as tie
 
 constants-at-requires : tie.Need-constants-at-requires
 constants-at-requires c κs = search needs
