@@ -1,11 +1,12 @@
 // The card's library: every call of `drought` and of `season`, for C to link. include/card.h is its manual.
 //
-// C has no enum that carries a value, so a reading comes in as a struct (specs/FromC.antt says what it means)
-// and its answer goes out as one. All else is handed on as it came, and so is each promise.
+// A reading comes in as a struct, and its answer goes out as one (the crate `kinds`). All else is handed on as it came, and
+// so is each promise.
 use adding::Added;
 use door::MonthInches;
-use door::Reading;
 use drought::Shown;
+use kinds::CAnswer;
+use kinds::CReading;
 use records::RecordNumbers;
 use runs::Run;
 use season::Season;
@@ -18,60 +19,14 @@ ghost use Rattle.refusals.specs.Book.{book};
 ghost use Rattle.drought.specs.Calls.{addWater, addInches, addZ, rowOfRun};
 ghost use Rattle.adding.specs.Taken.{result};
 ghost use Rattle.season.specs.Season.{seasonResult, addSeason};
-ghost use Rattle.card.specs.FromC.{readingOfC, answered};
-
-// A reading as C hands it in: its kind, and the number that this kind reads.
-#[repr(C)]
-pub struct CReading {
-    pub kind: u32,
-    pub whole: i32,
-    pub measure: f32,
-}
-
-// A reading's answer: 0, 8 or 9, and thousandths of an inch.
-#[repr(C)]
-pub struct CAnswer {
-    pub number: u8,
-    pub water: u32,
-}
-
-// The kinds of a reading. A kind that is none of these is not acceptable.
-const MISSING: u32 = 0;
-
-const WHOLE: u32 = 1;
-
-const INCHES: u32 = 2;
-
-const MILLIMETRES: u32 = 3;
-
-// What a whole reading of no such kind says: it is below 0, and so not acceptable.
-const NO_KIND: i32 = -1;
-
-fn reading_of(g: CReading) -> Reading
-    ensures { λ r. ⌜ r ≡ readingOfC g ⌝ }
-{
-    let kind = g.kind;
-    if kind == MISSING {
-        return Reading::Missing;
-    }
-    if kind == WHOLE {
-        return Reading::Whole(g.whole);
-    }
-    if kind == INCHES {
-        return Reading::Inches(g.measure);
-    }
-    if kind == MILLIMETRES {
-        return Reading::Millimetres(g.measure);
-    }
-    Reading::Whole(NO_KIND)
-}
+ghost use Rattle.kinds.specs.FromC.{readingOfC, answered};
 
 // Reads a reading: 8 or 9.
 #[no_mangle]
 pub extern "C" fn card_read(g: CReading) -> CAnswer
     ensures { λ a. ⌜ answered a ≡ reading (readingOfC g) ⌝ }
 {
-    let a = drought::read(reading_of(g));
+    let a = drought::read(kinds::reading_of(g));
     CAnswer {
         number: door::number(a),
         water: door::water(a),
@@ -108,8 +63,8 @@ pub extern "C" fn card_add_water(
 ) -> Added
     ensures { λ a. ⌜ result a (book (now (x1 .exit)) (now (x2 .exit)) (now (x3 .exit)) (now (index .exit)) (now (mark .exit)) (now (records .exit)) (now (v .exit))) ≡ addWater run (readingOfC p) (readingOfC pe) (book (now (x1 .entry)) (now (x2 .entry)) (now (x3 .entry)) (now (index .entry)) (now (mark .entry)) (now (records .entry)) (now (v .entry))) ⌝ }
 {
-    let a = reading_of(p);
-    let b = reading_of(pe);
+    let a = kinds::reading_of(p);
+    let b = kinds::reading_of(pe);
     drought::add_water(run, a, b, x1, x2, x3, index, mark, records, v)
 }
 

@@ -1,12 +1,12 @@
--- `card::reading_of` meets its contract, kind by kind. Assumes nothing.
+-- `kinds::reading_of` meets its contract, kind by kind. Assumes nothing.
 use borrow.Author.Tests.{eq-eqb, ne-eqb}
 use mir.Syntax.{w32}
 use mir.Val.{SFits}
 use mir.Facts.{toZ-ofZ}
 use Rattle.exact.proofs.Held.{held}
-use Rattle.card.specs.FromC.{readingOfC}
-use Rattle.card.proofs.reading_of.Statement.{statement}
-use Rattle.card.proofs.reading_of.Tie as tie
+use Rattle.kinds.specs.FromC.{readingOfC}
+use Rattle.kinds.proofs.reading_of.Statement.{statement}
+use Rattle.kinds.proofs.reading_of.Tie as tie
 
 returns : tie.Need-returns
 unfolding readingOfC

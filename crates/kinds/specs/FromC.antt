@@ -7,8 +7,8 @@ use lib.Dec.{eqb}
 use Rattle.door.specs.Outcome.{Outcome}
 use Rattle.door.specs.declared.Reading.{Reading}
 use Rattle.door.specs.declared.Reading.the-variants.{Whole, Inches, Millimetres, Missing}
-use Rattle.card.specs.declared.CReading.{CReading}
-use Rattle.card.specs.declared.CAnswer.{CAnswer}
+use Rattle.kinds.specs.declared.CReading.{CReading}
+use Rattle.kinds.specs.declared.CAnswer.{CAnswer}
 
 -- the kinds, as include/card.h numbers them
 abbrev pub missingKind : ℕ

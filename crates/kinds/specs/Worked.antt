@@ -8,7 +8,7 @@ use lib.Ieee.{fin}
 use Rattle.exact.specs.Worked.{Row, _gives_}
 use Rattle.door.specs.Outcome.{Outcome}
 use Rattle.door.specs.Readings.{reading}
-use Rattle.card.specs.FromC.{readingOfC}
+use Rattle.kinds.specs.FromC.{readingOfC}
 
 -- what C's struct says with this kind, the whole number 7 and the measure 1
 abbrev said : ℕ → Outcome

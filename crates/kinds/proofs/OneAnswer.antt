@@ -2,8 +2,8 @@
 -- `drought`, of which `demands` shows it. Assumes nothing.
 use mathlib.Core.Path.{_≡_, sym, ap, _∙_}
 use Rattle.door.specs.Outcome.{Outcome}
-use Rattle.card.specs.FromC.{answered}
-use Rattle.card.specs.declared.CAnswer.{CAnswer}
+use Rattle.kinds.specs.FromC.{answered}
+use Rattle.kinds.specs.declared.CAnswer.{CAnswer}
 
 abbrev from : Outcome → CAnswer
 from o = record { number = o .number; water = o .water }

@@ -6,8 +6,8 @@ use borrow.Author.Tests.{ne-eqb}
 use Rattle.door.specs.Outcome.{refused}
 use Rattle.outline.specs.Refusals.{notAcceptable}
 use Rattle.door.specs.Readings.{reading, whole}
-use Rattle.card.specs.FromC.{readingOfC, missingKind, wholeKind, inchesKind, millimetresKind}
-use Rattle.card.specs.declared.CReading.{CReading}
+use Rattle.kinds.specs.FromC.{readingOfC, missingKind, wholeKind, inchesKind, millimetresKind}
+use Rattle.kinds.specs.declared.CReading.{CReading}
 
 pub no-kind : (g : CReading) → 3 < g .kind → reading (readingOfC g) ≡ refused notAcceptable
 unfolding readingOfC reading whole

@@ -5,8 +5,8 @@ use Rattle.exact.specs.Nearest.{nearestℕ}
 use Rattle.exact.specs.Worked.{agree}
 use Rattle.door.specs.Exact.{within, nearestTo}
 use Rattle.door.specs.Readings.{whole, converted, inches, millimetres, reading}
-use Rattle.card.specs.FromC.{readingOfC}
-use Rattle.card.specs.Worked.{kindTable}
+use Rattle.kinds.specs.FromC.{readingOfC}
+use Rattle.kinds.specs.Worked.{kindTable}
 
 pub kinds : agree kindTable ≡ true
 unfolding nearestℕ within nearestTo whole converted inches millimetres reading readingOfC
