@@ -1,6 +1,6 @@
 // Whether a spell in force has ended: U, V, E and Q of a month, and the chance of an ending in percent.
 //
-// For the crate `spells`, which holds X3, V and Z in range. A wet spell is a drought with the signs turned, so a
+// For the crates `spells` and `modified`, which hold X3, V and Z in range. A wet spell is a drought with the signs turned, so a
 // drought's rules are all that stands here.
 use outline::E_OFFSET;
 use outline::U_OFFSET;
@@ -15,14 +15,14 @@ ghost use Rattle.ending.specs.Ending.{turn, uOf, vOf, eOf, qOf, percentO
 ghost use Rattle.ending.specs.Bounds.{mostV};
 
 // A wet spell's number with its sign turned, a drought's as it is.
-fn turned(wet: bool, n: i64) -> i64
+pub fn turned(wet: bool, n: i64) -> i64
     requires { ⌜ natAbs n ≤ 2 * mostV ⌝ }
     ensures { λ r. ⌜ r ≡ turn wet n ⌝ }
 {
     if wet { 0 - n } else { n }
 }
 
-fn u_of(wet: bool, z: i32) -> i64
+pub fn u_of(wet: bool, z: i32) -> i64
     requires { ⌜ natAbs z ≤ mostZ ⌝ }
     ensures { λ r. ⌜ r ≡ uOf (turn wet z) ⌝ }
 {
@@ -37,7 +37,7 @@ fn v_of(wet: bool, v: i64, z: i32) -> i64
     u_of(wet, z) + turned(wet, v)
 }
 
-fn e_of(wet: bool, x3: i32) -> i64
+pub fn e_of(wet: bool, x3: i32) -> i64
     requires { ⌜ natAbs x3 ≤ mostX ⌝ }
     ensures { λ r. ⌜ r ≡ eOf (turn wet x3) ⌝ }
 {
