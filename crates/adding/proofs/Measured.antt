@@ -14,6 +14,7 @@ use Rattle.water.specs.Bounds.{ConstantsFit}
 use Rattle.water.specs.Expected.{monthOf}
 use Rattle.water.specs.declared.Constants.{Constants}
 use Rattle.water.specs.declared.Month.{Month}
+use Rattle.modified.specs.Modified.{modifiedOf}
 use Rattle.water.proofs.Theorems.{z-acceptable}
 use Rattle.calendar.specs.Calendar.{constantsAt}
 use Rattle.calendar.proofs.CalendarLaws.{constants-at-fit}
@@ -53,9 +54,9 @@ module _ (at : Progress) (ks : List ℤ) where
 
   -- the month with its spells, put together, and its record and V written
   pub measured-is : (p pe : ℕ) (m : Month) → Measured p pe m → (cs : Book) (ds : Columns) (s : Spelled) → Spells (at .months) (at .opens) (at .values) (m .z) (columnsOf cs) s ds
-      → (records : List (List ℤ)) → records ≡ set (cs .records) (at .months) (numbersOf (waterRecord (at .soil) p pe m))
+      → (records : List (List ℤ)) → records ≡ set (cs .records) (at .months) (numbersOf (waterRecord (at .soil) p pe m (s .modified)))
       → (v : List ℤ) → v ≡ set (cs .v) (at .months) (s .values .v)
       → (t : MonthAdded) → t ≡ monthAdded at (soilAfter (at .soil) m) (waterFigures p pe m) (m .z) s
       → result (addedOf t ks) (bookOf ds records v) ≡ takenWater (runOf at ks) p pe cs
   unfolding takenWater
-  measured-is p pe m i cs ds s h records f v g t e = rw (← i .is, e) (taken-is at (soilAfter (at .soil) m) (waterFigures p pe m) (m .z) (waterRecord (at .soil) p pe m) cs s ds records v h f g ks)
+  measured-is p pe m i cs ds s h records f v g t e = rw (← i .is, e) (taken-is at (soilAfter (at .soil) m) (waterFigures p pe m) (m .z) (waterRecord (at .soil) p pe m (modifiedOf (at .values) (m .z))) cs s ds records v h (rw (h .modified-is) at f) g ks)

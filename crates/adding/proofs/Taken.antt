@@ -12,6 +12,7 @@ use Rattle.spells.specs.declared.Decision.{Decision}
 use Rattle.spells.specs.declared.Decision.the-variants.{Nothing, Decides}
 use Rattle.spells.specs.declared.Running.{Running}
 use Rattle.spells.specs.declared.SpellMonth.{SpellMonth}
+use Rattle.modified.specs.Modified.{modifiedOf}
 use Rattle.hindsight.specs.Rule.{Row}
 use Rattle.hindsight.specs.Adding.{addAs, addMonth, settledAs, settledCount, History}
 use Rattle.hindsight.specs.Coded.{decisionOf, rowOf, Adds}
@@ -56,13 +57,14 @@ module _ (months opens : ℕ) (cs : Columns) (s : SpellMonth) (by : ℕ) where
       × (x3 ≡ set (cs .x3) months (s .after .x3))
       × Adds (heldIn months opens cs) (rowOf (s .after .x1) (s .after .x2) (s .after .x3) by (s .index)) months (cs .index) index (cs .mark) mark left settled
 
-  pub spelled-is : (values : Running) (z : ℤ) (x1 x2 x3 index : List ℤ) (mark : List ℕ) (left settled m : ℕ)
+  pub spelled-is : (values : Running) (z : ℤ) (x1 x2 x3 index : List ℤ) (mark : List ℕ) (left settled m : ℕ) (x : ℤ)
       → s ≡ stepOf values z
       → by ≡ decisionNumber (s .decision)
       → Wrote x1 x2 x3 index mark left settled
       → m ≡ markFor (decisionOf by)
-      → Spells months opens values z cs (record { settled = settled; opens = left; percent = s .percent; index = s .index; mark = m; values = s .after }) (columns x1 x2 x3 index mark)
-  spelled-is values z x1 x2 x3 index mark left settled m e d g h =
+      → x ≡ modifiedOf values z
+      → Spells months opens values z cs (record { settled = settled; opens = left; percent = s .percent; index = s .index; mark = m; modified = x; values = s .after }) (columns x1 x2 x3 index mark)
+  spelled-is values z x1 x2 x3 index mark left settled m x e d g h i =
       let a : Adds (heldIn months opens cs) (rowFor s) months (cs .index) index (cs .mark) mark left settled =
       subst (λ (row : Row). Adds (heldIn months opens cs) row months (cs .index) index (cs .mark) mark left settled) (row-is s by d) (g .3) in
       record {
@@ -72,6 +74,7 @@ module _ (months opens : ℕ) (cs : Columns) (s : SpellMonth) (by : ℕ) where
         percent-is = ap (λ (m : SpellMonth). m .percent) e;
         index-is = ap (λ (m : SpellMonth). m .index) e;
         mark-is = rw (← e) (h ∙ ap (λ (n : ℕ). markFor (decisionOf n)) d ∙ mark-of (s .decision));
+        modified-is = i;
         columns-are = rw (← e, g .0, g .1, g .2, a .index-is, a .mark-is);
       }
 
@@ -81,4 +84,4 @@ pub taken-is : (at : Progress) (soil : Soil) (w : WaterFigures) (z : ℤ) (kept 
     → Takes at soil w z kept cs (monthAdded at soil w z t) (bookOf after records v)
 unfolding taken
 taken-is at soil w z kept cs t after records v p e f k =
-    rw (e, f, p .values-are, p .opens-are, p .settled-are, p .percent-is, p .index-is, p .mark-is, p .columns-are)
+    rw (e, f, p .values-are, p .opens-are, p .settled-are, p .percent-is, p .index-is, p .mark-is, p .modified-is, p .columns-are)

@@ -1,5 +1,5 @@
 -- Document 01: "The figures are P, PE, Ls, Lu, ET, R, RO, PR, PRO, PL, CAFEC, Z, percent, X1, X2, X3, index and mark; for an added Z all
--- those before Z are 0." Assumes nothing.
+-- those before Z are 0." And document 02, E4, last: the modified index, which is handed in. Assumes nothing.
 use Prim.Native.Nat.{ℕ}
 use lib.IntN.{ℤ, pos}
 use Rattle.water.specs.declared.Month.{Month}
@@ -27,8 +27,8 @@ waterFigures p pe m =
 abbrev pub noWater : WaterFigures
 noWater = record { p = 0; pe = 0; ls = 0; lu = 0; et = 0; r = 0; ro = 0; pr = 0; pro = 0; pl = 0; cafec = pos 0 }
 
-abbrev pub figuresOf : WaterFigures → ℤ → SpellMonth → Figures
-figuresOf w z s =
+abbrev pub figuresOf : WaterFigures → ℤ → SpellMonth → ℤ → Figures
+figuresOf w z s modified =
     record {
       water = w;
       z = z;
@@ -38,8 +38,9 @@ figuresOf w z s =
       x3 = s .after .x3;
       index = s .index;
       mark = markFor (s .decision);
+      modified = modified;
     }
 
 -- "A refusal returns its number with all figures 0"
 abbrev pub noFigures : Figures
-noFigures = record { water = noWater; z = pos 0; percent = 0; x1 = pos 0; x2 = pos 0; x3 = pos 0; index = pos 0; mark = 0 }
+noFigures = record { water = noWater; z = pos 0; percent = 0; x1 = pos 0; x2 = pos 0; x3 = pos 0; index = pos 0; mark = 0; modified = pos 0 }

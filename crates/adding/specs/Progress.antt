@@ -37,6 +37,7 @@ monthAdded at soil w z s =
             x3 = s .values .x3;
             index = s .index;
             mark = s .mark;
+            modified = s .modified;
           };
       progress =
           record {

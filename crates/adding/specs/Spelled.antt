@@ -5,6 +5,7 @@ use Prim.Native.Nat.{ℕ}
 use lib.IntN.{ℤ}
 use Rattle.spells.specs.Spells.{stepOf}
 use Rattle.spells.specs.declared.Running.{Running}
+use Rattle.modified.specs.Modified.{modifiedOf}
 use Rattle.hindsight.specs.Adding.{addMonth, settledCount}
 use Rattle.hindsight.specs.Months.{rowFor, markFor}
 use Rattle.refusals.specs.Columns.{Columns}
@@ -18,4 +19,5 @@ pub record Spells (months opens : ℕ) (values : Running) (z : ℤ) (cs : Column
   pub percent-is : t .percent ≡ stepOf values z .percent
   pub index-is : t .index ≡ stepOf values z .index
   pub mark-is : t .mark ≡ markFor (stepOf values z .decision)
+  pub modified-is : t .modified ≡ modifiedOf values z
   pub columns-are : after ≡ written cs months (stepOf values z) (addMonth (heldIn months opens cs) (rowFor (stepOf values z)))

@@ -1,5 +1,5 @@
 -- Document 01, "What can be asked": a month that is added, and a refused one. What an add answers, the run that it hands back and what every
--- lent list then holds: the five columns, and document 02's records and V (E6). Assumes nothing.
+-- lent list then holds: the five columns, and document 02's records and V (E6), with the modified index (E4). Assumes nothing.
 use Prim.Native.Nat.{ℕ, suc}
 use mathlib.Core.List.{_++_}
 use lib.IntN.{ℤ}
@@ -10,6 +10,7 @@ use Rattle.water.specs.declared.Soil.{Soil}
 use Rattle.water.specs.declared.Month.{Month}
 use Rattle.spells.specs.Spells.{stepOf}
 use Rattle.spells.specs.declared.SpellMonth.{SpellMonth}
+use Rattle.modified.specs.Modified.{modifiedOf}
 use Rattle.hindsight.specs.Adding.{History, addMonth, settledCount}
 use Rattle.hindsight.specs.Columns.{historyIn}
 use Rattle.hindsight.specs.Months.{rowFor}
@@ -71,14 +72,14 @@ taken r soil w z kept cs =
     (record {
       number = 0;
       settled = settledCount (heldBy r cs) (rowFor (stepOf (r .values) z));
-      figures = figuresOf w z (stepOf (r .values) z);
+      figures = figuresOf w z (stepOf (r .values) z) (modifiedOf (r .values) z);
       run = runAfter r soil (stepOf (r .values) z) (addMonth (heldBy r cs) (rowFor (stepOf (r .values) z)));
     })
     (recorded cs (r .months) (written (columnsOf cs) (r .months) (stepOf (r .values) z) (addMonth (heldBy r cs) (rowFor (stepOf (r .values) z)))) kept (stepOf (r .values) z .after .v))
 
 -- "an added Z (storage stays, the calendar moves on)"
 abbrev pub takenZ : Run → ℤ → Book → Result
-takenZ r z cs = taken r (r .soil) noWater z (zRecord (r .soil) z) cs
+takenZ r z cs = taken r (r .soil) noWater z (zRecord (r .soil) z (modifiedOf (r .values) z)) cs
 
 -- the storages at the end of a month of water
 abbrev pub soilAfter : Soil → Month → Soil
@@ -90,7 +91,8 @@ waterOf r p pe = monthOf (r .soil) p pe (constantsAt (r .constants) (r .calendar
 
 unfoldable pub takenWater : Run → ℕ → ℕ → Book → Result
 takenWater r p pe cs =
-    taken r (soilAfter (r .soil) (waterOf r p pe)) (waterFigures p pe (waterOf r p pe)) (waterOf r p pe .z) (waterRecord (r .soil) p pe (waterOf r p pe)) cs
+    taken r (soilAfter (r .soil) (waterOf r p pe)) (waterFigures p pe (waterOf r p pe)) (waterOf r p pe .z)
+    (waterRecord (r .soil) p pe (waterOf r p pe) (modifiedOf (r .values) (waterOf r p pe .z))) cs
 
 -- the result, or where the number k is not 0 its refusal
 abbrev pub answered : ℕ → Run → Book → Result → Result

@@ -49,6 +49,7 @@ pub struct Figures {
     pub x3: i32,
     pub index: i32,
     pub mark: u8,
+    pub modified: i32,
 }
 
 // What an add answers: 0 or its refusal, the months that it settled, the month's figures, and the run.
@@ -77,6 +78,7 @@ pub struct Spelled {
     pub percent: u32,
     pub index: i32,
     pub mark: u8,
+    pub modified: i32,
     pub values: Running,
 }
 
@@ -104,6 +106,7 @@ pub fn add_spells(
     let b = after.x2;
     let c = after.x3;
     let shown = s.index;
+    let modified = modified::modified(values, z, after, shown);
     let t = history::add(
         x1,
         x2,
@@ -124,6 +127,7 @@ pub fn add_spells(
         percent: s.percent,
         index: shown,
         mark: t.mark,
+        modified,
         values: after,
     }
 }
@@ -178,6 +182,7 @@ pub fn month_added(at: Progress, soil: Soil, water: WaterFigures, z: i32, s: Spe
         x3: values.x3,
         index: s.index,
         mark: s.mark,
+        modified: s.modified,
     };
     let progress = Progress {
         months: at.months + 1,
@@ -208,6 +213,7 @@ pub fn refuse(number: u8, at: Progress) -> MonthAdded
         x3: 0,
         index: 0,
         mark: 0,
+        modified: 0,
     };
     MonthAdded {
         number,
@@ -259,6 +265,7 @@ fn same_figures(f: Figures) -> Figures
         x3: f.x3,
         index: f.index,
         mark: f.mark,
+        modified: f.modified,
     }
 }
 

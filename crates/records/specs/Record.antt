@@ -1,6 +1,7 @@
 -- Document 02, E6, "Rows that show the water": "Each month's record keeps Z, .. P, PE, ET, R, L, RO and both storages at its start and end .. A
 -- Z-only month records its Z .., zeros for the six water figures and the carried storages, with a mark that it had no water." The record's fields
--- are the columns of a lent table that has a place a month. V after the month, which passes 32 bits, has a list of its own. Assumes nothing.
+-- are the columns of a lent table that has a place a month. V after the month, which passes 32 bits, has a list of its own. E4's modified index, the last
+-- of the fields, is handed in: the crate `modified` has its rule. Assumes nothing.
 use Prim.Native.Nat.{ℕ, _+_}
 use mathlib.Core.List.{List, [], _∷_}
 use lib.IntN.{ℤ, pos}
@@ -9,9 +10,9 @@ use Rattle.water.specs.declared.Soil.{Soil}
 use Rattle.water.specs.declared.Month.{Month}
 use Rattle.records.specs.declared.Record.{Record}
 
--- a month of water from this soil, with precipitation p and PE pe: L is what both layers lose
-abbrev pub waterRecord : Soil → ℕ → ℕ → Month → Record
-waterRecord s p pe m =
+-- a month of water from this soil, with precipitation p, PE pe and this modified index: L is what both layers lose
+abbrev pub waterRecord : Soil → ℕ → ℕ → Month → ℤ → Record
+waterRecord s p pe m modified =
     record {
       z = m .z;
       p = pos p;
@@ -25,11 +26,12 @@ waterRecord s p pe m =
       surface = pos (m .surface);
       underlying = pos (m .underlying);
       water = pos 1;
+      modified = modified;
     }
 
 -- an added Z: "zeros for the six water figures and the carried storages, with a mark that it had no water"
-abbrev pub zRecord : Soil → ℤ → Record
-zRecord s z =
+abbrev pub zRecord : Soil → ℤ → ℤ → Record
+zRecord s z modified =
     record {
       z = z;
       p = pos 0;
@@ -43,6 +45,7 @@ zRecord s z =
       surface = pos (s .surface);
       underlying = pos (s .underlying);
       water = pos 0;
+      modified = modified;
     }
 
 -- where there is no month
@@ -61,6 +64,7 @@ noRecord =
       surface = pos 0;
       underlying = pos 0;
       water = pos 0;
+      modified = pos 0;
     }
 
 -- its numbers, in the order in which they stand at its place in the lent list
@@ -78,6 +82,7 @@ numbersOf r =
     ∷ r .surface
     ∷ r .underlying
     ∷ r .water
+    ∷ r .modified
     ∷ []
 
 -- the record whose numbers these are
@@ -96,6 +101,7 @@ recordIn n =
       surface = getD n 9 (pos 0);
       underlying = getD n 10 (pos 0);
       water = getD n 11 (pos 0);
+      modified = getD n 12 (pos 0);
     }
 
 -- what the lent list holds of the month at place i

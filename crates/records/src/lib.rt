@@ -16,7 +16,7 @@ ghost use Rattle.records.specs.Ends.{amounts, endsMeet};
 ghost use Rattle.records.specs.Recordable.{Recordable};
 
 // How many numbers a record has.
-pub const NUMBERS: usize = 12;
+pub const NUMBERS: usize = 13;
 
 // A record as it stands at its place in the lent list: its numbers, in the order of its fields.
 pub type RecordNumbers = [i32; NUMBERS];
@@ -26,12 +26,12 @@ const SURFACE: usize = 9;
 
 const UNDERLYING: usize = 10;
 
-// What a record's last number says.
+// What a record's `water` says.
 const NO_WATER: i32 = 0;
 
 const WATER: i32 = 1;
 
-// A month's record: its Z, its water, both storages at its start and at its end, and whether it had water.
+// A month's record: its Z, its water, both storages at its start and at its end, whether it had water, and its modified index.
 #[repr(C)]
 pub struct Record {
     pub z: i32,
@@ -46,12 +46,13 @@ pub struct Record {
     pub surface: i32,
     pub underlying: i32,
     pub water: i32,
+    pub modified: i32,
 }
 
-// The record of a month of water: what fell, what was asked for, and what the balance made of it.
-pub fn water_record(s: Soil, p: u32, pe: u32, m: Month) -> Record
+// The record of a month of water with this modified index: what fell, what was asked for, and what the balance made of it.
+pub fn water_record(s: Soil, p: u32, pe: u32, m: Month, modified: i32) -> Record
     requires { ⌜ Recordable s p pe m ⌝ }
-    ensures { λ r. ⌜ r ≡ waterRecord s p pe m ⌝ }
+    ensures { λ r. ⌜ r ≡ waterRecord s p pe m modified ⌝ }
 {
     Record {
         z: m.z,
@@ -66,13 +67,14 @@ pub fn water_record(s: Soil, p: u32, pe: u32, m: Month) -> Record
         surface: m.surface as i32,
         underlying: m.underlying as i32,
         water: WATER,
+        modified,
     }
 }
 
-// The record of an added Z: no water, and the storages stay.
-pub fn z_record(s: Soil, z: i32) -> Record
+// The record of an added Z with this modified index: no water, and the storages stay.
+pub fn z_record(s: Soil, z: i32, modified: i32) -> Record
     requires { ⌜ SoilFits s ⌝ }
-    ensures { λ r. ⌜ r ≡ zRecord s z ⌝ }
+    ensures { λ r. ⌜ r ≡ zRecord s z modified ⌝ }
 {
     let surface = s.surface as i32;
     let underlying = s.underlying as i32;
@@ -89,6 +91,7 @@ pub fn z_record(s: Soil, z: i32) -> Record
         surface,
         underlying,
         water: NO_WATER,
+        modified,
     }
 }
 
@@ -109,6 +112,7 @@ pub fn no_record() -> Record
         surface: 0,
         underlying: 0,
         water: NO_WATER,
+        modified: 0,
     }
 }
 
@@ -130,6 +134,7 @@ pub fn put(at: usize, r: Record, records: &mut [RecordNumbers])
         r.surface,
         r.underlying,
         r.water,
+        r.modified,
     ];
 }
 
@@ -160,6 +165,7 @@ pub fn record_at(records: &[RecordNumbers], i: usize) -> Record
         surface: n[SURFACE],
         underlying: n[UNDERLYING],
         water: n[11],
+        modified: n[12],
     }
 }
 

@@ -53,10 +53,10 @@ pub fn add_listed(
     let values = at.values;
     let k = calendar::constants_at(constants, at.calendar);
     let m = water::month_of(soil, measured, potential, k);
-    let kept = records::water_record(soil, measured, potential, m);
-    records::put(at.months as usize, kept, records);
     let s = adding::add_spells(at.months, at.opens, values, m.z, x1, x2, x3, index, mark);
     let after = s.values;
+    let kept = records::water_record(soil, measured, potential, m, s.modified);
+    records::put(at.months as usize, kept, records);
     records::put_v(at.months as usize, after.v, v);
     adding::watered(at, measured, potential, m, s)
 }

@@ -1,4 +1,4 @@
-// A month taken whole, of water or as a Z, once nothing is refused: its record, its spells, V, and its answer.
+// A month taken whole, of water or as a Z, once nothing is refused: its spells, its record, V, and its answer.
 //
 // For `drought`, which asks for every refusal first: what has a `requires` is for it alone. A month of a season goes through
 // the same steps in `season_month`.
@@ -16,6 +16,7 @@ ghost use Rattle.door.specs.Readings.{mostReading};
 ghost use Rattle.ranges.specs.Ranges.{calendarFits};
 ghost use Rattle.water.specs.Layers.{SoilFits};
 ghost use Rattle.runs.specs.Progress.{runOf};
+ghost use Rattle.modified.specs.Modified.{modifiedOf};
 ghost use Rattle.records.specs.Record.{zRecord};
 ghost use Rattle.refusals.specs.Columns.{columns};
 ghost use Rattle.refusals.specs.Book.{book};
@@ -48,10 +49,10 @@ pub fn add_measured(
     let values = at.values;
     let k = calendar::constants_at(constants, at.calendar);
     let m = water::month_of(soil, p, pe, k);
-    let kept = records::water_record(soil, p, pe, m);
-    records::put(at.months as usize, kept, records);
     let s = adding::add_spells(at.months, at.opens, values, m.z, x1, x2, x3, index, mark);
     let after = s.values;
+    let kept = records::water_record(soil, p, pe, m, s.modified);
+    records::put(at.months as usize, kept, records);
     records::put_v(at.months as usize, after.v, v);
     adding::watered(at, p, pe, m, s)
 }
@@ -71,15 +72,15 @@ pub fn add_z(
     requires { ⌜ Ready (at .months) (at .opens) (at .values) (columns (now x1) (now x2) (now x3) (now index) (now mark)) ⌝ }
     requires { ⌜ (at .months < length (now records)) × (at .months < length (now v)) ⌝ }
     requires { ⌜ (natAbs z ≤ mostZ) × (calendarFits (at .calendar) ≡ true) × SoilFits (at .soil) ⌝ }
-    ensures { λ t. ⌜ Takes at (at .soil) noWater z (zRecord (at .soil) z) (book (now (x1 .entry)) (now (x2 .entry)) (now (x3 .entry)) (now (index .entry)) (now (mark .entry)) (now (records .entry)) (now (v .entry))) t (book (now (x1 .exit)) (now (x2 .exit)) (now (x3 .exit)) (now (index .exit)) (now (mark .exit)) (now (records .exit)) (now (v .exit))) ⌝ }
+    ensures { λ t. ⌜ Takes at (at .soil) noWater z (zRecord (at .soil) z (modifiedOf (at .values) z)) (book (now (x1 .entry)) (now (x2 .entry)) (now (x3 .entry)) (now (index .entry)) (now (mark .entry)) (now (records .entry)) (now (v .entry))) t (book (now (x1 .exit)) (now (x2 .exit)) (now (x3 .exit)) (now (index .exit)) (now (mark .exit)) (now (records .exit)) (now (v .exit))) ⌝ }
 {
     let soil = at.soil;
     let values = at.values;
     let water = adding::no_water();
-    let kept = records::z_record(soil, z);
-    records::put(at.months as usize, kept, records);
     let s = adding::add_spells(at.months, at.opens, values, z, x1, x2, x3, index, mark);
     let after = s.values;
+    let kept = records::z_record(soil, z, s.modified);
+    records::put(at.months as usize, kept, records);
     records::put_v(at.months as usize, after.v, v);
     adding::month_added(at, soil, water, z, s)
 }

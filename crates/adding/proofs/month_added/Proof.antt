@@ -22,7 +22,8 @@ returns c =
     let f3 : SFits w32 (a .s .values .x3) = search held in
     let f4 : SFits w32 (a .s .index) = search held in
     let f5 : SFits w32 (a .z) = search held in
-    rw (toZ-ofZ f1, toZ-ofZ f2, toZ-ofZ f3, toZ-ofZ f4, toZ-ofZ f5, add-one (a .at .months), c .next-calendar .ensures)
+    let f6 : SFits w32 (a .s .modified) = search held in
+    rw (toZ-ofZ f1, toZ-ofZ f2, toZ-ofZ f3, toZ-ofZ f4, toZ-ofZ f5, toZ-ofZ f6, add-one (a .at .months), c .next-calendar .ensures)
 
 pub month-added-spec : {M : Type 1} → statement M
 month-added-spec = tie.close (tie.spec add-t9 next-calendar-requires returns)

@@ -15,7 +15,8 @@ returns c =
     let f4 : SFits w32 (a .f .x2) = search held in
     let f5 : SFits w32 (a .f .x3) = search held in
     let f6 : SFits w32 (a .f .index) = search held in
-    rw (toZ-ofZ f1, toZ-ofZ f2, toZ-ofZ f3, toZ-ofZ f4, toZ-ofZ f5, toZ-ofZ f6)
+    let f7 : SFits w32 (a .f .modified) = search held in
+    rw (toZ-ofZ f1, toZ-ofZ f2, toZ-ofZ f3, toZ-ofZ f4, toZ-ofZ f5, toZ-ofZ f6, toZ-ofZ f7)
 
 pub same-figures-spec : {M : Type 1} → statement M
 same-figures-spec = tie.close (tie.spec returns)

@@ -1,16 +1,15 @@
 -- `records::water_record`: field by field. Assumes nothing.
+use mathlib.Core.Path.{refl}
 use borrow.Author.Needs.{needs}
 use Prim.Native.Nat.{_+_}
 use lib.IntN.{pos}
 use mir.Syntax.{w32}
 use mir.Val.{SFits}
 use mir.Facts.{toZ-ofZ}
+use Rattle.records.proofs.Fields.{same-fields}
 use Rattle.records.proofs.Fitting.{stored-most}
 use Rattle.records.proofs.water_record.Statement.{statement}
 use Rattle.records.proofs.water_record.Tie as tie
-
-cast-t5 : tie.Need-cast-t5
-cast-t5 c = search needs
 
 cast-t6 : tie.Need-cast-t6
 cast-t6 c = search needs
@@ -21,26 +20,29 @@ cast-t7 c = search needs
 cast-t8 : tie.Need-cast-t8
 cast-t8 c = search needs
 
-add-t9 : tie.Need-add-t9
-add-t9 c = search needs
+cast-t9 : tie.Need-cast-t9
+cast-t9 c = search needs
 
-cast-t10 : tie.Need-cast-t10
-cast-t10 c = search needs
+add-t10 : tie.Need-add-t10
+add-t10 c = search needs
 
 cast-t11 : tie.Need-cast-t11
 cast-t11 c = search needs
 
 cast-t12 : tie.Need-cast-t12
-cast-t12 c = let s = c .before .before .before .before .before in let h = stored-most (s .args .s) (s .pre .soil) in search needs
+cast-t12 c = search needs
 
 cast-t13 : tie.Need-cast-t13
-cast-t13 c = let s = c .before .before .before .before .before .before in let h = stored-most (s .args .s) (s .pre .soil) in search needs
+cast-t13 c = let s = c .before .before .before .before .before in let h = stored-most (s .args .s) (s .pre .soil) in search needs
 
 cast-t14 : tie.Need-cast-t14
-cast-t14 c = search needs
+cast-t14 c = let s = c .before .before .before .before .before .before in let h = stored-most (s .args .s) (s .pre .soil) in search needs
 
 cast-t15 : tie.Need-cast-t15
 cast-t15 c = search needs
+
+cast-t16 : tie.Need-cast-t16
+cast-t16 c = search needs
 
 returns : tie.Need-returns
 returns c =
@@ -59,21 +61,21 @@ returns c =
     let f8 : SFits w32 (pos (a .s .underlying)) = search needs in
     let f9 : SFits w32 (pos (a .m .surface)) = search needs in
     let f10 : SFits w32 (pos (a .m .underlying)) = search needs in
-    rw (toZ-ofZ f0, toZ-ofZ f1, toZ-ofZ f2, toZ-ofZ f3, toZ-ofZ f4, toZ-ofZ f5, toZ-ofZ f6, toZ-ofZ f7, toZ-ofZ f8, toZ-ofZ f9, toZ-ofZ f10)
+    same-fields (toZ-ofZ f0) (toZ-ofZ f1) (toZ-ofZ f2) (toZ-ofZ f3) (toZ-ofZ f4) (toZ-ofZ f5) (toZ-ofZ f6) (toZ-ofZ f7) (toZ-ofZ f8) (toZ-ofZ f9) (toZ-ofZ f10) refl (toZ-ofZ (s .fits .modified))
 
 pub water-record-spec : {M : Type 1} → statement M
 water-record-spec =
     tie.close
     (tie.spec
-    cast-t5
     cast-t6
     cast-t7
     cast-t8
-    add-t9
-    cast-t10
+    cast-t9
+    add-t10
     cast-t11
     cast-t12
     cast-t13
     cast-t14
     cast-t15
+    cast-t16
     returns)

@@ -20,7 +20,7 @@ returns c =
     let h = stored-most (s .args .s) (s .pre) in
     let f1 : SFits w32 (pos (s .args .s .surface)) = search needs in
     let f2 : SFits w32 (pos (s .args .s .underlying)) = search needs in
-    rw (toZ-ofZ (s .fits .z), toZ-ofZ f1, toZ-ofZ f2)
+    rw (toZ-ofZ (s .fits .z), toZ-ofZ f1, toZ-ofZ f2, toZ-ofZ (s .fits .modified))
 
 pub z-record-spec : {M : Type 1} → statement M
 z-record-spec = tie.close (tie.spec cast-surface cast-underlying returns)

@@ -1,10 +1,10 @@
--- `taking::add_measured` meets its contract: the run's constants of the calendar month, its month of water, its record, and that month added.
+-- `taking::add_measured` meets its contract: the run's constants of the calendar month, its month of water, its spells, its record, and that month added.
 -- Assumes nothing.
 use mathlib.Core.Path.{_≡_, ap, _∙_}
 use native.Mathlib.Omega.{arith}
 use borrow.Author.Needs.{needs}
 use lib.ListN.{length, set, length-set}
-use mir.Syntax.{w64}
+use mir.Syntax.{w32, w64}
 use mir.Val.{SFits}
 use mir.Facts.{toZ-ofZ}
 use denote.Ref.{now}
@@ -35,75 +35,81 @@ month-is c =
     let k = c .before .constants-at in
     measured (a .at) (now (a .constants)) (k .result) (k .ensures) (s .pre .1 .1 .0) (a .p) (a .pe) (s .pre .1 .1 .1) (c .month-of .result) (c .month-of .ensures)
 
+abbrev reckoned : tie.After-struct-told → tie.After-month-of
+reckoned c = c .before .before .before .before .before .before
+
+add-spells-requires : tie.Need-add-spells-requires
+add-spells-requires c κs =
+    let d = reckoned c in
+    let f = month-is d .fits in
+    (entered d .pre .0, simp toZ-ofZ (month-is d .bounded))
+
+-- the month of water and what was handed in, of what the spells leave
+abbrev watered : tie.After-add-spells → tie.After-month-of
+watered t = reckoned (t .before)
+
+abbrev given : tie.After-add-spells → tie.Start
+given t = entered (watered t)
+
 water-record-requires : tie.Need-water-record-requires
-water-record-requires c κs = month-is c .kept
+water-record-requires c κs = month-is (watered (c .before .before .before .before .before .before .before .before)) .kept
 
 cast-put : tie.Need-cast-put
 cast-put c = search needs
 
 -- its place among the records
-abbrev reckoned : tie.After-put-arg → tie.After-month-of
-reckoned c = c .before .before .before
-
 put-requires : tie.Need-put-requires
-put-requires c κs = entered (reckoned c) .pre .1 .0 .0
-
-abbrev noted : tie.After-add-spells → tie.After-put
-noted t = t .before .before .before .before .before .before .before .before
-
-abbrev watered : tie.After-add-spells → tie.After-month-of
-watered t = reckoned (noted t .before)
-
-add-spells-requires : tie.Need-add-spells-requires
-add-spells-requires c κs =
-    let d = reckoned (c .before .before .before .before .before .before .before .before) in
-    let f = month-is d .fits in
-    (entered d .pre .0, simp toZ-ofZ (month-is d .bounded))
+put-requires c κs = given (c .before .before .before .before .before .before .before .before .before .before .before) .pre .1 .0 .0
 
 cast-put-v : tie.Need-cast-put-v
 cast-put-v c = search needs
 
-abbrev spelled : tie.After-put-v → tie.After-add-spells
-spelled c = c .before .before .before .before .before .before .before .before .before .before .before
-
 put-v-requires : tie.Need-put-v-requires
-put-v-requires c κs = entered (watered (c .before .before .before .before .before .before .before .before .before .before)) .pre .1 .0 .1
+put-v-requires c κs = given (c .before .before .before .before .before .before .before .before .before .before .before .before .before .before .before .before) .pre .1 .0 .1
 
 watered-requires : tie.Need-watered-requires
 watered-requires c κs =
-    let p = entered (watered (spelled (c .before))) .pre in
+    let p = given (c .before .before .before .before .before .before .before .before .before .before .before .before .before .before .before .before .before .before) .pre in
     (omega (arith, p .0 .room, p .0 .most), p .1 .1 .0 .calendar)
 
--- the record and V, as they are written
-put-wrote : (n : tie.After-put) → let d = reckoned (n .before) in let a = entered d .args in n .put .last .1 .1 .0 ≡ set (now (a .records)) (a .at .months) (numbersOf (waterRecord (a .at .soil) (a .p) (a .pe) (d .month-of .result)))
-put-wrote n = rw (n .before .before .before .water-record .ensures) at (n .put .ensures)
+abbrev spelled : tie.After-put → tie.After-add-spells
+spelled n = n .before .before .before .before .before .before .before .before .before .before .before .before
 
-put-v-wrote : (u : tie.After-put-v) → let t = spelled u in let a = entered (watered t) .args in u .put-v .last .1 .1 .0 ≡ set (now (a .v)) (a .at .months) (t .add-spells .result .values .v)
+-- the record and V, as they are written
+put-wrote : (n : tie.After-put) → let t = spelled n in let a = given t .args in n .put .last .1 .1 .0 ≡ set (now (a .records)) (a .at .months) (numbersOf (waterRecord (a .at .soil) (a .p) (a .pe) (watered t .month-of .result) (t .add-spells .result .modified)))
+put-wrote n =
+    let t = spelled n in
+    let f : SFits w32 (t .add-spells .result .modified) = record { sfits = n .before .before .before .before .struct-told2 .given .1 .1 .1 .1 .1 .0 .1 } in
+    rw (n .before .before .before .water-record .ensures, toZ-ofZ f) at (n .put .ensures)
+
+abbrev noted : tie.After-put-v → tie.After-put
+noted u = u .before .before .before .before .before
+
+put-v-wrote : (u : tie.After-put-v) → let t = spelled (noted u) in let a = given t .args in u .put-v .last .1 .1 .0 ≡ set (now (a .v)) (a .at .months) (t .add-spells .result .values .v)
 put-v-wrote u =
-    let t = spelled u in
-    let f : SFits w64 (t .add-spells .result .values .v) = record { sfits = u .before .struct-told2 .given .1 .1 .1 .0 .1 } in
+    let t = spelled (noted u) in
+    let f : SFits w64 (t .add-spells .result .values .v) = record { sfits = u .before .struct-told3 .given .1 .1 .1 .0 .1 } in
     rw (toZ-ofZ f) at (u .put-v .ensures)
 
 same-length : tie.Need-same-length
-same-length c = search needs
+same-length c = let x = c .before .before .before .before .before .before .before .before .before .before .before .before .before .before .before .before .before .before .x1 in search needs
 
 same-length-2 : tie.Need-same-length-2
-same-length-2 c = search needs
+same-length-2 c = let x = c .before .before .before .before .before .before .before .before .before .before .before .before .before .before .before .before .before .x2 in search needs
 
 same-length-3 : tie.Need-same-length-3
-same-length-3 c = search needs
+same-length-3 c = let x = c .before .before .before .before .before .before .before .before .before .before .before .before .before .before .before .before .x3 in search needs
 
 same-length-4 : tie.Need-same-length-4
-same-length-4 c = search needs
+same-length-4 c = let x = c .before .before .before .before .before .before .before .before .before .before .before .before .before .before .before .index in search needs
 
 same-length-5 : tie.Need-same-length-5
-same-length-5 c = search needs
+same-length-5 c = let x = c .before .before .before .before .before .before .before .before .before .before .before .before .before .before .mark in search needs
 
 same-length-6 : tie.Need-same-length-6
 same-length-6 c =
-    let n = noted (spelled (c .before .before)) in
-    let a = entered (reckoned (n .before)) .args in
-    ap length (put-wrote n) ∙ length-set (now (a .records)) _ _
+    let n = noted (c .before .before) in
+    ap length (put-wrote n) ∙ length-set (now (given (spelled n) .args .records)) _ _
 
 same-length-7 : tie.Need-same-length-7
 same-length-7 c = search needs
@@ -111,12 +117,13 @@ same-length-7 c = search needs
 returns : tie.Need-returns
 returns c =
     let u = c .before .before in
-    let t = spelled u in
+    let n = noted u in
+    let t = spelled n in
     let d = watered t in
     let a = entered d .args in
     let l = t .add-spells .last .1 .1 .1 .1 in
     measured-is (a .at) (now (a .constants)) (a .p) (a .pe) (d .month-of .result) (month-is d) (book (now (a .x1)) (now (a .x2)) (now (a .x3)) (now (a .index)) (now (a .mark)) (now (a .records)) (now (a .v))) (columns (l .0) (l .1 .0) (l .1 .1 .0) (l .1 .1 .1 .0) (l .1 .1 .1 .1 .0)) (t .add-spells .result)
-    (rw (toZ-ofZ (month-is d .fits)) at (t .add-spells .ensures)) _ (put-wrote (noted t)) _ (put-v-wrote u) (c .watered .result) (c .watered .ensures)
+    (rw (toZ-ofZ (month-is d .fits)) at (t .add-spells .ensures)) _ (put-wrote n) _ (put-v-wrote u) (c .watered .result) (c .watered .ensures)
 
 pub add-measured-spec : {M : Type 1} → statement M
 add-measured-spec =
@@ -124,10 +131,10 @@ add-measured-spec =
     (tie.spec
     constants-at-requires
     month-of-requires
+    add-spells-requires
     water-record-requires
     cast-put
     put-requires
-    add-spells-requires
     cast-put-v
     put-v-requires
     watered-requires
