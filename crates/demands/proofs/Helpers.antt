@@ -19,9 +19,11 @@ use Rattle.exact.proofs.Z.{le-yes, le-no, ≤ℤ-antisym}
 use Rattle.water.specs.Layers.{surfaceHolds, underlyingHolds, SoilFits}
 use Rattle.door.specs.declared.Reading.{Reading}
 use Rattle.door.specs.declared.MonthInches.{MonthInches}
+use Rattle.ending.specs.Ending.{turn, uOf, vOf, eOf, endingOf}
 use Rattle.spells.specs.Spells.{stepOf}
 use Rattle.spells.specs.declared.With.{With}
 use Rattle.spells.specs.declared.Decision.the-variants.{Decides}
+use Rattle.modified.specs.Modified.{modifiedOf}
 use Rattle.hindsight.specs.Rule.{X, Row, Shown}
 use Rattle.hindsight.specs.Coded.{stateOf}
 use Rattle.hindsight_laws.specs.Counts.{NoneFrom, count}
@@ -42,6 +44,7 @@ use Rattle.demands.specs.Seasons.{SameFrom}
 use Rattle.demands.specs.Mirror.{Excepted, TurnsAbout}
 use Rattle.demands.specs.Longer.{firstPlaces, longer, resumed}
 use Rattle.demands.specs.Recorded.{RecordBalances, waterMark, ZOnly, recordBy, LastRowEnds}
+use Rattle.demands.specs.Modified.{modifiedOfMonths, AbatesIn, Kept}
 use Rattle.demands.specs.Pinned.{endingIn, soil}
 
 -- two numbers of which the first is above the second
@@ -116,6 +119,7 @@ month p et ro ss su =
         x3 = pos 0;
         index = pos 0;
         mark = 0;
+        modified = pos 0;
       };
       run = storing ss su;
     })
@@ -178,6 +182,12 @@ pub v-at : (s : Station) (asks : List Ask) (a : Ask) (later : List Ask) (d : ℤ
     → getD (vOfMonths s (asks ++ (a ∷ later))) (length asks) d ≡ stepOf (stateOf stationNext s asks .values) (zFor (stateOf stationNext s asks) a) .after .v
 v-at s [] a later d = refl
 v-at s (b ∷ asks) a later d = v-at (stationNext s b) asks a later d
+
+-- ---- `modifiedOfMonths`: likewise
+pub modified-at : (s : Station) (asks : List Ask) (a : Ask) (later : List Ask) (d : ℤ)
+    → getD (modifiedOfMonths s (asks ++ (a ∷ later))) (length asks) d ≡ modifiedOf (stateOf stationNext s asks .values) (zFor (stateOf stationNext s asks) a)
+modified-at s [] a later d = refl
+modified-at s (b ∷ asks) a later d = modified-at (stationNext s b) asks a later d
 
 -- ---- `calendarAfter`: after December comes January, and a year later the same month
 pub turns-of-the-year : (calendarAfter 11 1 ≡ 12) × (calendarAfter 12 1 ≡ 1) × (calendarAfter 3 0 ≡ 3) × (calendarAfter 3 12 ≡ 3) × (calendarAfter 1 11999 ≡ 12)
@@ -317,14 +327,15 @@ water-record p et ro ss su surface underlying =
       surface = pos surface;
       underlying = pos underlying;
       water = pos 1;
+      modified = pos 0;
     }
 
 pub record-balances : (p et ro ss su surface underlying : ℕ)
     → RecordBalances (water-record p et ro ss su surface underlying) ↔ Balances (storing ss su) (month p et ro surface underlying)
 record-balances p et ro ss su surface underlying = (ap natAbs, ap pos)
 
--- ---- `ZOnly`: all of a record but the storages, which are carried
-pub z-only-is : (z : ℤ) (m : Record) → ZOnly z m → numbersOf m ≡ z ∷ pos 0 ∷ pos 0 ∷ pos 0 ∷ pos 0 ∷ pos 0 ∷ pos 0 ∷ m .ss ∷ m .su ∷ m .ss ∷ m .su ∷ pos 0 ∷ []
+-- ---- `ZOnly`: all of a record but the storages, which are carried, and the modified index, which is the spells'
+pub z-only-is : (z : ℤ) (m : Record) → ZOnly z m → numbersOf m ≡ z ∷ pos 0 ∷ pos 0 ∷ pos 0 ∷ pos 0 ∷ pos 0 ∷ pos 0 ∷ m .ss ∷ m .su ∷ m .ss ∷ m .su ∷ pos 0 ∷ m .modified ∷ []
 z-only-is z m h = rw (h .its-z, h .p, h .pe, h .et, h .r, h .l, h .ro, h .surface, h .underlying, h .no-water)
 
 -- ---- `waterMark`: of water by either call, and of a Z
@@ -346,13 +357,14 @@ numbered =
         x3 = pos 25;
         index = pos 26;
         mark = 28;
+        modified = pos 29;
       };
       run = storing 33 34;
     }
 
 pub by-answer :
     numbersOf (recordBy (storing 31 32) (anomaly (pos 0)) numbered)
-    ≡ pos 10 ∷ pos 11 ∷ pos 12 ∷ pos 15 ∷ pos 16 ∷ pos 27 ∷ pos 17 ∷ pos 31 ∷ pos 32 ∷ pos 33 ∷ pos 34 ∷ pos 0 ∷ []
+    ≡ pos 10 ∷ pos 11 ∷ pos 12 ∷ pos 15 ∷ pos 16 ∷ pos 27 ∷ pos 17 ∷ pos 31 ∷ pos 32 ∷ pos 33 ∷ pos 34 ∷ pos 0 ∷ pos 29 ∷ []
 by-answer = refl
 
 -- ---- `LastRowEnds`: the run of one month stands at 600 and 2,200; its record ends there, and no other amount, nor a negative one, does
@@ -376,4 +388,48 @@ ends-elsewhere = (
   (λ h. apart refl (h 0 refl .1)),
   (λ h. apart refl (sym (h 0 refl .0))),
   (λ h. apart refl (sym (h 0 refl .1))),
+)
+
+-- ---- `AbatesIn`: S2's and S3's months. A drought of -1,000 abates with Z -149 and 1,040, not with -150, steady, or 1,041, ended; and it is no wet spell
+abbrev dry : Run
+dry =
+    record {
+      months = 1;
+      opens = 0;
+      calendar = 1;
+      soil = runForZ .soil;
+      values = record { x1 = pos 0; x2 = pos 0; x3 = minus 1000; v = pos 0 };
+      constants = [];
+    }
+
+pub abates-in : AbatesIn false dry (minus 149) × AbatesIn false dry (pos 1040)
+unfolding turn uOf vOf eOf endingOf
+abates-in = ((record { lt = tt }, refl), (record { lt = tt }, refl))
+
+pub abates-not : (AbatesIn false dry (minus 150) → ⊥) × (AbatesIn false dry (pos 1041) → ⊥) × (AbatesIn true dry (minus 149) → ⊥)
+unfolding turn uOf vOf eOf endingOf
+abates-not = ((λ h. let k : _≡_ {A = ℕ} 0 1 = cc in omega arith), (λ h. let k : _≡_ {A = ℕ} 0 1 = cc in omega arith), (λ h. absurd (h .0 .lt)))
+
+-- ---- `Kept`: no other X1, X2, X3, record or V; of index and mark it says nothing
+abbrev holding : ℤ → ℤ → ℤ → ℤ → ℕ → List ℤ → ℤ → State
+holding x1 x2 x3 index mark numbers v = standing dry (book (x1 ∷ []) (x2 ∷ []) (x3 ∷ []) (index ∷ []) (mark ∷ []) (numbers ∷ []) (v ∷ []))
+
+abbrev held : State
+held = holding (pos 1) (pos 2) (pos 3) (pos 4) 5 (pos 6 ∷ []) (pos 7)
+
+pub keeps : Kept held (holding (pos 1) (pos 2) (pos 3) (pos 14) 15 (pos 6 ∷ []) (pos 7)) 0
+keeps = record { x1 = refl; x2 = refl; x3 = refl; numbers = refl; v = refl }
+
+pub keeps-not :
+    (Kept held (holding (pos 11) (pos 2) (pos 3) (pos 4) 5 (pos 6 ∷ []) (pos 7)) 0 → ⊥)
+    × (Kept held (holding (pos 1) (pos 12) (pos 3) (pos 4) 5 (pos 6 ∷ []) (pos 7)) 0 → ⊥)
+    × (Kept held (holding (pos 1) (pos 2) (pos 13) (pos 4) 5 (pos 6 ∷ []) (pos 7)) 0 → ⊥)
+    × (Kept held (holding (pos 1) (pos 2) (pos 3) (pos 4) 5 (pos 16 ∷ []) (pos 7)) 0 → ⊥)
+    × (Kept held (holding (pos 1) (pos 2) (pos 3) (pos 4) 5 (pos 6 ∷ []) (pos 17)) 0 → ⊥)
+keeps-not = (
+  (λ h. apart refl (h .x1)),
+  (λ h. apart refl (h .x2)),
+  (λ h. apart refl (h .x3)),
+  (λ h. apart refl (ap (λ (n : List ℤ). getD n 0 (pos 0)) (h .numbers))),
+  (λ h. apart refl (h .v)),
 )

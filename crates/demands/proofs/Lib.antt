@@ -23,6 +23,7 @@ pub mod SeasonGiven
 pub mod Longer
 pub mod GoesOn
 pub mod Recorded
+pub mod Modified
 pub mod Table
 pub mod Rejected
 pub mod SeasonRejected

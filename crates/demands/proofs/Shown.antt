@@ -33,7 +33,7 @@ use Rattle.adding.specs.Figures.{figuresOf, waterFigures}
 use Rattle.drought.specs.Calls.{addOutcomes, addWater, addInches, addZ}
 use Rattle.adding.specs.Taken.{Result, heldBy, soilAfter, taken, takenWater, takenZ, answered}
 use Rattle.adding.proofs.Readiness.{run-is}
-use Rattle.demands.specs.Months.{Ask, water, inches, anomaly, asked, State, after, afterAll, Accepted, stationOf, watered, zFor, soilFor, waterFor, stationNext, stationRow, noRow}
+use Rattle.demands.specs.Months.{Ask, water, inches, anomaly, asked, State, after, afterAll, Accepted, stationOf, watered, zFor, modifiedFor, soilFor, waterFor, stationNext, stationRow, noRow}
 use Rattle.demands.proofs.Took.{Took, took, settled-is, held-next}
 use Rattle.demands.specs.Demands.{Fresh, first, numberOf, Answers, valuesAt, Balances, rowsSoFar}
 use Rattle.hindsight_laws.proofs.Steps.{rows-long, rows-append}
@@ -75,7 +75,7 @@ refused-start cs c ss su m = go (startRefusal cs c ss su m)
 
 -- the figures of an accepted month are those that the rules give
 pub figures-are : (r : Run) (a : Ask) (cs : Book) → asked r a cs .answer .number ≡ 0
-    → asked r a cs .answer .figures ≡ figuresOf (waterFor (stationOf r) a) (zFor (stationOf r) a) (stepOf (r .values) (zFor (stationOf r) a))
+    → asked r a cs .answer .figures ≡ figuresOf (waterFor (stationOf r) a) (zFor (stationOf r) a) (stepOf (r .values) (zFor (stationOf r) a)) (modifiedFor (stationOf r) a)
 unfolding taken
 figures-are r a cs h = ap (λ (b : Result). b .answer .figures) (took r cs a h .did)
 

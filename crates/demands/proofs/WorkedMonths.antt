@@ -1,4 +1,4 @@
--- Document 01's worked months, W1 to W4 and S1 to S6, with thin soils, a K of 0, the outline's numbers and whole answers: one table, one
+-- Document 01's worked months, W1 to W4 and S1 to S6, with thin soils, a K of 0, the outline's numbers, the modified index and whole answers: one table, one
 -- claim, by computation. Assumes nothing.
 use mathlib.Core.Path.{_≡_, refl}
 use mathlib.Core.Bool.{true}
@@ -25,10 +25,11 @@ use Rattle.season_month.specs.Listed.{listed}
 use Rattle.season.specs.Season.{addEach, seasonRefusal, addSeason}
 use Rattle.spells.specs.Spells.{raised, lowered, largerInSize, provisional, steadyMonth, abatingValues, abatingMonth, founded, unfounded, tried, noSpell, endingMonth, inForce, stepOf}
 use Rattle.ending.specs.Ending.{turn, uOf, vOf, eOf, qOf, endingOf, percentOf}
+use Rattle.modified.specs.Modified.{mixed, side, leaning, modifiedBy, modifiedIn, modifiedOf}
 use Rattle.spell_laws.specs.Worked.{s1, s23, s4-first, s4-second, s4-third, s56}
 use Rattle.demands.specs.Answered.{march, marchInches, october, november, december, january, season, refused, series}
 use Rattle.demands.specs.Worked.{workedTable, months}
 
 pub worked : agree workedTable ≡ true
-unfolding lengthFits zFits within nearestTo whole converted inches millimetres reading month calendarFits nextCalendar soilFits sizesFit signsFit vFits isRun isRunFor endsMeet amounts startOf listsFit seriesRefusal wholeSeries lengthsFit runRefusal roomRefusal waterRefusal zRefusal rowRefusal taken takenWater addOutcomes addWater addInches addZ rowOfRun listed addEach seasonRefusal addSeason march marchInches october november december january season refused series nearest nearestℕ limitOf constantFits constantsFitTo constantsAt zeroKWithin capacityFits storagesFit monthFits startRefusal surfaceHolds underlyingHolds underLoss lossSurface lossUnderlying dryMonth toSurface toUnderlying wetMonth balanceOf potentialSurface potentialUnderlying potentialsOf nOf cafecOf zOf expectedOf monthOf nextOf turn uOf vOf eOf qOf endingOf percentOf raised lowered largerInSize provisional steadyMonth abatingValues abatingMonth founded unfounded tried noSpell endingMonth inForce stepOf s1 s23 s4-first s4-second s4-third s56 months
+unfolding lengthFits zFits within nearestTo whole converted inches millimetres reading month calendarFits nextCalendar soilFits sizesFit signsFit vFits isRun isRunFor endsMeet amounts startOf listsFit seriesRefusal wholeSeries lengthsFit runRefusal roomRefusal waterRefusal zRefusal rowRefusal taken takenWater addOutcomes addWater addInches addZ rowOfRun listed addEach seasonRefusal addSeason march marchInches october november december january season refused series nearest nearestℕ limitOf constantFits constantsFitTo constantsAt zeroKWithin capacityFits storagesFit monthFits startRefusal surfaceHolds underlyingHolds underLoss lossSurface lossUnderlying dryMonth toSurface toUnderlying wetMonth balanceOf potentialSurface potentialUnderlying potentialsOf nOf cafecOf zOf expectedOf monthOf nextOf turn uOf vOf eOf qOf endingOf percentOf raised lowered largerInSize provisional steadyMonth abatingValues abatingMonth founded unfounded tried noSpell endingMonth inForce stepOf mixed side leaning modifiedBy modifiedIn modifiedOf s1 s23 s4-first s4-second s4-third s56 months
 worked = refl

@@ -94,6 +94,7 @@ marchSaid =
         x3 = pos 0;
         index = minus 563;
         mark = 2;
+        modified = minus 563;
       };
       run = record {
         months = 1;
@@ -120,6 +121,7 @@ novemberSaid =
         x3 = minus 2454;
         index = minus 2454;
         mark = 1;
+        modified = minus 1009;
       };
       run = record {
         months = 2;
@@ -146,6 +148,7 @@ refusedSaid =
         x3 = pos 0;
         index = pos 0;
         mark = 0;
+        modified = pos 0;
       };
       run = novemberSaid .run;
     }
@@ -153,7 +156,8 @@ refusedSaid =
 -- December, with 8090, 1090, 590, 2090, K 15090. A want of 550: Ls 300, and Lu is 250 x 5,000 / 6,000, 208.33; ET = 400 + 300 + 208. PR = 6,000 -
 -- 5,300. PLs 300, PLu is 650 x 5,000 / 6,000, 541.67. N = 7,685,500 + 763,000 + 3,127,000 - 1,759,780 is 9,815,720, so that CAFEC is 981.57,
 -- and Z is 15,090 x -5,815,720 / 100,000,000, -877.59. The drought abates: V = -878 + 150 + 3,740; next(1,197) is 781.04, next(0)
--- -292.67, next(-2,454) -2,493.9; E = 2,691 x 2,454 - 1,500,000 is 5,103,714, Q 8,843,714, and the percent 34.06. Open
+-- -292.67, next(-2,454) -2,493.9; E = 2,691 x 2,454 - 1,500,000 is 5,103,714, Q 8,843,714, and the percent 34.06. Open. The modified index is (5,831,714 x
+-- -2,494 + 3,012,000 x 781) / 8,843,714, -1,378.6
 abbrev decemberSaid : Added
 decemberSaid =
     record {
@@ -168,6 +172,7 @@ decemberSaid =
         x3 = minus 2494;
         index = minus 2494;
         mark = 1;
+        modified = minus 1379;
       };
       run = record {
         months = 3;
@@ -197,6 +202,7 @@ januarySaid =
         x3 = pos 3345;
         index = pos 3345;
         mark = 2;
+        modified = pos 3345;
       };
       run = record {
         months = 4;
@@ -209,26 +215,26 @@ januarySaid =
     }
 
 -- each month's record (document 02, E6), from the figures above: Z, P, PE, ET, R, L = Ls + Lu, RO, the storages that the month before left, those
--- at its end, and 1 for a month that had water. "A Z-only month records its Z .., zeros for the six water figures and the carried storages"
+-- at its end, 1 for a month that had water, and the modified index (E4). "A Z-only month records its Z .., zeros for the six water figures and the carried storages"
 abbrev marchRecord : List ℤ
 marchRecord =
-    minus 1688 ∷ pos 1000 ∷ pos 2500 ∷ pos 2000 ∷ pos 0 ∷ pos 1000 ∷ pos 0 ∷ pos 500 ∷ pos 3000 ∷ pos 0 ∷ pos 2500 ∷ pos 1 ∷ []
+    minus 1688 ∷ pos 1000 ∷ pos 2500 ∷ pos 2000 ∷ pos 0 ∷ pos 1000 ∷ pos 0 ∷ pos 500 ∷ pos 3000 ∷ pos 0 ∷ pos 2500 ∷ pos 1 ∷ minus 563 ∷ []
 
 abbrev octoberRecord : List ℤ
 octoberRecord =
-    minus 12210 ∷ pos 0 ∷ pos 0 ∷ pos 0 ∷ pos 0 ∷ pos 0 ∷ pos 0 ∷ pos 300 ∷ pos 5000 ∷ pos 300 ∷ pos 5000 ∷ pos 0 ∷ []
+    minus 12210 ∷ pos 0 ∷ pos 0 ∷ pos 0 ∷ pos 0 ∷ pos 0 ∷ pos 0 ∷ pos 300 ∷ pos 5000 ∷ pos 300 ∷ pos 5000 ∷ pos 0 ∷ minus 4070 ∷ []
 
 abbrev novemberRecord : List ℤ
 novemberRecord =
-    pos 3590 ∷ pos 0 ∷ pos 0 ∷ pos 0 ∷ pos 0 ∷ pos 0 ∷ pos 0 ∷ pos 300 ∷ pos 5000 ∷ pos 300 ∷ pos 5000 ∷ pos 0 ∷ []
+    pos 3590 ∷ pos 0 ∷ pos 0 ∷ pos 0 ∷ pos 0 ∷ pos 0 ∷ pos 0 ∷ pos 300 ∷ pos 5000 ∷ pos 300 ∷ pos 5000 ∷ pos 0 ∷ minus 1009 ∷ []
 
 abbrev decemberRecord : List ℤ
 decemberRecord =
-    minus 878 ∷ pos 400 ∷ pos 950 ∷ pos 908 ∷ pos 0 ∷ pos 508 ∷ pos 0 ∷ pos 300 ∷ pos 5000 ∷ pos 0 ∷ pos 4792 ∷ pos 1 ∷ []
+    minus 878 ∷ pos 400 ∷ pos 950 ∷ pos 908 ∷ pos 0 ∷ pos 508 ∷ pos 0 ∷ pos 300 ∷ pos 5000 ∷ pos 0 ∷ pos 4792 ∷ pos 1 ∷ minus 1379 ∷ []
 
 abbrev januaryRecord : List ℤ
 januaryRecord =
-    pos 7933 ∷ pos 5900 ∷ pos 400 ∷ pos 400 ∷ pos 1208 ∷ pos 0 ∷ pos 4292 ∷ pos 0 ∷ pos 4792 ∷ pos 1000 ∷ pos 5000 ∷ pos 1 ∷ []
+    pos 7933 ∷ pos 5900 ∷ pos 400 ∷ pos 400 ∷ pos 1208 ∷ pos 0 ∷ pos 4292 ∷ pos 0 ∷ pos 4792 ∷ pos 1000 ∷ pos 5000 ∷ pos 1 ∷ pos 3345 ∷ []
 
 -- at a place that no month has
 abbrev noMonth : List ℤ
@@ -338,6 +344,7 @@ eachFigure f said =
     ∷ (f .x3 gives said .x3)
     ∷ (f .index gives said .index)
     ∷ (pos (f .mark) gives pos (said .mark))
+    ∷ (f .modified gives said .modified)
     ∷ [])
 
 abbrev eachAnswer : Added → Added → List Row
@@ -398,6 +405,7 @@ eachOfMonth m said =
     ∷ (m .surface gives said .surface)
     ∷ (m .underlying gives said .underlying)
     ∷ (m .water gives said .water)
+    ∷ (m .modified gives said .modified)
     ∷ []
 
 abbrev eachOfRow : Shown → Shown → List Row
@@ -437,6 +445,7 @@ rowTable =
             surface = pos 0;
             underlying = pos 4792;
             water = pos 1;
+            modified = minus 1379;
           };
       v = pos 3012;
     })
@@ -454,6 +463,7 @@ rowTable =
       surface = pos 1000;
       underlying = pos 5000;
       water = pos 1;
+      modified = pos 3345;
     })
     ++ (eachOfMonth (row 0 .month)
     (record {
@@ -469,6 +479,7 @@ rowTable =
       surface = pos 300;
       underlying = pos 5000;
       water = pos 0;
+      modified = minus 4070;
     })
     ++ eachOfRow (row 4)
     (record {
@@ -492,6 +503,7 @@ rowTable =
             surface = pos 0;
             underlying = pos 0;
             water = pos 0;
+            modified = pos 0;
           };
       v = pos 0;
     })))

@@ -13,6 +13,7 @@ use Rattle.water.specs.declared.Month.{Month}
 use Rattle.spells.specs.Spells.{stepOf}
 use Rattle.spells.specs.declared.Running.{Running}
 use Rattle.spells.specs.declared.Decision.the-variants.{Nothing}
+use Rattle.modified.specs.Modified.{modifiedOf}
 use Rattle.hindsight.specs.Rule.{Row}
 use Rattle.hindsight.specs.Columns.{rowsOf}
 use Rattle.hindsight.specs.Months.{rowFor}
@@ -123,9 +124,13 @@ stationNext s a =
       values = stepOf (s .values) (zFor s a) .after;
     }
 
+-- the month's modified index (document 02, E4)
+abbrev pub modifiedFor : Station → Ask → ℤ
+modifiedFor s a = modifiedOf (s .values) (zFor s a)
+
 -- the month's figures
 abbrev pub figuresFor : Station → Ask → Figures
-figuresFor s a = figuresOf (waterFor s a) (zFor s a) (stepOf (s .values) (zFor s a))
+figuresFor s a = figuresOf (waterFor s a) (zFor s a) (stepOf (s .values) (zFor s a)) (modifiedFor s a)
 
 -- those of months, one after another
 abbrev pub figuresOfMonths : Station → List Ask → List Figures
@@ -134,9 +139,9 @@ figuresOfMonths s (a ∷ later) = figuresFor s a ∷ figuresOfMonths (stationNex
 
 -- the month's record (document 02, E6): of water by either call, or of an added Z
 abbrev pub recordFor : Station → Ask → Record
-recordFor s (water p pe) = waterRecord (s .soil) (reading p .water) (reading pe .water) (watered s (reading p .water) (reading pe .water))
-recordFor s (inches q) = waterRecord (s .soil) (month q .p .water) (month q .pe .water) (watered s (month q .p .water) (month q .pe .water))
-recordFor s (anomaly z) = zRecord (s .soil) z
+recordFor s (water p pe) = waterRecord (s .soil) (reading p .water) (reading pe .water) (watered s (reading p .water) (reading pe .water)) (modifiedFor s (water p pe))
+recordFor s (inches q) = waterRecord (s .soil) (month q .p .water) (month q .pe .water) (watered s (month q .p .water) (month q .pe .water)) (modifiedFor s (inches q))
+recordFor s (anomaly z) = zRecord (s .soil) z (modifiedFor s (anomaly z))
 
 -- those of months, one after another
 abbrev pub recordsOfMonths : Station → List Ask → List Record

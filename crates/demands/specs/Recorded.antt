@@ -84,6 +84,7 @@ recordBy r a b =
       surface = pos (b .run .soil .surface);
       underlying = pos (b .run .soil .underlying);
       water = waterMark a;
+      modified = b .figures .modified;
     }
 
 -- "after any month, the last row's end storages equal the run's"

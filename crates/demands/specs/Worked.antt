@@ -1,6 +1,6 @@
 -- Document 01, "Worked months": the marked cases W1 to W4 and S1 to S6 as ONE table, with document 02's thin soils (E5) beside W1 to W4, starts at
 -- and beside the ends of every range and with a K of 0 (E11), where a month's constants stand among the sixty, the outline's other numbers, and
--- whole answers of months of water. The water's, the calendar's, the starts' and the single months' rows stand with their crates, the numbers
+-- whole answers of months of water; and the modified index of S1 to S6 and at its ends (E4). The water's, the calendar's, the starts' and the single months' rows stand with their crates, the numbers
 -- in Pinned.antt and the answers in Answered.antt beside this file; here they are joined by what S5 and S6 say of settling. That every row agrees is the one claim
 -- `worked` of proofs/WorkedMonths.antt. Assumes nothing.
 use Prim.Native.Nat.{ℕ}
@@ -12,6 +12,7 @@ use Rattle.water.specs.Worked.{waterTable, thinTable}
 use Rattle.calendar.specs.Worked.{placeTable}
 use Rattle.starts.specs.Worked.{soilTable, kTable, rangeTable}
 use Rattle.spell_laws.specs.Worked.{spellTable}
+use Rattle.modified.specs.Worked.{modifiedTable}
 use Rattle.hindsight.specs.Rule.{Row, forward}
 use Rattle.hindsight.specs.Columns.{rowsOf}
 use Rattle.hindsight.specs.Adding.{addAll}
@@ -64,6 +65,7 @@ workedTable =
     ++ (rangeTable
     ++ (numbersTable
     ++ (spellTable
+    ++ (modifiedTable
     ++ (settling (months (minus 1130)) (minus 2454) (minus 2688) (minus 2944) (minus 3017)
     ++ (settling (months (pos 6273)) (pos 1197) (minus 487) (minus 970) (pos 2091)
-    ++ answerTable)))))))))
+    ++ answerTable))))))))))

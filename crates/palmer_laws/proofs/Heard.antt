@@ -13,6 +13,7 @@ use Rattle.runs.specs.declared.Run.{Run}
 use Rattle.starts.specs.Start.{ones}
 use Rattle.starts.proofs.Theorems.{start-is-run, z-starts}
 use Rattle.lines.specs.Line.{wellFormed, value, ranged, judged}
+use Rattle.modified.specs.Modified.{modifiedOf}
 use Rattle.records.specs.Record.{zRecord}
 use Rattle.records.specs.declared.Record.{Record}
 use Rattle.records.proofs.Meeting.{after-none}
@@ -92,7 +93,7 @@ module _ (n : ℕ) (t : State) (s : Sound n t) where
   added z zero e =
       let g = z-passes run cs z e in
       let f = run-is run cs (s .good) .soil in
-      let kept : Record = zRecord (run .soil) z in
+      let kept : Record = zRecord (run .soil) z (modifiedOf (run .values) z) in
       rw e
       (record {
         number = refl;

@@ -17,6 +17,7 @@ use Rattle.door.proofs.Bounds.{reading-most}
 use Rattle.spells.specs.Spells.{stepOf}
 use Rattle.hindsight.specs.Months.{rowFor}
 use Rattle.runs.specs.declared.Run.{Run}
+use Rattle.modified.specs.Modified.{modifiedOf}
 use Rattle.records.specs.Record.{waterRecord}
 use Rattle.refusals.specs.Book.{Book}
 use Rattle.refusals.specs.Good.{Good}
@@ -44,7 +45,7 @@ module _ (r : Run) (p pe : Reading) (cs : Book) (h : addWater r p pe cs .answer 
   good-next =
       let t = took-water r cs (reading p) (reading pe) (reading-most p) (reading-most pe) h in
       let w = waterOf r (reading p .water) (reading pe .water) in
-      rw (t .did) (good-taken r cs (t .good) (t .room) (soilAfter (r .soil) w) (t .soil) (waterFigures (reading p .water) (reading pe .water) w) (w .z) (t .z) (waterRecord (r .soil) (reading p .water) (reading pe .water) w) refl refl)
+      rw (t .did) (good-taken r cs (t .good) (t .room) (soilAfter (r .soil) w) (t .soil) (waterFigures (reading p .water) (reading pe .water) w) (w .z) (t .z) (waterRecord (r .soil) (reading p .water) (reading pe .water) w (modifiedOf (r .values) (w .z))) refl refl)
 
   -- one month more, and no more settled than were open before it, with it
   pub counts-next : (b .answer .run .months ≡ suc (r .months)) × (b .answer .settled + b .answer .run .opens ≤ suc (r .opens))

@@ -5,7 +5,7 @@ use Prim.Native.Nat.{ℕ, _≤_, _<_}
 use native.Mathlib.Omega.{arith}
 use borrow.Author.Needs.{needs}
 use lib.ListN.{length, set, length-set}
-use mir.Syntax.{w64}
+use mir.Syntax.{w32, w64}
 use mir.Val.{SFits}
 use mir.Facts.{toZ-ofZ}
 use denote.Ref.{now}
@@ -190,77 +190,81 @@ month-is c =
     let k = c .before .constants-at in
     measured (a .at) (now (a .constants)) (k .result) (k .ensures) (watered-is e) (p-of e) (pe-of e) (waters e) (c .month-of .result) (c .month-of .ensures)
 
+abbrev reckoned : tie.After-struct-told → tie.After-month-of
+reckoned c = c .before .before .before .before .before .before
+
+add-spells-requires : tie.Need-add-spells-requires
+add-spells-requires c κs =
+    let d = reckoned c in
+    let f = month-is d .fits in
+    (ready-is (spared d), simp toZ-ofZ (month-is d .bounded))
+
+-- the month of water, of what the spells leave
+abbrev made : tie.After-add-spells → tie.After-month-of
+made t = reckoned (t .before)
+
 water-record-requires : tie.Need-water-record-requires
-water-record-requires c κs = month-is c .kept
+water-record-requires c κs = month-is (made (c .before .before .before .before .before .before .before .before)) .kept
 
 cast-put : tie.Need-cast-put
 cast-put c = search needs
 
 -- its place among the records
-abbrev reckoned : tie.After-put-arg → tie.After-month-of
-reckoned c = c .before .before .before
-
 put-requires : tie.Need-put-requires
-put-requires c κs = placed-is (spared (reckoned c)) .0
-
-abbrev noted : tie.After-add-spells → tie.After-put
-noted t = t .before .before .before .before .before .before .before .before
-
-abbrev made : tie.After-add-spells → tie.After-month-of
-made t = reckoned (noted t .before)
-
-add-spells-requires : tie.Need-add-spells-requires
-add-spells-requires c κs =
-    let d = reckoned (c .before .before .before .before .before .before .before .before) in
-    let f = month-is d .fits in
-    (ready-is (spared d), simp toZ-ofZ (month-is d .bounded))
+put-requires c κs = placed-is (spared (made (c .before .before .before .before .before .before .before .before .before .before .before))) .0
 
 cast-put-v : tie.Need-cast-put-v
 cast-put-v c = search needs
 
-abbrev spelled : tie.After-put-v → tie.After-add-spells
-spelled c = c .before .before .before .before .before .before .before .before .before .before .before
-
 put-v-requires : tie.Need-put-v-requires
-put-v-requires c κs = placed-is (spared (made (c .before .before .before .before .before .before .before .before .before .before))) .1
+put-v-requires c κs = placed-is (spared (made (c .before .before .before .before .before .before .before .before .before .before .before .before .before .before .before .before))) .1
 
 watered-requires : tie.Need-watered-requires
 watered-requires c κs =
-    let e = spared (made (spelled (c .before))) in
+    let e = spared (made (c .before .before .before .before .before .before .before .before .before .before .before .before .before .before .before .before .before .before)) in
     let r = ready-is e in
     (omega (arith, r .room, r .most), watered-is e .calendar)
 
+abbrev spelled : tie.After-put → tie.After-add-spells
+spelled n = n .before .before .before .before .before .before .before .before .before .before .before .before
+
 -- the record and V, as they are written
 put-wrote : (n : tie.After-put)
-    → let d = reckoned (n .before) in let e = spared d in let a = asked (e .before) .args in
-    n .put .last .1 .1 .0 ≡ set (now (a .records)) (a .at .months) (numbersOf (waterRecord (a .at .soil) (p-of e) (pe-of e) (d .month-of .result)))
-put-wrote n = rw (n .before .before .before .water-record .ensures) at (n .put .ensures)
+    → let t = spelled n in let e = spared (made t) in let a = asked (e .before) .args in
+    n .put .last .1 .1 .0 ≡ set (now (a .records)) (a .at .months) (numbersOf (waterRecord (a .at .soil) (p-of e) (pe-of e) (made t .month-of .result) (t .add-spells .result .modified)))
+put-wrote n =
+    let t = spelled n in
+    let f : SFits w32 (t .add-spells .result .modified) = record { sfits = n .before .before .before .before .struct-told2 .given .1 .1 .1 .1 .1 .0 .1 } in
+    rw (n .before .before .before .water-record .ensures, toZ-ofZ f) at (n .put .ensures)
 
-put-v-wrote : (u : tie.After-put-v) → let t = spelled u in let a = asked (spared (made t) .before) .args in u .put-v .last .1 .1 .0 ≡ set (now (a .v)) (a .at .months) (t .add-spells .result .values .v)
+abbrev noted : tie.After-put-v → tie.After-put
+noted u = u .before .before .before .before .before
+
+put-v-wrote : (u : tie.After-put-v) → let t = spelled (noted u) in let a = asked (spared (made t) .before) .args in u .put-v .last .1 .1 .0 ≡ set (now (a .v)) (a .at .months) (t .add-spells .result .values .v)
 put-v-wrote u =
-    let t = spelled u in
-    let f : SFits w64 (t .add-spells .result .values .v) = record { sfits = u .before .struct-told2 .given .1 .1 .1 .0 .1 } in
+    let t = spelled (noted u) in
+    let f : SFits w64 (t .add-spells .result .values .v) = record { sfits = u .before .struct-told3 .given .1 .1 .1 .0 .1 } in
     rw (toZ-ofZ f) at (u .put-v .ensures)
 
 same-length : tie.Need-same-length
-same-length c = search needs
+same-length c = let x = c .before .before .before .before .before .before .before .before .before .before .before .before .before .before .before .before .before .before .x1 in search needs
 
 same-length-2 : tie.Need-same-length-2
-same-length-2 c = search needs
+same-length-2 c = let x = c .before .before .before .before .before .before .before .before .before .before .before .before .before .before .before .before .before .x2 in search needs
 
 same-length-3 : tie.Need-same-length-3
-same-length-3 c = search needs
+same-length-3 c = let x = c .before .before .before .before .before .before .before .before .before .before .before .before .before .before .before .before .x3 in search needs
 
 same-length-4 : tie.Need-same-length-4
-same-length-4 c = search needs
+same-length-4 c = let x = c .before .before .before .before .before .before .before .before .before .before .before .before .before .before .before .index in search needs
 
 same-length-5 : tie.Need-same-length-5
-same-length-5 c = search needs
+same-length-5 c = let x = c .before .before .before .before .before .before .before .before .before .before .before .before .before .before .mark in search needs
 
 same-length-6 : tie.Need-same-length-6
 same-length-6 c =
-    let n = noted (spelled (c .before .before)) in
-    let a = asked (spared (reckoned (n .before)) .before) .args in
+    let n = noted (c .before .before) in
+    let a = asked (spared (made (spelled n)) .before) .args in
     ap length (put-wrote n) ∙ length-set (now (a .records)) _ _
 
 same-length-7 : tie.Need-same-length-7
@@ -269,7 +273,8 @@ same-length-7 c = search needs
 returns-4 : tie.Need-returns-4
 returns-4 c =
     let u = c .before .before in
-    let t = spelled u in
+    let n = noted u in
+    let t = spelled n in
     let d = made t in
     let e = spared d in
     let s = asked (e .before) in
@@ -278,9 +283,9 @@ returns-4 c =
     let ds = columns (l .0) (l .1 .0) (l .1 .1 .0) (l .1 .1 .1 .0) (l .1 .1 .1 .1 .0) in
     let p = ap (λ (o : Outcome). o .water) (first-water (first e)) in
     let q = ap (λ (o : Outcome). o .water) (second-water (second e)) in
-    accepted-as (a .at) (now (a .constants)) (listed (a .p)) (listed (a .pe)) (lent s) (s .pre) (room-is (e .before) ∙ e .if1 .left) (result (addedOf (c .watered .result) (now (a .constants))) (bookOf ds (noted t .put .last .1 .1 .0) (u .put-v .last .1 .1 .0)))
+    accepted-as (a .at) (now (a .constants)) (listed (a .p)) (listed (a .pe)) (lent s) (s .pre) (room-is (e .before) ∙ e .if1 .left) (result (addedOf (c .watered .result) (now (a .constants))) (bookOf ds (n .put .last .1 .1 .0) (u .put-v .last .1 .1 .0)))
     (rw (p, q) (measured-is (a .at) (now (a .constants)) (p-of e) (pe-of e) (d .month-of .result) (month-is d) (lent s) ds (t .add-spells .result)
-    (rw (toZ-ofZ (month-is d .fits)) at (t .add-spells .ensures)) (noted t .put .last .1 .1 .0) (put-wrote (noted t)) (u .put-v .last .1 .1 .0) (put-v-wrote u) (c .watered .result) (c .watered .ensures)))
+    (rw (toZ-ofZ (month-is d .fits)) at (t .add-spells .ensures)) (n .put .last .1 .1 .0) (put-wrote n) (u .put-v .last .1 .1 .0) (put-v-wrote u) (c .watered .result) (c .watered .ensures)))
 
 pub add-listed-spec : {M : Type 1} → statement M
 add-listed-spec =
@@ -303,10 +308,10 @@ add-listed-spec =
     returns-3
     constants-at-requires
     month-of-requires
+    add-spells-requires
     water-record-requires
     cast-put
     put-requires
-    add-spells-requires
     cast-put-v
     put-v-requires
     watered-requires
