@@ -246,9 +246,9 @@ impl Lists {
     }
 }
 
-fn all_of(record: &Record) -> [i32; 12] {
-    let Record { z, p, pe, et, r, l, ro, ss, su, surface, underlying, water } = *record;
-    [z, p, pe, et, r, l, ro, ss, su, surface, underlying, water]
+fn all_of(record: &Record) -> [i32; 13] {
+    let Record { z, p, pe, et, r, l, ro, ss, su, surface, underlying, water, modified } = *record;
+    [z, p, pe, et, r, l, ro, ss, su, surface, underlying, water, modified]
 }
 
 // ---- The rounds --------------------------------------------------------------------------------------------
@@ -391,7 +391,7 @@ mod row {
     }
 
     fn sum(shown: &Shown) -> u32 {
-        let last = shown.month.water + shown.v as i32;
+        let last = shown.month.water + shown.month.modified + shown.v as i32;
         (shown.x1 + shown.x2 + shown.x3 + shown.index + shown.month.z + last) as u32 + u32::from(shown.mark)
     }
 

@@ -147,6 +147,7 @@ pub struct Figures {
     pub x3: i32,
     pub index: i32,
     pub mark: u8,
+    pub modified: i32,
 }
 
 #[repr(C)]
@@ -178,7 +179,7 @@ pub struct MonthInches {
     pub pe: f32,
 }
 
-/// A month's water as its column holds it; `water` is `HAD_WATER`, or `HAD_NO_WATER` where the month was added as a Z.
+/// A month's record as its column holds it; `water` is `HAD_WATER`, or `HAD_NO_WATER` where the month was added as a Z.
 #[repr(C)]
 #[derive(Clone, Copy, Debug, Default, PartialEq, Eq)]
 pub struct Record {
@@ -194,6 +195,7 @@ pub struct Record {
     pub surface: i32,
     pub underlying: i32,
     pub water: i32,
+    pub modified: i32,
 }
 
 #[repr(C)]

@@ -30,6 +30,10 @@
  * Every month is marked open or settled. An open month shows a provisional index and may still change. A
  * settled month never changes, and its index is what hindsight over the whole series would have chosen.
  *
+ * Beside Palmer's index each month has the modified index of Heddinghaus and Sabol, for whoever cannot wait
+ * until a month is settled. It is fixed when the month is added, and while a spell abates it stands between X3
+ * and the other side, X1 or X2, by the chance that the spell has ended: see card_record.
+ *
  * Each call answers with a number: 0 where it did what it was asked, and otherwise the refusal, from the
  * list below. A refused call writes nothing that was lent, answers with all figures 0 and hands back the
  * run as it was given (a refused start: a run of zeros). Where several refusals hold, the first in the
@@ -81,7 +85,7 @@
  * It is counted from the return address, which is included, down to the lowest word of 8 bytes that was
  * written by the call or by what it calls, memcpy and memset included. Not counted is what the caller
  * keeps: the arguments that are passed on the stack (a run alone is 288 bytes), the room for the answer
- * (card_started 296 bytes, card_added 368, card_season 376, card_shown 80) and what the inline functions
+ * (card_started 296 bytes, card_added 376, card_season 376, card_shown 88) and what the inline functions
  * of this header put into the caller's frame; nor is an interrupt. The figures are the deepest seen over
  * months and refusals of all sorts: measured, not proved.
  */
@@ -288,8 +292,8 @@ card_started card_start(const int32_t *constants, size_t constants_length,
 /* Whether a month had water, as its record says it last: only 1 is water. */
 enum { CARD_HAD_NO_WATER = 0, CARD_HAD_WATER = 1 };
 
-/* A month's record: its Z, its water and what the soil stored, in thousandths, of an inch but for Z. It is
- * 48 bytes without gaps. No number but z is ever below 0.
+/* A month's record: its Z, its water, what the soil stored and its modified index, in thousandths, of an inch
+ * but for Z and the index. It is 52 bytes without gaps. No number but these two is ever below 0.
  *
  * The add that takes the month writes its record, at the month's place, and no add to the run that it hands
  * back writes it again: the index of an open month may change, its record does not. Places after the last
@@ -302,7 +306,16 @@ enum { CARD_HAD_NO_WATER = 0, CARD_HAD_WATER = 1 };
  *
  * An added Z has no water: p to ro are 0, and the storages at its end are those at its start. A run's first
  * month starts with the storages that card_start was given, every other with those at the end of the month
- * before. */
+ * before.
+ *
+ * The modified index is, nearest, with the X1, X2 and X3 that the month leaves,
+ *
+ *     (1 - p) X3 + p X1      while a drought abates, where percent is 1 to 99 and X3 below 0
+ *     (1 - p) X3 + p X2      while a wet spell abates, where percent is 1 to 99 and X3 above 0
+ *
+ * p is the chance that the spell has ended, before it is rounded to the percent. In every other month it is
+ * what index was when the month was added: X3 if that is not 0, else the larger in size of X1 and X2, X2 where
+ * they tie. */
 typedef struct card_record {
     int32_t z;          /* Z, as it was reckoned or given */
     int32_t p;          /* precipitation */
@@ -316,19 +329,25 @@ typedef struct card_record {
     int32_t surface;    /* what the surface layer stored at the month's end */
     int32_t underlying; /* what the underlying layer stored then */
     int32_t water;      /* CARD_HAD_WATER, or of an added Z CARD_HAD_NO_WATER */
+    int32_t modified;   /* the modified index */
 } card_record;
 
 /* The seven columns that hold a run's months, each with its length: X1, X2, X3, index and mark, the records,
  * and V after each month, which is written as a record is. They are to be of one length, 1 to
- * CARD_MOST_MONTHS, which is how many months the run can come to hold; a month takes 73 bytes in all, the
- * longest columns 876,000. A struct of zeros is seven lists of length 0, and refused with 1.
+ * CARD_MOST_MONTHS, which is how many months the run can come to hold; a month takes 77 bytes in all, the
+ * longest columns 924,000. A struct of zeros is seven lists of length 0, and refused with 1.
  *
  * A card may hold five columns, from before records and V were kept. It goes on with the same run and two
  * lists more, as long as the five. It has no record of its months, and of the last one every call wants the
  * storages (7): where run.months is not 0, put run.soil's surface and underlying into the record at place
  * run.months - 1. That is the least, and all else in the two lists may be 0. A row then shows these months
- * without water and with a Z and a V of 0, and that says nothing of them. V after the last one is
- * run.values.v; the rest is had only by adding all months again, to a new run in other columns.
+ * without water and with a Z, a V and a modified index of 0, and that says nothing of them. V after the last
+ * one is run.values.v; the rest is had only by adding all months again, to a new run in other columns.
+ *
+ * A card may hold records of 48 bytes, from before the modified index was kept: the first twelve numbers of a
+ * record as it is now. Copy each into the beginning of a longer one and put 0 for modified, or anything: no
+ * call asks for it, and a row shows it as it stands. The run and the other six lists stay as they are. The
+ * modified indexes of these months, too, are had only by adding all months again.
  *
  * What a call answers and writes hangs on that length only where the months do not fit in (7) or fill it
  * (10). So columns made for 2,400, which was the most once, stay usable and give the same answers. And a
@@ -392,6 +411,7 @@ typedef struct card_figures {
     int32_t x3;
     int32_t index;    /* provisional where the mark is CARD_OPEN */
     uint8_t mark;     /* CARD_OPEN or CARD_SETTLED */
+    int32_t modified; /* the modified index, as the month's record keeps it */
 } card_figures;
 
 typedef struct card_added {
@@ -492,8 +512,8 @@ typedef struct card_shown {
     int32_t x3;
     int32_t index;
     uint8_t mark;
-    card_record month; /* its water and its soil, */
-    int64_t v;         /* and V after it, both as its add wrote them */
+    card_record month; /* its water, its soil and its modified index, */
+    int64_t v;         /* and V after it, all as its add wrote them */
 } card_shown;
 
 /* Shows a month's row, counted from 0: index and mark as they stand now, all else as the month left it.
@@ -502,7 +522,8 @@ static inline card_shown card_row_in(card_columns columns, card_run run, size_t 
 
 /* The whole series of a list of Z: fills a list of indexes and one of marks, equal in length, 1 to
  * CARD_MOST_MONTHS, as adding them one by one to a fresh run would. Refusals, in this order: 1, 12. It
- * answers with its number alone; a refused call writes nothing. */
+ * answers with its number alone; a refused call writes nothing. The indexes are Palmer's: it gives no modified
+ * ones. */
 uint8_t card_whole_series(const int32_t *z, size_t z_length,
                           int32_t *index, size_t index_length,
                           uint8_t *mark, size_t mark_length);
@@ -578,7 +599,7 @@ typedef struct card_none {
 } card_none;
 
 static inline card_none card_nothing(void) {
-    card_none none = {0, 0, {0, 0, 0, 0, 0, 0, 0, 0, 0, 0, 0, 0}, 0};
+    card_none none = {0, 0, {0, 0, 0, 0, 0, 0, 0, 0, 0, 0, 0, 0, 0}, 0};
     return none;
 }
 

@@ -2,6 +2,7 @@
 
 use crate::card::{Added, Run, Values};
 use crate::mirror::Turned;
+use crate::modified::{self, Mixed};
 use crate::random::Random;
 use crate::reference::{self, Decides};
 use crate::water::Kept;
@@ -63,6 +64,7 @@ pub struct Check {
     pub seasons: Seasons,
     pub turned: Turned,
     pub kept: Kept,
+    pub mixed: Mixed,
 }
 
 impl Check {
@@ -76,6 +78,7 @@ impl Check {
             seasons: Seasons::default(),
             turned: Turned::default(),
             kept: Kept::default(),
+            mixed: Mixed::default(),
         }
     }
 
@@ -93,6 +96,7 @@ impl Check {
     }
 
     pub fn account(&mut self, run: &Run, added: &Added) {
+        modified::hold(&mut self.mixed, run, added);
         let step = reference::spell_month(&run.values, added.figures.z);
         let b = &mut self.branches;
         b.courses[step.course as usize] += 1;
@@ -148,6 +152,7 @@ impl Check {
             "records of {} months of water, drying {}, filling {}, running off {}, and of {} Z; with a V {}",
             k.water, k.dried, k.filled, k.ran_off, k.z, k.v
         );
+        self.mixed.print();
         println!();
         let cases: u64 = self.kinds.iter().map(|kind| kind.1).sum();
         println!("cross-check: {cases} cases, no difference");

@@ -18,6 +18,7 @@ mod ends;
 mod lists;
 mod longer;
 mod mirror;
+mod modified;
 mod random;
 mod read;
 mod reference;
@@ -47,6 +48,7 @@ fn main() {
     worked::worked_months(&mut check);
     ends::ends(&mut check);
     water::records(&mut check, times);
+    modified::modified_indexes(&mut check, times);
     read::readings(&mut check, times);
     read::readings_exactly(&mut check);
     start::starts(&mut check, times);

@@ -1,6 +1,6 @@
 //! Series of Z from a fresh run beside the same with every sign changed: X1 and X2 change places, every sign of a month
 //! turns about, and its percent, mark and settled count stay. A provisional index stays exactly where X1 and X2 tie under
-//! no X3. And what a spell that ends leaves of X2, or of X1.
+//! no X3, and a modified one does so for good. And what a spell that ends leaves of X2, or of X1.
 
 use crate::add::Add;
 use crate::add_z::{pick_z, STYLES};
@@ -38,16 +38,24 @@ fn mirror(values: &Values) -> Values {
     Values { x1: -values.x2, x2: -values.x1, x3: -values.x3, v: -values.v }
 }
 
-/// Open, with no X3, and X1 and X2 of one size and not 0.
-fn excepted(([x1, x2, x3], _, mark, ..): &Held) -> bool {
-    *mark == 1 && *x3 == 0 && *x1 == -x2 && *x1 != 0
+/// With no X3, and X1 and X2 of one size and not 0.
+fn tied(([x1, x2, x3], ..): &Held) -> bool {
+    *x3 == 0 && *x1 == -x2 && *x1 != 0
+}
+
+/// Open, and tied.
+fn excepted(month: &Held) -> bool {
+    month.2 == 1 && tied(month)
 }
 
 fn holds_turned(plain: &Held, turned: &Held) {
     let ([x1, x2, x3], index, mark, record, v) = *plain;
     let shown = if excepted(plain) { x2 } else { -index };
-    assert_eq!(*turned, ([-x2, -x1, -x3], shown, mark, Record { z: -record.z, ..record }, -v));
+    let modified = if tied(plain) { x2 } else { -record.modified };
+    let month = Record { z: -record.z, modified, ..record };
+    assert_eq!(*turned, ([-x2, -x1, -x3], shown, mark, month, -v));
     assert!(!excepted(plain) || index == x2);
+    assert!(!tied(plain) || record.modified == x2);
 }
 
 /// Both series, month by month; then every month as it stands, and the whole series.

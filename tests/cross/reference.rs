@@ -1,7 +1,8 @@
-//! Document 01 in plain Rust and in its order, with document 02's season in one call (E2), thin soils (E5), rows that show
-//! the water (E6), longer lists (E9) and refused zero K (E11), written from these two alone, for the library to be compared
-//! with and measured against. The sentences quoted in the comments are the documents'. It shares the library's data types
-//! and nothing else. A call borrows the run and changes it only where it does what it was asked, a season month by month.
+//! Document 01 in plain Rust and in its order, with document 02's season in one call (E2), modified index (E4), thin soils
+//! (E5), rows that show the water (E6), longer lists (E9) and refused zero K (E11), written from these two alone, for the
+//! library to be compared with and measured against. The sentences quoted in the comments are the documents'. It shares
+//! the library's data types and nothing else. A call borrows the run and changes it only where it does what it was asked,
+//! a season month by month.
 #![allow(dead_code)]
 
 use crate::card::{self, Columns, Figures, MonthInches, Reading, Record, Run, Shown, Soil, Values, Water};
@@ -182,11 +183,14 @@ pub enum Decides {
     WithX3,
 }
 
-/// A month of spells: the values that it leaves, and how it came to them.
+/// A month of spells: the values that it leaves, its two indexes as it is added, and how it came to them.
 #[derive(Clone, Copy, Debug)]
 pub struct Step {
     pub values: Values,
     pub percent: u32,
+    /// What it decides, or else the provisional one.
+    pub index: i32,
+    pub modified: i32,
     pub course: Course,
     pub decides: Decides,
 }
@@ -206,26 +210,24 @@ pub fn spell_month(last: &Values, z: i32) -> Step {
         let u = i64::from(z) + 150;
         let v = u + last.v;
         let e = -2691 * x3 - 1_500_000;
-        let q = e + 1000 * last.v;
         if v <= 0 {
             steady(last, z)
         } else if 1000 * u >= e {
             no_spell(last, z, Course::Ended)
         } else {
-            abating(last, z, v, nearest(100_000 * v, q))
+            abating(last, z, v, e - 1000 * u)
         }
     } else if x3 > 500 {
         // "Wet spell: the mirror." V and Q are below 0 where it abates.
         let u = i64::from(z) - 150;
         let v = u + last.v;
         let e = -2691 * x3 + 1_500_000;
-        let q = e + 1000 * last.v;
         if v >= 0 {
             steady(last, z)
         } else if 1000 * u <= e {
             no_spell(last, z, Course::Ended)
         } else {
-            abating(last, z, v, nearest(-100_000 * v, -q))
+            abating(last, z, v, 1000 * u - e)
         }
     } else {
         // "Otherwise there is none, and X3 and V are read as 0."
@@ -236,16 +238,37 @@ pub fn spell_month(last: &Values, z: i32) -> Step {
 /// "X3 = next(X3), X1 = X2 = V = 0, percent 0. This month decides with X3."
 #[inline]
 fn steady(last: &Values, z: i32) -> Step {
-    let values = Values { x1: 0, x2: 0, x3: next(last.x3, z), v: 0 };
-    Step { values, percent: 0, course: Course::Steady, decides: Decides::WithX3 }
+    let x3 = next(last.x3, z);
+    let values = Values { x1: 0, x2: 0, x3, v: 0 };
+    Step { values, percent: 0, index: x3, modified: x3, course: Course::Steady, decides: Decides::WithX3 }
 }
 
-/// "X3 = next(X3), V kept, X1 = larger of 0 and next(X1), X2 = smaller of 0 and next(X2)." The percent is "held
-/// within 1 to 99. Nothing is decided."
+/// "X3 = next(X3), V kept, X1 = larger of 0 and next(X1), X2 = smaller of 0 and next(X2)." The percent is "nearest to
+/// 100,000 V / Q, held within 1 to 99. Nothing is decided." `left` is the size of Q - 1000 V, which is E - 1000 U: Q is E
+/// and 1000 times the V before, V is U and the V before. The provisional index is X3, beyond 500 in size.
+#[inline(always)]
+fn abating(last: &Values, z: i32, v: i64, left: i64) -> Step {
+    let (x1, x2, x3) = (next(last.x1, z).max(0), next(last.x2, z).min(0), next(last.x3, z));
+    let over = 1000 * v.abs();
+    let q = over + left;
+    let percent = nearest(100 * over, q).clamp(1, 99) as u32;
+    // "While a drought abates it is (1 - p) X3 + p X1, while a wet spell abates (1 - p) X3 + p X2, with the month's new
+    // values, p = 1000 V / Q and not the printed percent."
+    let (x, side) = if v > 0 { (x3, x1) } else { (-x3, -x2) };
+    let mixed = between(x, side, left, q);
+    let modified = if v > 0 { mixed } else { -mixed };
+    let values = Values { x1, x2, x3, v };
+    Step { values, percent, index: x3, modified, course: Course::Abating, decides: Decides::Nothing }
+}
+
+/// Nearest to (1 - p) x3 + p x1, "rounded once", where x3 is below x1 and 1 - p is `left` / q. That is x1 - left (x1 - x3)
+/// / q: `left` is below 2^36 and x1 - x3 below 2^25 for every run that is one, so the product fits. A half goes up where the
+/// whole number above it is above 0.
 #[inline]
-fn abating(last: &Values, z: i32, v: i64, percent: i64) -> Step {
-    let values = Values { x1: next(last.x1, z).max(0), x2: next(last.x2, z).min(0), x3: next(last.x3, z), v };
-    Step { values, percent: percent.clamp(1, 99) as u32, course: Course::Abating, decides: Decides::Nothing }
+fn between(x3: i32, x1: i32, left: i64, q: i64) -> i32 {
+    let (product, q) = (left as u64 * u64::from((x1 - x3) as u32), q as u64);
+    let (upper, rest) = (x1 - (product / q) as i32, product % q);
+    upper - i32::from(2 * rest > q || 2 * rest == q && upper <= 0)
 }
 
 /// "No spell, or one just ended: X1 and X2 as in 'abating'; percent 0 unless just ended."
@@ -253,37 +276,26 @@ fn abating(last: &Values, z: i32, v: i64, percent: i64) -> Step {
 fn no_spell(last: &Values, z: i32, course: Course) -> Step {
     let x1 = next(last.x1, z).max(0);
     let x2 = next(last.x2, z).min(0);
-    // "X1 at least 1,000: X3 = X1, then X1 = X2 = 0." "Else X2 at most -1,000: likewise with X2."
-    let (values, decides) = if x1 >= 1_000 {
-        (Values { x1: 0, x2: 0, x3: x1, v: 0 }, Decides::WithX1)
+    // "X1 at least 1,000: X3 = X1, then X1 = X2 = 0. Decides with X1; the index is the new X3." "Else X2 at most -1,000:
+    // likewise with X2."
+    let (values, index, decides) = if x1 >= 1_000 {
+        (Values { x1: 0, x2: 0, x3: x1, v: 0 }, x1, Decides::WithX1)
     } else if x2 <= -1_000 {
-        (Values { x1: 0, x2: 0, x3: x2, v: 0 }, Decides::WithX2)
+        (Values { x1: 0, x2: 0, x3: x2, v: 0 }, x2, Decides::WithX2)
     } else {
-        // "Else X1 = 0: decides with X2. Else X2 = 0: decides with X1. Else nothing is decided."
-        let decides = match (x1, x2) {
-            (0, _) => Decides::WithX2,
-            (_, 0) => Decides::WithX1,
-            _ => Decides::Nothing,
+        // "Else X1 = 0: decides with X2. Else X2 = 0: decides with X1. Else nothing is decided", and the index is the
+        // provisional one: "the larger in size of X1 and X2, X2 on a tie".
+        let (index, decides) = match (x1, x2) {
+            (0, _) => (x2, Decides::WithX2),
+            (_, 0) => (x1, Decides::WithX1),
+            _ => (if x1 > -x2 { x1 } else { x2 }, Decides::Nothing),
         };
-        (Values { x1, x2, x3: 0, v: 0 }, decides)
+        (Values { x1, x2, x3: 0, v: 0 }, index, decides)
     };
-    Step { values, percent: if course == Course::Ended { 100 } else { 0 }, course, decides }
-}
-
-/// The month's own index as it is added: what it decides, or else the provisional one: "X3 if nonzero, else the
-/// larger in size of X1 and X2, X2 on a tie."
-#[inline]
-fn own_index(step: &Step) -> i32 {
-    let Values { x1, x2, x3, .. } = step.values;
-    match step.decides {
-        // "Decides with X3", or "the index is the new X3", or the provisional one.
-        Decides::WithX3 => x3,
-        _ if x3 != 0 => x3,
-        Decides::WithX1 => x1,
-        Decides::WithX2 => x2,
-        Decides::Nothing if x1 > -x2 => x1,
-        Decides::Nothing => x2,
-    }
+    let percent = if course == Course::Ended { 100 } else { 0 };
+    // "Elsewhere X3 if nonzero, else the larger in size of X1 and X2, X2 on a tie." A month that decides with one of them
+    // has no other.
+    Step { values, percent, index, modified: index, course, decides }
 }
 
 // ---- Hindsight ---------------------------------------------------------------------------------------------
@@ -426,6 +438,7 @@ const NO_WATER: i32 = 0;
 const WATER: i32 = 1;
 
 /// "Each month's record keeps Z, .. P, PE, ET, R, L, RO and both storages at its start and end". L is what both layers lose.
+/// The modified index is put in when it is known.
 #[inline]
 fn record_of(w: &Water, z: i32, start: [u32; 2], end: &Soil, water: i32) -> Record {
     Record {
@@ -441,23 +454,23 @@ fn record_of(w: &Water, z: i32, start: [u32; 2], end: &Soil, water: i32) -> Reco
         surface: end.surface as i32,
         underlying: end.underlying as i32,
         water,
+        modified: 0,
     }
 }
 
-/// Adds a month whose water and Z are known, but for its record. The month's place is there.
+/// Adds a month whose water and Z are known and stand in its record. The month's place is there.
 fn add(run: &mut Run, water: Water, z: i32, k: &mut Columns) -> Added {
     let month = run.months as usize;
-    let step = spell_month(&run.values, z);
-    let index = own_index(&step);
-    let Values { x1, x2, x3, .. } = step.values;
+    let Step { values, percent, index, modified, decides, .. } = spell_month(&run.values, z);
+    let Values { x1, x2, x3, v } = values;
     let mut mark = OPEN;
     let mut settled = 0;
     // "The number of months settled by this call, its own included: the open months before it plus one if it
     // decides, else 0."
-    if step.decides == Decides::Nothing {
+    if decides == Decides::Nothing {
         run.opens += 1;
     } else {
-        settle(k, month - run.opens as usize, month, step.decides);
+        settle(k, month - run.opens as usize, month, decides);
         mark = SETTLED;
         settled = run.opens + 1;
         run.opens = 0;
@@ -467,11 +480,13 @@ fn add(run: &mut Run, water: Water, z: i32, k: &mut Columns) -> Added {
     k.x3[month] = x3;
     k.index[month] = index;
     k.mark[month] = mark;
-    k.v[month] = step.values.v;
+    k.v[month] = v;
+    // "Rows carry both figures." "It is fixed when the month is added."
+    k.records[month].modified = modified;
     run.months += 1;
     run.calendar = run.calendar % 12 + 1;
-    run.values = step.values;
-    Added { figures: Figures { water, z, percent: step.percent, x1, x2, x3, index, mark }, settled }
+    run.values = values;
+    Added { figures: Figures { water, z, percent, x1, x2, x3, index, mark, modified }, settled }
 }
 
 /// An add of water whose readings are known. Refusal 10 is the last.
@@ -615,7 +630,7 @@ pub fn whole_series(z: &[i32], index: &mut [i32], mark: &mut [u8]) -> Result<(),
         series.x2[month] = values.x2;
         series.x3[month] = values.x3;
         series.decides[month] = step.decides;
-        index[month] = own_index(&step);
+        index[month] = step.index;
     }
     let mut first = 0;
     for month in 0..length {

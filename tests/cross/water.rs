@@ -1,12 +1,14 @@
 //! Rows that show the water: over months of all sorts from a fresh run, each record is what the month's answer and the runs
 //! before and after it say, the storages at its start are those at the end of the month before, precipitation is ET, RO and
-//! what the soil gained, V is the run's, a row shows all of it, and no later call changes any of it.
+//! what the soil gained, V is the run's, the modified index is as the request has it, a row shows all of it, and no later
+//! call changes any of it.
 
 use crate::add::{odd_add, pick_add, Add, Way};
 use crate::add_z::STYLES;
 use crate::card::{Figures, Record, Run, Soil};
 use crate::check::{differ, Call, Check};
 use crate::lists::{Fill, Lists};
+use crate::modified::modified;
 use crate::random::Random;
 use crate::reference;
 use crate::runs::{good_constants, good_soil};
@@ -42,14 +44,13 @@ fn told(figures: &Figures, before: &Run, after: &Run, water: bool) -> Record {
     let [p, pe, et, r, l, ro] = [w.p, w.pe, w.et, w.r, w.ls + w.lu, w.ro].map(|amount| amount as i32);
     let (ss, su) = storages(&before.soil);
     let (surface, underlying) = storages(&after.soil);
-    let (z, water) = (figures.z, i32::from(water));
-    Record { z, p, pe, et, r, l, ro, ss, su, surface, underlying, water }
+    let (z, water, modified) = (figures.z, i32::from(water), figures.modified);
+    Record { z, p, pe, et, r, l, ro, ss, su, surface, underlying, water, modified }
 }
 
 /// Whether a record is one by itself: of a month of water the balance, of a Z no water, and no storage or amount below 0.
 fn balances(record: &Record) -> bool {
-    let Record { z: _, p, pe, et, r, l, ro, ss, su, surface, underlying, water } =
-        *record;
+    let Record { z: _, p, pe, et, r, l, ro, ss, su, surface, underlying, water, modified: _ } = *record;
     let gain = surface + underlying - ss - su;
     let amounts = [p, pe, et, r, l, ro, ss, su, surface, underlying];
     let dry = amounts[..6] == [0; 6] && (ss, su) == (surface, underlying);
@@ -74,9 +75,10 @@ impl Book {
         let mut right =
             held[..self.kept.len()] == self.kept[..] && last.is_none_or(|last| held[months - 1].0 == last);
         for (record, v) in &held[self.kept.len()..] {
-            values = reference::spell_month(&values, record.z).values;
-            right &=
-                balances(record) && (record.ss, record.su) == stands && *v == values.v;
+            let last = values;
+            values = reference::spell_month(&last, record.z).values;
+            right &= balances(record) && (record.ss, record.su) == stands && *v == values.v;
+            right &= record.modified == modified(&last, record.z, &values);
             stands = (record.surface, record.underlying);
             count(&mut c.kept, record, *v);
         }

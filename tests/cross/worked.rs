@@ -19,7 +19,7 @@ pub fn worked_months(c: &mut Check) {
     let w = w1.figures.water;
     assert_eq!((w.ls, w.lu, w.et, w.pl, w.cafec, w1.figures.z), (500, 500, 2000, 1500, 2125, -1688));
     assert_eq!((w1.run.soil.surface, w1.run.soil.underlying, w1.run.calendar), (0, 2500, 2));
-    let kept = [-1688, 1000, 2500, 2000, 0, 1000, 0, 500, 3000, 0, 2500, 1];
+    let kept = [-1688, 1000, 2500, 2000, 0, 1000, 0, 500, 3000, 0, 2500, 1, -563];
     assert_eq!(lists.library.lend().records[0], record(kept));
     let months = Months { p: vec![1000, 700, 700], pe: vec![2500, -1, 700] };
     let w1_alone = Season { number: 8, added: 1, settled: w1.settled, figures: w1.figures, run: w1.run };
@@ -28,7 +28,7 @@ pub fn worked_months(c: &mut Check) {
     let run = c.start(&constants, [6000, 500, 4900, 12]).run;
     let w2 = c.add(Add::Inches(MonthInches { p: 2.0, pe: 0.4 }), &run, &mut lists);
     assert_eq!((w2.figures.water.r, w2.figures.water.ro, w2.run.calendar), (600, 1000, 1));
-    let kept = [w2.figures.z, 2000, 400, 400, 600, 0, 1000, 500, 4900, 1000, 5000, 1];
+    let kept = [w2.figures.z, 2000, 400, 400, 600, 0, 1000, 500, 4900, 1000, 5000, 1, 715];
     assert_eq!(lists.library.lend().records[0], record(kept));
 
     // S4, then S5 and S6.
@@ -43,7 +43,8 @@ pub fn worked_months(c: &mut Check) {
     assert_eq!(percents, [40, 27, 12]);
     // V is the sum of Z + 150 since the drought abates; a Z has no water, and the storages stay.
     assert_eq!(lists.library.lend().v[..3], [3740, 2430, 980]);
-    let kept = [3590, -1460, -1600].map(|z| record([z, 0, 0, 0, 0, 0, 0, 0, 0, 0, 0, 0]));
+    let months = [[3590, -1009], [-1460, -1788], [-1600, -2591]];
+    let kept = months.map(|[z, modified]| record([z, 0, 0, 0, 0, 0, 0, 0, 0, 0, 0, 0, modified]));
     assert_eq!(lists.library.lend().records[..3], kept);
     let s5 = c.add(Add::Z(-1130), &run, &mut lists);
     assert_eq!((s5.settled, s5.figures.index), (4, -3017));
@@ -51,6 +52,7 @@ pub fn worked_months(c: &mut Check) {
     let s6 = c.add(Add::Z(6273), &run, &mut lists);
     assert_eq!((s6.settled, s6.figures.index), (4, 2091));
     assert_eq!(lists.library.lend().index[..4], [1197, -487, -970, 2091]);
+    assert_eq!(lists.library.lend().records[..3], kept);
     assert_eq!(c.whole(&[-3000, 1040, 0], 3, 3), (0, vec![-1000, 347, 311], vec![2; 3]));
     longest_lists(c, &constants);
     more_water(c, &constants, &mut lists);
@@ -92,23 +94,24 @@ fn more_water(c: &mut Check, constants: &[i32], lists: &mut Lists) {
     }
 }
 
-/// S1 to S3, dry and wet: what a month leaves of X1, X2 and X3, and its percent.
+/// S1 to S3, dry and wet: what a month leaves of X1, X2 and X3, its percent and its modified index, which was worked out by
+/// hand.
 fn turned_spells(c: &mut Check, constants: &[i32], lists: &mut Lists) {
     let months = [
-        (0, 2999, [0, 0, 1000], 0),
-        (0, 2998, [999, 0, 0], 0),
-        (-1000, -150, [0, 0, -947], 0),
-        (-1000, -149, [0, -50, -947], 1),
-        (-1000, 1041, [347, 0, 0], 100),
-        (-1000, 1040, [347, 0, -550], 99),
+        (0, 2999, [0, 0, 1000], 0, 1000),
+        (0, 2998, [999, 0, 0], 0, 999),
+        (-1000, -150, [0, 0, -947], 0, -947),
+        (-1000, -149, [0, -50, -947], 1, -946),
+        (-1000, 1041, [347, 0, 0], 100, 347),
+        (-1000, 1040, [347, 0, -550], 99, 346),
     ];
-    for (x3, z, [up, down, left], percent) in months {
+    for (x3, z, [up, down, left], percent, modified) in months {
         let mut run = c.start(constants, [6000, 0, 0, 1]).run;
         run.values.x3 = x3;
         let f = c.add(Add::Z(z), &run, lists).figures;
-        assert_eq!((f.x1, f.x2, f.x3, f.percent), (up, down, left, percent));
+        assert_eq!((f.x1, f.x2, f.x3, f.percent, f.modified), (up, down, left, percent, modified));
         run.values.x3 = -x3;
         let f = c.add(Add::Z(-z), &run, lists).figures;
-        assert_eq!((f.x1, f.x2, f.x3, f.percent), (-down, -up, -left, percent));
+        assert_eq!((f.x1, f.x2, f.x3, f.percent, f.modified), (-down, -up, -left, percent, -modified));
     }
 }
