@@ -1,8 +1,8 @@
 /* Tries what include/card.h adds to the library for C: NULL beside the length 0, the columns as one struct, the
- * meanings of the numbers, and what it says of records, of runs and columns that do not belong together, and of
- * missing months. The library's own functions, asked with valid
- * pointers, are what the header's are held to. It is linked so that every call of the library is watched for
- * NULL: see tests/header/run. */
+ * meanings of the numbers, and what it says of records, of the modified index, of runs and columns that do not
+ * belong together, and of missing months. The library's own functions, asked with valid pointers, are what the
+ * header's are held to. It is linked so that every call of the library is watched for NULL: see
+ * tests/header/run. */
 #include "card.h"
 
 #include <stddef.h>
@@ -139,8 +139,9 @@ static lists fresh_lists(void) {
         made.x3[i] = 3000 + i;
         made.index[i] = 4000 + i;
         made.mark[i] = (uint8_t)(100 + i);
-        int32_t n = 100000 + 12 * i;
-        card_record r = {n, n + 1, n + 2, n + 3, n + 4, n + 5, n + 6, n + 7, n + 8, n + 9, n + 10, n + 11};
+        int32_t n = 100000 + 13 * i;
+        card_record r = {n,     n + 1, n + 2, n + 3,  n + 4,  n + 5, n + 6,
+                         n + 7, n + 8, n + 9, n + 10, n + 11, n + 12};
         made.records[i] = r;
         made.v[i] = 5000000000 + i;
     }
@@ -249,7 +250,8 @@ static int same_run(const card_run *a, const card_run *b) {
 
 static int same_figures(const card_figures *a, const card_figures *b) {
     return memcmp(&a->water, &b->water, sizeof a->water) == 0 && a->z == b->z && a->percent == b->percent &&
-           a->x1 == b->x1 && a->x2 == b->x2 && a->x3 == b->x3 && a->index == b->index && a->mark == b->mark;
+           a->x1 == b->x1 && a->x2 == b->x2 && a->x3 == b->x3 && a->index == b->index && a->mark == b->mark &&
+           a->modified == b->modified;
 }
 
 static int same_record(const card_record *a, const card_record *b) {
@@ -340,33 +342,36 @@ static void try_meanings(void) {
 static void try_sizes(void) {
     check("sizes", sizeof(card_run) == 288, "a run is not 288 bytes");
     check("sizes", sizeof(card_started) == 296, "card_started is not 296 bytes");
-    check("sizes", sizeof(card_added) == 368, "card_added is not 368 bytes");
+    check("sizes", sizeof(card_added) == 376, "card_added is not 376 bytes");
     check("sizes", sizeof(card_season) == 376, "card_season is not 376 bytes");
-    check("sizes", sizeof(card_shown) == 80, "card_shown is not 80 bytes");
-    check("sizes", sizeof(card_record) == 48, "a record is not 48 bytes");
-    check("sizes", sizeof(lists) == 73 * MONTHS, "a month is not 73 bytes in the columns");
-    check("sizes", CARD_MOST_MONTHS == 12000 && 73 * CARD_MOST_MONTHS == 876000, "the longest columns");
+    check("sizes", sizeof(card_shown) == 88, "card_shown is not 88 bytes");
+    check("sizes", sizeof(card_record) == 52, "a record is not 52 bytes");
+    check("sizes", sizeof(lists) == 77 * MONTHS, "a month is not 77 bytes in the columns");
+    check("sizes", CARD_MOST_MONTHS == 12000 && 77 * CARD_MOST_MONTHS == 924000, "the longest columns");
 }
 
-/* Where the fields of a record, of the columns and of a row stand. */
+/* Where the fields of a record, of the columns, of a row and of the figures stand. */
 static void try_offsets(void) {
-    static const size_t of_record[12] = {
+    static const size_t of_record[13] = {
         offsetof(card_record, z), offsetof(card_record, p), offsetof(card_record, pe), offsetof(card_record, et),
         offsetof(card_record, r), offsetof(card_record, l), offsetof(card_record, ro),
         offsetof(card_record, ss), offsetof(card_record, su),
-        offsetof(card_record, surface), offsetof(card_record, underlying), offsetof(card_record, water)};
+        offsetof(card_record, surface), offsetof(card_record, underlying), offsetof(card_record, water),
+        offsetof(card_record, modified)};
     static const size_t of_columns[14] = {
         offsetof(card_columns, x1), offsetof(card_columns, x1_length), offsetof(card_columns, x2),
         offsetof(card_columns, x2_length), offsetof(card_columns, x3), offsetof(card_columns, x3_length),
         offsetof(card_columns, index), offsetof(card_columns, index_length), offsetof(card_columns, mark),
         offsetof(card_columns, mark_length), offsetof(card_columns, records),
         offsetof(card_columns, records_length), offsetof(card_columns, v), offsetof(card_columns, v_length)};
-    for (size_t i = 0; i < 12; i++) check("offsets", of_record[i] == 4 * i, "a record's numbers have gaps");
+    for (size_t i = 0; i < 13; i++) check("offsets", of_record[i] == 4 * i, "a record's numbers have gaps");
     for (size_t i = 0; i < 14; i++) check("offsets", of_columns[i] == 8 * i, "the columns in another order");
     check("offsets", sizeof(card_columns) == 112, "the columns are not 112 bytes");
     check("offsets", offsetof(card_shown, x1) == 4 && offsetof(card_shown, index) == 16 &&
           offsetof(card_shown, mark) == 20 && offsetof(card_shown, month) == 24 &&
-          offsetof(card_shown, v) == 72, "a row in another order");
+          offsetof(card_shown, v) == 80, "a row in another order");
+    check("offsets", offsetof(card_figures, z) == 44 && offsetof(card_figures, mark) == 68 &&
+          offsetof(card_figures, modified) == 72 && sizeof(card_figures) == 76, "the figures in another order");
 }
 
 /* The columns with length 0 for each in the set, at the address that they have, or at NULL. */
@@ -614,7 +619,7 @@ static card_record record_of(const answer *a, card_run before, int water) {
     card_record made = {
         a->figures.z, (int32_t)w->p, (int32_t)w->pe, (int32_t)w->et, (int32_t)w->r, (int32_t)(w->ls + w->lu),
         (int32_t)w->ro, (int32_t)before.soil.surface, (int32_t)before.soil.underlying,
-        (int32_t)a->run.soil.surface, (int32_t)a->run.soil.underlying, water};
+        (int32_t)a->run.soil.surface, (int32_t)a->run.soil.underlying, water, a->figures.modified};
     return made;
 }
 
@@ -790,7 +795,8 @@ static void try_five_columns(void) {
             card_shown shown = card_row_in(lent(&held, MONTHS), run, row);
             check_number("no records", shown.number, CARD_DONE);
             check("no records", shown.index == straight.index[row] && shown.month.z == 0 &&
-                  shown.month.water == 0 && shown.v == 0, "a row shows what nobody knows");
+                  shown.month.water == 0 && shown.month.modified == 0 && shown.v == 0,
+                  "a row shows what nobody knows");
         }
         while (run.months + 3 < MONTHS) {
             call c = good_call(drawn(WATER, SEASON));
@@ -803,6 +809,102 @@ static void try_five_columns(void) {
         for (size_t i = months; i < run.months; i++)
             check("no records", same_record(&held.records[i], &straight.records[i]) && held.v[i] == straight.v[i],
                   "the months that followed differ");
+    }
+}
+
+/* ---- Records of before there was a modified index ------------------------------------------------- */
+
+/* A record of that time. */
+typedef struct short_record {
+    int32_t numbers[12];
+} short_record;
+
+/* Copied into longer ones, with anything for the modified index, they show what they held, and the run goes on as
+ * if they had been long from the first month on. */
+static void try_short_records(void) {
+    check("short records", sizeof(short_record) == 48, "not 48 bytes");
+    for (uint32_t months = 0; months + 3 < MONTHS; months++) {
+        lists straight, held;
+        short_record saved[MONTHS];
+        card_run run = run_of(&straight, months);
+        for (int i = 0; i < MONTHS; i++) memcpy(&saved[i], &straight.records[i], sizeof *saved);
+        held = straight;
+        memset(held.records, 0x4d, sizeof held.records);
+        for (uint32_t i = 0; i < months; i++) {
+            memcpy(&held.records[i], &saved[i], sizeof *saved);
+            held.records[i].modified = months % 2 ? 0 : drawn(-9000, 9000);
+        }
+        for (size_t row = 0; row < months; row++) {
+            card_shown shown = card_row_in(lent(&held, MONTHS), run, row);
+            card_record expected = straight.records[row];
+            expected.modified = held.records[row].modified;
+            check_number("short records", shown.number, CARD_DONE);
+            check("short records", same_record(&shown.month, &expected), "a row does not show what was copied");
+        }
+        while (run.months + 3 < MONTHS) {
+            call c = good_call(drawn(WATER, SEASON));
+            answer a = by_columns(c, run, lent(&straight, MONTHS)), b = by_columns(c, run, lent(&held, MONTHS));
+            check_number("short records", b.number, CARD_DONE);
+            check_same("short records", &b, &a);
+            run = a.run;
+        }
+        for (size_t i = months; i < run.months; i++)
+            check("short records", same_record(&held.records[i], &straight.records[i]), "a later month differs");
+    }
+}
+
+/* ---- The modified index --------------------------------------------------------------------------- */
+
+/* Between two numbers, either of which may be the larger. */
+static int is_between(int32_t x, int32_t a, int32_t b) { return a < b ? a <= x && x <= b : b <= x && x <= a; }
+
+/* What the header says of a month's: while a spell abates it is between X3 and the other side, and elsewhere what index
+ * was when the month was added. */
+static void check_modified(const card_figures *f) {
+    int abates = f->percent >= 1 && f->percent <= 99;
+    if (abates)
+        check("the modified index", is_between(f->modified, f->x3, f->x3 < 0 ? f->x1 : f->x2),
+              "it is not between X3 and the other side");
+    else
+        check("the modified index", f->modified == f->index, "it is not the index that the month was added with");
+}
+
+/* Of months of all kinds it is so, the record and the row have it as the add answered, and it stays. */
+static void try_modified(void) {
+    unsigned abating = 0, changed = 0;
+    for (int n = 0; n < 400; n++) {
+        lists held = fresh_lists();
+        card_run run = station();
+        card_figures told[MONTHS];
+        while (run.months < MONTHS) {
+            answer a = by_columns(good_call(drawn(WATER, Z)), run, lent(&held, MONTHS));
+            check_modified(&a.figures);
+            abating += a.figures.percent >= 1 && a.figures.percent <= 99;
+            told[run.months] = a.figures;
+            run = a.run;
+        }
+        for (size_t row = 0; row < MONTHS; row++) {
+            card_shown shown = card_row_in(lent(&held, MONTHS), run, row);
+            check("the modified index", shown.month.modified == told[row].modified, "a later month changes it");
+            changed += shown.index != told[row].index;
+        }
+    }
+    check("the modified index", abating > 0 && changed > 0, "no spell abates, or no index changes");
+}
+
+/* A drought that abates for three months, worked out by hand, and the same as a wet spell. */
+static void try_worked_modified(void) {
+    static const int32_t z[3] = {3590, -1460, -1600}, modified[3] = {-1009, -1788, -2591};
+    for (int32_t sign = -1; sign <= 1; sign += 2) {
+        lists held = fresh_lists();
+        card_run run = station();
+        run.values.x3 = sign * -4070;
+        for (size_t i = 0; i < 3; i++) {
+            card_added a = card_add_z_in(lent(&held, MONTHS), run, sign * z[i]);
+            check("the modified index", a.figures.modified == sign * modified[i], "not as worked out");
+            check("the modified index", held.records[i].modified == sign * modified[i], "not so in the record");
+            run = a.run;
+        }
     }
 }
 
@@ -1179,6 +1281,9 @@ int main(void) {
     try_last_record();
     try_others();
     try_five_columns();
+    try_short_records();
+    try_modified();
+    try_worked_modified();
     try_not_together();
     try_lengths();
     try_longer();
