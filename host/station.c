@@ -25,7 +25,8 @@
  *
  * Printed are three tables, in thousandths: the months as their adds answered, or with MONTHS the calls; the rows
  * of all months as they stand in the end; and of each month its water and what the two layers of soil stored at
- * its end, with dashes for the water of a month that had none.
+ * its end, with dashes for the water of a month that had none. Beside index, which is Palmer's and may change until
+ * its month is settled, the first two have modified, the modified index, which does not change.
  *
  * Nothing is printed on standard output before the whole file was found good, the run was started and every
  * month was added: a card must not show figures of half a file. What is wrong is said in one line on standard
@@ -651,32 +652,35 @@ static void flush(void) {
 
 /* A row for each month, as its own add answered. */
 static void print_singly(const page *r, long first) {
-    print("month P PE CAFEC Z percent index settled\n");
+    print("month P PE CAFEC Z percent index modified settled\n");
     for (size_t i = 0; i < r->steps; i++) {
         const card_figures *f = &r->step[i].figures;
         long when = first + (long)i;
         print("%04ld-%02ld %" PRIu32 " %" PRIu32 " %" PRId32 " ", when / 12, when % 12 + 1, f->water.p,
               f->water.pe, f->water.cafec);
-        print("%" PRId32 " %" PRIu32 " %" PRId32 " %" PRIu32 "\n", f->z, f->percent, f->index, r->step[i].settled);
+        print("%" PRId32 " %" PRIu32 " %" PRId32 " %" PRId32 " %" PRIu32 "\n", f->z, f->percent, f->index,
+              f->modified, r->step[i].settled);
     }
 }
 
-/* A row for each call: the months that it added and settled, and the index of the last one. */
+/* A row for each call: the months that it added and settled, and both indexes of the last one. */
 static void print_seasons(const page *r) {
-    print("season added settled index\n");
+    print("season added settled index modified\n");
     for (size_t i = 0; i < r->steps; i++)
-        print("%zu %" PRIu32 " %" PRIu32 " %" PRId32 "\n", i + 1, r->step[i].added, r->step[i].settled,
-              r->step[i].figures.index);
+        print("%zu %" PRIu32 " %" PRIu32 " %" PRId32 " %" PRId32 "\n", i + 1, r->step[i].added, r->step[i].settled,
+              r->step[i].figures.index, r->step[i].figures.modified);
 }
 
 /* A row for each month, as the columns have it in the end. */
 static void print_rows(const page *r, long first) {
-    print("month X1 X2 X3 index mark\n");
+    print("month X1 X2 X3 index modified mark\n");
     for (size_t i = 0; i < r->rows; i++) {
         const card_shown *row = &r->row[i];
         long when = first + (long)i;
-        print("%04ld-%02ld %" PRId32 " %" PRId32 " %" PRId32 " %" PRId32 " %c\n", when / 12, when % 12 + 1,
-              row->x1, row->x2, row->x3, row->index, row->mark == CARD_SETTLED ? 'S' : 'O');
+        print("%04ld-%02ld %" PRId32 " %" PRId32 " %" PRId32 " ", when / 12, when % 12 + 1, row->x1, row->x2,
+              row->x3);
+        print("%" PRId32 " %" PRId32 " %c\n", row->index, row->month.modified,
+              row->mark == CARD_SETTLED ? 'S' : 'O');
     }
 }
 

@@ -746,30 +746,32 @@ fn standard(number: i32) -> ManuallyDrop<File> {
 
 /// A row for each month, as its own add answered.
 fn singly_text(steps: &[Step], first: usize) -> String {
-    let mut text = "month P PE CAFEC Z percent index settled\n".to_string();
+    let mut text = "month P PE CAFEC Z percent index modified settled\n".to_string();
     for (i, step) in steps.iter().enumerate() {
         let (f, w) = (&step.figures, &step.figures.water);
         text += &format!("{} {} {} {} ", date(first + i), w.p, w.pe, w.cafec);
-        text += &format!("{} {} {} {}\n", f.z, f.percent, f.index, step.settled);
+        text += &format!("{} {} {} {} {}\n", f.z, f.percent, f.index, f.modified, step.settled);
     }
     text
 }
 
-/// A row for each call: the months that it added and settled, and the index of the last one.
+/// A row for each call: the months that it added and settled, and both indexes of the last one.
 fn seasons_text(steps: &[Step]) -> String {
-    let mut text = "season added settled index\n".to_string();
+    let mut text = "season added settled index modified\n".to_string();
     for (i, step) in steps.iter().enumerate() {
-        text += &format!("{} {} {} {}\n", i + 1, step.added, step.settled, step.figures.index);
+        let Figures { index, modified, .. } = step.figures;
+        text += &format!("{} {} {} {index} {modified}\n", i + 1, step.added, step.settled);
     }
     text
 }
 
 /// A row for each month, as the columns have it in the end.
 fn rows_text(rows: &[Shown], first: usize) -> String {
-    let mut text = "month X1 X2 X3 index mark\n".to_string();
+    let mut text = "month X1 X2 X3 index modified mark\n".to_string();
     for (i, r) in rows.iter().enumerate() {
         let mark = if r.mark == SETTLED { 'S' } else { 'O' };
-        text += &format!("{} {} {} {} {} {mark}\n", date(first + i), r.x1, r.x2, r.x3, r.index);
+        text += &format!("{} {} {} {} ", date(first + i), r.x1, r.x2, r.x3);
+        text += &format!("{} {} {mark}\n", r.index, r.month.modified);
     }
     text
 }
