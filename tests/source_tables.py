@@ -6,8 +6,8 @@
   source_tables.py --scan FILE  says whether the tables are what FILE has, the scan of the paper as text
 
 It shares nothing with the Rattle code and with the other programs of these tests but document 01, with document 02's thin
-soils, and the tables: one month of water, one month of spells and hindsight are written here from the documents' words, over
-whole numbers. tests/station.py holds months of thin soils to the same reckoning.
+soils and modified index, and the tables: one month of water, one month of spells and hindsight are written here from the
+documents' words, over whole numbers. tests/station.py holds months of thin soils, and both indexes, to the same reckoning.
 """
 import os
 import re
@@ -118,8 +118,19 @@ def water(capacity, surface, underlying, p, pe, alpha, beta, gamma, delta, k):
     return m
 
 
+def shown(row):
+    """X3 if nonzero, else the larger in size of X1 and X2, X2 on a tie."""
+    return row['X3'] or (row['X1'] if row['X1'] > -row['X2'] else row['X2'])
+
+
 def step(run, z):
     """One month of spells: the figures after it, and with which of X1, X2, X3 it decides, or None."""
+    row, decides = spells(run, z)
+    return dict({'modified': shown(row)}, **row), decides
+
+
+def spells(run, z):
+    """The same, without the modified index but where a spell abates."""
     x1, x2, x3, v = run['X1'], run['X2'], run['X3'], run['V']
 
     def following(x):
@@ -135,8 +146,10 @@ def step(run, z):
         if total <= 0:
             return {'X1': 0, 'X2': 0, 'X3': following(x3), 'V': 0, 'percent': 0}, 'X3'
         if 1000 * u < e:
-            chance = min(99, max(1, nearest(100000 * total, e + 1000 * side * v)))
-            return {'X1': up, 'X2': down, 'X3': following(x3), 'V': side * total, 'percent': chance}, None
+            q, x3 = e + 1000 * side * v, following(x3)
+            chance = min(99, max(1, nearest(100000 * total, q)))
+            mixed = nearest((q - 1000 * total) * x3 + 1000 * total * (up if side > 0 else down), q)
+            return {'X1': up, 'X2': down, 'X3': x3, 'V': side * total, 'percent': chance, 'modified': mixed}, None
         percent = 100
     none = {'X1': 0, 'X2': 0, 'V': 0, 'percent': percent}
     if up >= 1000:
@@ -148,15 +161,16 @@ def step(run, z):
 
 
 def series(run, anomalies):
-    """The months' figures, with the index X that hindsight gives each."""
+    """The months' figures, with the index X that hindsight gives each, and whether it is settled."""
     rows = []
     for z in anomalies:
         run, decides = step(run, z)
         rows.append((run, decides))
     for i, (row, decides) in enumerate(rows):
         at = next((j for j in range(i, len(rows)) if rows[j][1]), None)
+        row['settled'] = at is not None
         if at is None:
-            row['X'] = row['X3'] or (row['X1'] if row['X1'] > -row['X2'] else row['X2'])
+            row['X'] = shown(row)
         elif rows[at][1] == 'X3' or (at == i and row['X3'] != 0):
             row['X'] = row['X3']
         else:

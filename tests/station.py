@@ -33,22 +33,22 @@ GOOD = b''.join(text + b'\n' for text in LINES)
 CONSTANTS, JANUARY, DECEMBER, MONTHS, FIRST, LAST, END = 4, 5, 16, 17, 18, 53, 54
 
 # rows of the sample: the first two and the last two of each table, and all seasons of six
-SINGLY = [b'month P PE CAFEC Z percent index settled',
-          b'1932-06 5560 4800 3105 3142 0 1047 1',
-          b'1932-07 1780 7040 2936 -1595 100 -532 1',
-          b'1935-04 250 1570 2347 -3229 0 -5464 1',
-          b'1935-05 4650 2520 2855 2477 20 -4076 0']
-ROWS = [b'month X1 X2 X3 index mark',
-        b'1932-06 0 0 1047 1047 S',
-        b'1932-07 0 -532 0 -532 S',
-        b'1935-04 0 0 -5464 -5464 S',
-        b'1935-05 826 0 -4076 -4076 O']
+SINGLY = [b'month P PE CAFEC Z percent index modified settled',
+          b'1932-06 5560 4800 3105 3142 0 1047 1047 1',
+          b'1932-07 1780 7040 2936 -1595 100 -532 -532 1',
+          b'1935-04 250 1570 2347 -3229 0 -5464 -5464 1',
+          b'1935-05 4650 2520 2855 2477 20 -4076 -3101 0']
+ROWS = [b'month X1 X2 X3 index modified mark',
+        b'1932-06 0 0 1047 1047 1047 S',
+        b'1932-07 0 -532 0 -532 -532 S',
+        b'1935-04 0 0 -5464 -5464 -5464 S',
+        b'1935-05 826 0 -4076 -4076 -3101 O']
 WATER = [b'month P PE ET R L RO surface underlying',
          b'1932-06 5560 4800 4800 760 0 0 760 1330',
          b'1932-07 1780 7040 3538 0 1758 0 0 332',
          b'1935-04 250 1570 250 0 0 0 0 0',
          b'1935-05 4650 2520 2520 2130 0 0 1000 1130']
-SEASONS = [b'season added settled index', b'1 6 6 -1793', b'2 6 5 -2140', b'3 6 3 -2617', b'4 6 10 -3755', b'5 6 6 -4968', b'6 6 5 -4076']
+SEASONS = [b'season added settled index modified', b'1 6 6 -1793 -1793', b'2 6 5 -2140 -2005', b'3 6 3 -2617 -2181', b'4 6 10 -3755 -3755', b'5 6 6 -4968 -4968', b'6 6 5 -4076 -3101']
 
 # what a run holds
 MOST = 12000
@@ -426,32 +426,38 @@ def soiled(capacity, surface, underlying):
 
 
 def reckoned(data):
-    """A file like the good one, without comments, by the reckoning of tests/source_tables.py: of each month how its row as
-    it was added begins, and the row of its water. A month of dashes is one that was added as a Z of 0."""
+    """A file like the good one, without comments, by the reckoning of tests/source_tables.py: of each month its row as it was
+    added, but for how many months it settled, its row in the end, and that of its water. A month of dashes is one that was
+    added as a Z of 0."""
     lines = data.split(b'\n')
     capacity, surface, underlying = [int(text.split(b' ')[1]) for text in lines[:3]]
     constants = [[int(word) for word in text.split(b' ')[1:]] for text in lines[JANUARY - 1:DECEMBER]]
-    added, water = [], []
+    added, water, anomalies = [], [], []
     for text in lines[FIRST - 1:lines.index(b'end')]:
         when, *readings = text.split(b' ')
-        month, fell = b'0 0 0 0', b'- - - - - -'
+        month, fell, z = b'0 0 0', b'- - - - - -', 0
         if readings != [b'-', b'-']:
             p, pe = [10 * int(word.replace(b'.', b'')) for word in readings]
             m = source_tables.water(capacity, surface, underlying, p, pe, *constants[int(when[5:]) - 1])
-            month = b'%d %d %d %d' % (p, pe, m['CAFEC'], m['Z'])
+            month, z = b'%d %d %d' % (p, pe, m['CAFEC']), m['Z']
             fell = b'%d %d %d %d %d %d' % (p, pe, m['ET'], m['R'], m['Ls'] + m['Lu'], m['RO'])
             surface, underlying = m['Ss'], m['Su']
-        added.append(when + b' ' + month)
+        added.append((when, month))
+        anomalies.append(z)
         water.append(b'%s %s %d %d' % (when, fell, surface, underlying))
-    return added, water
+    spells = source_tables.series(source_tables.FRESH, anomalies)
+    first = [b'%s %s %d %d %d %d' % (*month, z, f['percent'], source_tables.shown(f), f['modified']) for month, z, f in zip(added, anomalies, spells)]
+    rows = [b'%s %d %d %d %d %d %s' % (when, *(f[name] for name in ('X1', 'X2', 'X3', 'X', 'modified')), b'S' if f['settled'] else b'O') for (when, _), f in zip(added, spells)]
+    return first, rows, water
 
 
-def check_water(name, data, out):
+def check_months(name, data, out):
     """Holds what was printed of single months to that reckoning."""
-    added, water = reckoned(data)
+    added, rows, water = reckoned(data)
     lines = out.split(b'\n')
-    first = [b' '.join(line.split(b' ')[:5]) for line in lines[1:len(added) + 1]]
-    for got, wanted in ((first, added), (lines[2 * len(water) + 2:], WATER[:1] + water + [b''])):
+    at = len(added) + 1
+    first = [line.rsplit(b' ', 1)[0] for line in lines[1:at]]
+    for got, wanted in ((first, added), (lines[at:2 * at], ROWS[:1] + rows), (lines[2 * at:], WATER[:1] + water + [b''])):
         if got != wanted:
             at = next((i for i, pair in enumerate(zip(got, wanted)) if pair[0] != pair[1]), min(len(got), len(wanted)))
             sys.exit('station: %s: the months are not those of tests/source_tables.py: %r, and not %r' % (name, got[at:at + 1], wanted[at:at + 1]))
@@ -461,7 +467,7 @@ def thin_files(count):
     """Soils at and beside an inch, and the thinnest."""
     for soil in ((100, 0, 0), (100, 100, 0), (101, 50, 0), (999, 999, 0), (1000, 0, 0), (1000, 1000, 0), (1001, 1000, 1), (1001, 0, 0)):
         name = 'the soil %d %d %d' % soil
-        check_water(name, soiled(*soil), good(name, (), soiled(*soil)))
+        check_months(name, soiled(*soil), good(name, (), soiled(*soil)))
         count['good'] += 1
 
 
@@ -476,7 +482,7 @@ def z_files(count):
         out, err, status = agree(name, (), data, programs=WITH_Z)
         if err or status:
             sys.exit('station: %s: status %d, %r' % (name, status, err))
-        check_water(name, data, out)
+        check_months(name, data, out)
         count['good'] += 1
 
 
@@ -546,7 +552,7 @@ def good_files(count):
     tables = [lines[at:at + 3] + lines[at + 35:at + 37] for at in (0, 37, 74)]
     if tables != [SINGLY, ROWS, WATER] or lines[111:] != [b'']:
         sys.exit('station: the rows of the sample are not the stored ones: %r' % lines)
-    check_water('the sample', GOOD, singly[()])
+    check_months('the sample', GOOD, singly[()])
     if singly['6',].split(b'\n')[:7] != SEASONS:
         sys.exit('station: the seasons of the sample are not the stored ones: %r' % singly['6',])
     for name, data in same_cases():
@@ -559,7 +565,7 @@ def good_files(count):
         name, data = '%d months from %04d-%02d' % (length, *first), months(length, first)
         whole = good(name, (), data)
         last = whole.split(b'\n')[-2]
-        check_water(name, data, whole)
+        check_months(name, data, whole)
         if whole.count(b'\n') != 3 * length + 3 or not last.startswith(date(12 * first[0] + first[1] + length - 2)):
             sys.exit('station: %s: %d lines, the last %r' % (name, whole.count(b'\n'), last))
         for arguments in WAYS + [('7',), ('0006',), ('2399',), ('2400',), ('2401',), (str(MOST - 1),)]:

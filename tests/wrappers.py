@@ -97,7 +97,7 @@ def good():
     asked('division', ran(['division', '14', '07'], DIVISION), 0, YEARS, None)
     status, singly, err = ran(['station'], STATION)
     lines = singly.split(b'\n')
-    if (status, err, len(lines)) != (0, b'', 112) or (lines[1], lines[75]) != (b'1932-06 5560 4800 3105 3142 0 1047 1', b'1932-06 5560 4800 4800 760 0 0 760 1330'):
+    if (status, err, len(lines)) != (0, b'', 112) or (lines[1], lines[75]) != (b'1932-06 5560 4800 3105 3142 0 1047 1047 1', b'1932-06 5560 4800 4800 760 0 0 760 1330'):
         sys.exit('wrappers: station: %r' % ((status, singly[:200], err),))
     _, seasons, _ = ran(['station', '--season', '6'], STATION)
     six = seasons.split(b'month X1 ')[0]
