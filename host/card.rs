@@ -179,7 +179,8 @@ pub struct MonthInches {
     pub pe: f32,
 }
 
-/// A month's record as its column holds it; `water` is `HAD_WATER`, or `HAD_NO_WATER` where the month was added as a Z.
+/// A month's record as its column holds it: its Z, its water, its soil and its modified index. `water` is `HAD_WATER`, or
+/// `HAD_NO_WATER` where the month was added as a Z.
 #[repr(C)]
 #[derive(Clone, Copy, Debug, Default, PartialEq, Eq)]
 pub struct Record {

@@ -66,7 +66,7 @@ impl Check {
         let reference = what.reference(run, &mut lists.reference.lend());
         if reference.number == 0 {
             lists.expect_months(run, 1, reference.settled);
-            self.account(run, &reference);
+            self.account(what.call(), run, &reference);
         }
         let refused_changed = reference.number != 0 && reference.run != *run;
         if library != reference || refused_changed || !lists.agree_after(run) {

@@ -95,8 +95,8 @@ impl Check {
         self.kinds[self.kind].1 += 1;
     }
 
-    pub fn account(&mut self, run: &Run, added: &Added) {
-        modified::hold(&mut self.mixed, run, added);
+    pub fn account(&mut self, call: Call, run: &Run, added: &Added) {
+        modified::hold(&mut self.mixed, call, run, added);
         let step = reference::spell_month(&run.values, added.figures.z);
         let b = &mut self.branches;
         b.courses[step.course as usize] += 1;

@@ -1,4 +1,4 @@
-"""Faults put into the reference or the exact computation, one at a time; the cross-check must end with a difference.
+"""Faults put into the reference or the exact computations, one at a time; the cross-check must end with a difference.
 Run by tests/cross/faults. With --fit it only sees that each fault can still be put in, which tests/cross/run asks for."""
 import os
 import shutil
@@ -6,7 +6,7 @@ import subprocess
 import sys
 
 ROOM = 'target/host/faults'
-FILES = ['tests/cross/reference.rs', 'tests/cross/conversion.rs']
+FILES = ['tests/cross/reference.rs', 'tests/cross/conversion.rs', 'tests/cross/modified.rs']
 
 # a name, and what is changed to what, and maybe a second change, in the file that has it
 FAULTS = [
@@ -121,7 +121,7 @@ FAULTS = [
     ('the modified index by the V before', 'between(x, side, left, q)', 'between(x, side, q - 1000 * last.v.abs(), q)'),
     ('the modified index with p held within 1 and 99 hundredths', 'between(x, side, left, q)', 'between(x, side, left.clamp(q / 100, 99 * q / 100), q)'),
     ('the modified index with p and 1 - p exchanged', 'between(x, side, left, q)', 'between(x, side, over, q)'),
-    ('X2 mixed in while a drought abates', '(x3, x1)', '(x3, x2)'),
+    ('X2 mixed in while a drought abates', 'if v > 0 { (x3, x1) }', 'if v > 0 { (x3, x2) }'),
     ('X1 mixed in while a wet spell abates', '(-x3, -x2)', '(-x3, -x1)'),
     ("last month's X3 mixed in", '(x3, x1) } else { (-x3, -x2) }', '(last.x3, x1) } else { (-last.x3, -x2) }'),
     ("last month's X1 or X2 mixed in", '(x3, x1) } else { (-x3, -x2) }', '(x3, last.x1) } else { (-x3, -last.x2) }'),
@@ -150,6 +150,9 @@ FAULTS = [
     ('an added Z without its modified index', '&run.soil, NO_WATER);\n    Ok(add(run, water, z, k))\n', '&run.soil, NO_WATER);\n    let added = add(run, water, z, k);\n    k.records[run.months as usize - 1].modified = 0;\n    Ok(added)\n'),
     ("a season's months without their modified indexes", '        season.figures = month.figures;\n', '        season.figures = month.figures;\n        k.records[run.months as usize - 1].modified = 0;\n'),
     ("a row with Palmer's index twice", 'month: k.records[row],', 'month: Record { modified: k.index[row], ..k.records[row] },'),
+    ('a half of the mixture in 128 bits toward zero', '((2 * n.abs() + d) / (2 * d))', '((2 * n.abs() + d - 1) / (2 * d))'),
+    ('the mixture in 128 bits by the V before', '((q - 1000 * v) * x3 + 1000 * v * x1, q)', '((q - 1000 * last_v) * x3 + 1000 * last_v * x1, q)'),
+    ('a tie by X1 in 128 bits', 'new.x1.abs() > new.x2.abs()', 'new.x1.abs() >= new.x2.abs()'),
     ('exact halves down', 'halfway <= 2.0', 'halfway < 2.0'),
     ('an exact 126 for 127', 'of: 127 }', 'of: 126 }'),
     ("the range's top left out of the exact one", '(0.0..=self.top)', '(0.0..self.top)'),

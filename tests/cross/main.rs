@@ -1,9 +1,9 @@
 //! Calls the library and the reference on the same inputs and compares everything: every field of the answer, the
 //! run handed back, and every place of every list lent, with some places before and after it that nobody lent; the
 //! records and V of long columns not all of them each time (`Lists::agree_after`). A season is compared with the
-//! library's single adds of its months as well, and readings are held to the exact computation. At the first
-//! difference it prints the call, its inputs and the outcomes, and ends with status 1. An argument multiplies the
-//! random cases.
+//! library's single adds of its months as well, readings are held to the exact computation, and modified indexes to
+//! one in 128 bits. At the first difference it prints the call, its inputs and the outcomes, and ends with status 1.
+//! An argument multiplies the random cases.
 
 mod add;
 mod add_inches;

@@ -9,7 +9,7 @@ use crate::check::{differ, Call, Check};
 use crate::lists::{Fill, Lists};
 use crate::random::Random;
 use crate::reference::{next, MOST_MONTHS, MOST_Z};
-use crate::runs::any_good_run;
+use crate::runs::{any_good_run, NO_RUN};
 
 /// What any X may be in size, and what a month may add to V.
 const MOST_X: i32 = 13_000_000;
@@ -88,7 +88,7 @@ impl Mixed {
 }
 
 /// Holds what an add answered to it.
-pub fn hold(mixed: &mut Mixed, run: &Run, added: &Added) {
+pub fn hold(mixed: &mut Mixed, call: Call, run: &Run, added: &Added) {
     let (last, z, new) = (&run.values, added.figures.z, &added.run.values);
     match mixture(last, z, new) {
         Some((n, q)) => mixed.count(new.v, n, q),
@@ -96,7 +96,7 @@ pub fn hold(mixed: &mut Mixed, run: &Run, added: &Added) {
     }
     let wanted = modified(last, z, new);
     if added.figures.modified != wanted {
-        differ(Call::AddZ, &(run, z, "the modified index of its month"), &added.figures, &wanted);
+        differ(call, &(run, z, "the modified index of its month"), &added.figures, &wanted);
     }
 }
 
@@ -132,9 +132,8 @@ fn worked(c: &mut Check) {
             let shown = [modified[0], modified[1], modified[2], index].map(|x| sign * x);
             assert_eq!(months(c, values, &zs), shown);
         }
-        let fresh = Values { x1: 0, x2: 0, x3: 0, v: 0 };
-        let [first, tied, last] = months(c, fresh, &[1_500, -673, -3_000].map(|z| sign * z))[..] else { return };
-        assert_eq!((first, tied, last), (sign * 500, -224, sign * -1_201));
+        let tied = [1_500, -673, -3_000].map(|z| sign * z);
+        assert_eq!(months(c, NO_RUN.values, &tied), [sign * 500, -224, sign * -1_201]);
     }
 }
 

@@ -76,7 +76,7 @@ impl Check {
             let added = card::add_water(season.run, listed(p), listed(pe), k);
             season.number = added.number;
             if added.number == 0 {
-                self.account(&season.run, &added);
+                self.account(Call::AddWater, &season.run, &added);
                 season.added += 1;
                 season.settled += added.settled;
                 season.figures = added.figures;
