@@ -102,7 +102,7 @@ module _ (wet : Bool) (x3 z v a b : ℤ) (l : Leans wet x3 z v a b) where
       record {
         high-fits = turn-size wet b mostX (l .b-size);
         low-fits = turn-size wet a mostX (l .a-size);
-        some = r .0;
+        some = omega (arith, r .0);
         d-fits = r .1;
         w-fits = omega (arith, turn-size wet v (2 * mostV) (l .v-size));
       }
@@ -114,7 +114,7 @@ module _ (wet : Bool) (x3 z v a b : ℤ) (l : Leans wet x3 z v a b) where
   valued = nearest (pos (w * high) -ℤ pos (d * low)) (w + d)
 
   pub valued-size : natAbs valued ≤ mostX
-  valued-size = value-size high low w d (omega (arith, weighed .some)) (weighed .high-fits) (weighed .low-fits)
+  valued-size = value-size high low w d (weighed .some) (weighed .high-fits) (weighed .low-fits)
 
   -- the fraction of the definition is that of the naturals, with the sign turned back
   fraction : (pos (d + w) -ℤ pos w) *ℤ a +ℤ pos w *ℤ b ≡ turn wet (pos (w * high) -ℤ pos (d * low))
@@ -140,13 +140,10 @@ module _ (wet : Bool) (x3 z v a b : ℤ) (l : Leans wet x3 z v a b) where
 
   -- it lies between the two, in the drought's sense
   pub between-both : let r = mixed (turn wet v) (lackingOf wet x3 z +ℤ pos 1000 *ℤ turn wet v) a b in (turn wet a ≤ℤ turn wet r) × (turn wet r ≤ℤ turn wet b)
-  between-both = rw (value-is, high-is) (low-end, value-most high low w d some)
+  between-both = rw (value-is, high-is) (low-end, value-most high low w d (weighed .some))
     where
-      some : 0 < w + d
-      some = omega (arith, weighed .some)
-
       value-is : turn wet (mixed (turn wet v) (lackingOf wet x3 z +ℤ pos 1000 *ℤ turn wet v) a b) ≡ valued
       value-is = ap (turn wet) (sym mixed-is) ∙ turn-turn wet valued
 
       low-end : turn wet a ≤ℤ valued
-      low-end = subst (λ (y : ℤ). y ≤ℤ valued) (sym (low-of (turn wet a) low low-is)) (value-least high low w d some)
+      low-end = subst (λ (y : ℤ). y ≤ℤ valued) (sym (low-of (turn wet a) low low-is)) (value-least high low w d (weighed .some))

@@ -1,6 +1,6 @@
 -- A proof's vocabulary, which a `requires` cites: the numbers of an abating month and their room, as facts. Assumes nothing.
 use mathlib.Core.Bool.{Bool}
-use Prim.Native.Nat.{ℕ, _*_, _≤_, _<_}
+use Prim.Native.Nat.{ℕ, _+_, _*_, _≤_, _<_}
 use lib.IntN.{ℤ, pos, natAbs, _-ℤ_, _*ℤ_}
 use lib.Signed.{_≤ℤ_, _<ℤ_}
 use Rattle.outline.specs.Numbers.{mostX, mostZ, weightOfZ}
@@ -34,6 +34,6 @@ mostW = 10000000000000000
 pub record Weighed (high low w d : ℕ) : Type 0 where
   pub high-fits : high ≤ mostX
   pub low-fits : low ≤ mostX
-  pub some : 0 < d
+  pub some : 0 < w + d
   pub d-fits : d ≤ mostD
   pub w-fits : w ≤ mostW

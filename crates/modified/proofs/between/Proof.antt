@@ -42,12 +42,12 @@ module _ (s : tie.Start) where
   whole = div-add-mod (d * (high + low)) (w + d)
 
   left : r < w + d
-  left = mod-lt (d * (high + low)) {m = w + d} (omega (arith, s .pre .some))
+  left = mod-lt (d * (high + low)) {m = w + d} (s .pre .some)
 
   few : k < suc (high + low)
   few =
       let h : d ≤ w + d = omega arith in
-      div-lt-iff-lt-mul {k = w + d} {x = d * (high + low)} {y = suc (high + low)} (omega (arith, s .pre .some)) .1 (omega (arith, s .pre .some, mul-le-mul-right (high + low) h))
+      div-lt-iff-lt-mul {k = w + d} {x = d * (high + low)} {y = suc (high + low)} (s .pre .some) .1 (omega (arith, s .pre .some, mul-le-mul-right (high + low) h))
 
   -- high less k, and one less, fit
   fits : SFits w64 (pos high -ℤ pos k) × SFits w64 (pos high -ℤ pos k -ℤ pos 1)
