@@ -75,8 +75,8 @@
  *
  *     card_read               8
  *     card_start            312
- *     card_add_water        760
- *     card_add_inches       760
+ *     card_add_water        792
+ *     card_add_inches       792
  *     card_add_z            568
  *     card_add_season      1192
  *     card_row              376
@@ -289,7 +289,7 @@ card_started card_start(const int32_t *constants, size_t constants_length,
 
 /* ---- Columns -------------------------------------------------------------------------------------- */
 
-/* Whether a month had water, as its record says it last: only 1 is water. */
+/* Whether a month had water, as its record says: only 1 is water. */
 enum { CARD_HAD_NO_WATER = 0, CARD_HAD_WATER = 1 };
 
 /* A month's record: its Z, its water, what the soil stored and its modified index, in thousandths, of an inch

@@ -1,7 +1,7 @@
 // Whether a spell in force has ended: U, V, E and Q of a month, and the chance of an ending in percent.
 //
-// For the crates `spells` and `modified`, which hold X3, V and Z in range. A wet spell is a drought with the signs turned, so a
-// drought's rules are all that stands here.
+// For the crates `spells` and `modified`, which hold X3, V and Z in range. A wet spell is a drought with the signs turned,
+// so a drought's rules are all that stands here.
 use outline::E_OFFSET;
 use outline::U_OFFSET;
 use outline::WEIGHT_OF_X;
