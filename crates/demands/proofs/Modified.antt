@@ -12,7 +12,7 @@ use Rattle.exact.proofs.Z.{zs, is-Z}
 use Rattle.ending.specs.Ending.{turn, abating}
 use Rattle.spells.specs.Spells.{stepOf}
 use Rattle.spells.specs.ValuesFit.{ValuesFit}
-use Rattle.spell_laws.specs.Cases.{endingIn, SpellIs, spell-is}
+use Rattle.spell_laws.specs.Cases.{endingIn}
 use Rattle.modified.specs.Modified.{side, modifiedOf}
 use Rattle.modified.proofs.Laws.{by-v}
 use Rattle.modified.proofs.Abating.{lies-between}
@@ -69,10 +69,10 @@ module _ (r : Run) (a : Ask) (cs : Book) (h : asked r a cs .answer .number ≡ 0
       flip : (x y : ℤ) → negℤ x ≤ℤ negℤ y → y ≤ℤ x
       flip x y = rw (is-Z x, is-Z y) (simp zs (omega arith))
 
-  elsewhere : (SpellIs abating (r .values) (figures .z) → ⊥) → figures .modified ≡ figures .index
+  elsewhere : ((wet : Bool) → AbatesIn wet r (figures .z) → ⊥) → figures .modified ≡ figures .index
   elsewhere n =
-      let k = subst (λ (f : Figures). SpellIs abating (r .values) (f .z) → ⊥) are n in
-      rw are (by-v (r .values) z (modifiedOf (r .values) z ≡ stepOf (r .values) z .index) (λ e i. i) (λ wet f e m i. absurd (k (spell-is wet f e))))
+      let k = subst (λ (f : Figures). (wet : Bool) → AbatesIn wet r (f .z) → ⊥) are n in
+      rw are (by-v (r .values) z (modifiedOf (r .values) z ≡ stepOf (r .values) z .index) (λ e i. i) (λ wet f e m i. absurd (k wet (f, e))))
 
 -- ---- months one after another
 modified-for : (s : Station) (a : Ask) → recordFor s a .modified ≡ modifiedFor s a

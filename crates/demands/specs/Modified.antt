@@ -6,11 +6,11 @@ use mathlib.Core.Path.{_≡_}
 use mathlib.Core.Bool.{Bool, true, false}
 use mathlib.Core.List.{List, [], _∷_}
 use Prim.Native.Nat.{ℕ, _≤_, _<_}
-use lib.IntN.{ℤ, pos}
-use lib.Signed.{_≤ℤ_}
+use lib.IntN.{ℤ, pos, negℤ}
+use lib.Signed.{_≤ℤ_, _<ℤ_}
 use lib.ListN.{length, getD}
-use Rattle.ending.specs.Ending.{abating}
-use Rattle.spell_laws.specs.Cases.{InForce, endingIn, SpellIs}
+use Rattle.outline.specs.Numbers.{inForceBeyond}
+use Rattle.ending.specs.Ending.{turn, abating, endingOf}
 use Rattle.modified.specs.Modified.{modifiedOf}
 use Rattle.runs.specs.declared.Run.{Run}
 use Rattle.refusals.specs.Book.{Book}
@@ -34,9 +34,11 @@ modifiedSoFar f asks = modifiedOfMonths (stationOf (first f .run)) asks
 abbrev figuresOf : Run → Ask → Book → Figures
 figuresOf r a cs = asked r a cs .answer .figures
 
--- a drought, or where `wet` a wet spell, abates in the month with this Z
+-- a drought, or where `wet` a wet spell, is in force, and abates in the month with this Z
 abbrev pub AbatesIn : Bool → Run → ℤ → Type 0
-AbatesIn wet r z = InForce wet (r .values) × (endingIn wet (r .values) z ≡ abating)
+AbatesIn wet r z =
+    (turn wet (r .values .x3) <ℤ negℤ (pos inForceBeyond))
+    × (endingOf (turn wet (r .values .x3)) (turn wet (r .values .v)) (turn wet z) ≡ abating)
 
 -- all that is kept of the month at place i but its index and its mark: X1, X2, X3, its record and V
 pub record Kept (s t : State) (i : ℕ) : Type 0 where
@@ -71,5 +73,5 @@ pub record SecondEdition : Type 0 where
       → (figuresOf r a cs .x2 ≤ℤ figuresOf r a cs .modified) × (figuresOf r a cs .modified ≤ℤ figuresOf r a cs .x3)
   -- and elsewhere it is the index that the month is added with, so that a month which decides shows both figures alike
   pub elsewhere :
-      (r : Run) (a : Ask) (cs : Book) → asked r a cs .answer .number ≡ 0 → (SpellIs abating (r .values) (figuresOf r a cs .z) → ⊥)
+      (r : Run) (a : Ask) (cs : Book) → asked r a cs .answer .number ≡ 0 → ((wet : Bool) → AbatesIn wet r (figuresOf r a cs .z) → ⊥)
       → figuresOf r a cs .modified ≡ figuresOf r a cs .index
