@@ -31,8 +31,8 @@ abbrev pub modifiedSoFar : Fresh → List Ask → List ℤ
 modifiedSoFar f asks = modifiedOfMonths (stationOf (first f .run)) asks
 
 -- the figures of the month that is added
-abbrev figuresOf : Run → Ask → Book → Figures
-figuresOf r a cs = asked r a cs .answer .figures
+abbrev figuresBy : Run → Ask → Book → Figures
+figuresBy r a cs = asked r a cs .answer .figures
 
 -- a drought, or where `wet` a wet spell, is in force, and abates in the month with this Z
 abbrev pub AbatesIn : Bool → Run → ℤ → Type 0
@@ -50,7 +50,7 @@ pub record Kept (s t : State) (i : ℕ) : Type 0 where
 
 pub record SecondEdition : Type 0 where
   -- on any lists: an accepted add answers with the modified index of the run's values and the month's Z,
-  pub answered : (r : Run) (a : Ask) (cs : Book) → asked r a cs .answer .number ≡ 0 → figuresOf r a cs .modified ≡ modifiedOf (r .values) (figuresOf r a cs .z)
+  pub answered : (r : Run) (a : Ask) (cs : Book) → asked r a cs .answer .number ≡ 0 → figuresBy r a cs .modified ≡ modifiedOf (r .values) (figuresBy r a cs .z)
   -- and keeps it in the month's record
   pub recorded :
       (f : Fresh) (asks : List Ask) → Accepted (first f) asks → (i : ℕ) → i < length asks
@@ -66,12 +66,12 @@ pub record SecondEdition : Type 0 where
       → Kept (now f asks) (afterAll (now f asks) more) i
   -- while a drought abates it lies between X3 and X1, while a wet spell does between X2 and X3,
   pub drought :
-      (r : Run) (a : Ask) (cs : Book) → asked r a cs .answer .number ≡ 0 → AbatesIn false r (figuresOf r a cs .z)
-      → (figuresOf r a cs .x3 ≤ℤ figuresOf r a cs .modified) × (figuresOf r a cs .modified ≤ℤ figuresOf r a cs .x1)
+      (r : Run) (a : Ask) (cs : Book) → asked r a cs .answer .number ≡ 0 → AbatesIn false r (figuresBy r a cs .z)
+      → (figuresBy r a cs .x3 ≤ℤ figuresBy r a cs .modified) × (figuresBy r a cs .modified ≤ℤ figuresBy r a cs .x1)
   pub wet :
-      (r : Run) (a : Ask) (cs : Book) → asked r a cs .answer .number ≡ 0 → AbatesIn true r (figuresOf r a cs .z)
-      → (figuresOf r a cs .x2 ≤ℤ figuresOf r a cs .modified) × (figuresOf r a cs .modified ≤ℤ figuresOf r a cs .x3)
+      (r : Run) (a : Ask) (cs : Book) → asked r a cs .answer .number ≡ 0 → AbatesIn true r (figuresBy r a cs .z)
+      → (figuresBy r a cs .x2 ≤ℤ figuresBy r a cs .modified) × (figuresBy r a cs .modified ≤ℤ figuresBy r a cs .x3)
   -- and elsewhere it is the index that the month is added with, so that a month which decides shows both figures alike
   pub elsewhere :
-      (r : Run) (a : Ask) (cs : Book) → asked r a cs .answer .number ≡ 0 → ((wet : Bool) → AbatesIn wet r (figuresOf r a cs .z) → ⊥)
-      → figuresOf r a cs .modified ≡ figuresOf r a cs .index
+      (r : Run) (a : Ask) (cs : Book) → asked r a cs .answer .number ≡ 0 → ((wet : Bool) → AbatesIn wet r (figuresBy r a cs .z) → ⊥)
+      → figuresBy r a cs .modified ≡ figuresBy r a cs .index

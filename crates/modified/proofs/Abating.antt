@@ -19,6 +19,7 @@ use Rattle.spell_laws.specs.Cases.{InForce, endingIn}
 use Rattle.spell_laws.specs.Months.{x1Of, x2Of}
 use Rattle.spell_laws.proofs.Abates.{abating-tests, abating-x3, abating-v}
 use Rattle.spell_laws.proofs.Parts.{month-sides, month-x3}
+use Rattle.spell_laws.proofs.Mirror.{neg-up}
 use Rattle.spell_laws.proofs.Theorems.{index-within}
 use Rattle.modified.specs.Modified.{mixed, side, leaning, modifiedOf}
 use Rattle.modified.specs.Leans.{lackingOf, Leans}
@@ -43,10 +44,7 @@ module _ (wet : Bool) (s : Running) (z : ℤ) (fit : ValuesFit s) (hz : natAbs z
     where
       go : (t : Bool) → SidesFit (x1Of s z) (x2Of s z) → (pos 0 ≤ℤ turn t (side t left)) × (natAbs (side t left) ≤ mostX)
       go false b = (b .x1-sign, b .x1-size)
-      go true b = (flip (x2Of s z) (b .x2-sign), b .x2-size)
-        where
-          flip : (x : ℤ) → x ≤ℤ pos 0 → pos 0 ≤ℤ negℤ x
-          flip x = rw (is-Z x) (simp zs (omega arith))
+      go true b = (neg-up (x2Of s z) (b .x2-sign), b .x2-size)
 
   leans-left : Leans wet (s .x3) z (left .v) (left .x3) (side wet left)
   unfolding abatingValues
