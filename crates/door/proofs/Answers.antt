@@ -1,29 +1,51 @@
--- What the code's branches have to show: `converted` where its range test passes and where it fails, and `whole`. Assumes nothing.
-use mathlib.Core.Path.{_≡_, refl, sym, ap, _∙_, subst}
-use mathlib.Core.Bool.{Bool, true, false, cond, true≢false, false≢true}
+-- What the code's branches have to show: a trace and what is none, `converted` where its range test passes and where it fails, and `whole`.
+-- Assumes nothing.
+use mathlib.Core.Path.{_≡_, refl, sym, ap, ap₂, _∙_, subst}
+use mathlib.Core.Bool.{Bool, true, false, cond, _&&_, true≢false, false≢true}
 use Prim.Native.Nat.{ℕ, zero-le, _*_, _^_, _<_, _≤_}
 use native.Mathlib.Nat.{lt-of-le-of-lt}
 use lib.IntN.{ℤ, pos, negsuc, natAbs}
 use lib.Signed.{leZ, nonNeg}
-use lib.Dec.{T, lit<}
-use lib.Ieee.{Float, binary32, le, ofBits}
+use lib.Dec.{T, eqb, lit<}
+use lib.Ieee.{Float, binary32, lt, le, ofBits}
 use mir.Syntax.{w32}
 use mir.Val.{Fits}
-use borrow.Author.Tests.{leb-true, le-leb}
-use Rattle.door.specs.Exact.{within, nearestTo}
-use Rattle.door.specs.Outcome.{Outcome, accepted, refused}
+use borrow.Author.Tests.{leb-true, le-leb, eq-eqb, ne-eqb}
+use Rattle.door.specs.Exact.{within, aboveZero, nearestTo}
+use Rattle.door.specs.Outcome.{Outcome, accepted, traced, refused}
 use Rattle.outline.specs.Refusals.{notAcceptable}
-use Rattle.door.proofs.Range.{at, inside, over, under, widened}
-use Rattle.door.specs.Readings.{converted, whole, mostReading}
+use Rattle.door.proofs.Range.{at, inside, over, under, widened, above-is}
+use Rattle.door.specs.Readings.{fallen, converted, whole, mostReading}
+
+-- the two tests `n == 0` and `x > 0.0`: both pass, the second fails, or the first
+module _ (x : Float) (n : ℕ) where
+  abbrev told : Bool → Bool → Outcome
+  told above dry = cond (above && dry) traced (accepted n)
+
+  by-tests : (b : Bool) → lt (ofBits binary32 0) x ≡ b → (t : Bool) → eqb n 0 ≡ t → told b t ≡ fallen (aboveZero x) n
+  by-tests b p t q = sym (ap₂ told (above-is x ∙ p) q)
+
+  pub is-trace : n ≡ 0 → lt (ofBits binary32 0) x ≡ true → traced ≡ fallen (aboveZero x) n
+  is-trace e p = by-tests true p true (eq-eqb n 0 e)
+
+  pub not-above : lt (ofBits binary32 0) x ≡ false → accepted n ≡ fallen (aboveZero x) n
+  not-above p = by-tests false p (eqb n 0) refl
+
+  pub not-dry : (n ≡ 0 → ⊥) → accepted n ≡ fallen (aboveZero x) n
+  not-dry h = go (lt (ofBits binary32 0) x) refl
+    where
+      go : (b : Bool) → lt (ofBits binary32 0) x ≡ b → accepted n ≡ fallen (aboveZero x) n
+      go true p = by-tests true p false (ne-eqb n 0 h)
+      go false p = not-above p
 
 -- the two tests `x >= 0.0` and `x <= MOST`, of which MOST is n * 2 ^ d and has the pattern b
 module _ (n d b : ℕ) (N : 0 < n * 2 ^ d) (is : ofBits binary32 b ≡ at n d) (per of : ℕ) (x : Float) where
   abbrev picked : Bool → Outcome
-  picked t = cond t (accepted (nearestTo per of x)) (refused notAcceptable)
+  picked t = cond t (fallen (aboveZero x) (nearestTo per of x)) (refused notAcceptable)
 
-  pub taken-in : (r : ℕ) → le (ofBits binary32 0) x ≡ true → le x (ofBits binary32 b) ≡ true → r ≡ nearestTo per of x → accepted r ≡ converted (n * 2 ^ d) per of x
+  pub taken-in : (o : Outcome) (r : ℕ) → le (ofBits binary32 0) x ≡ true → le x (ofBits binary32 b) ≡ true → r ≡ nearestTo per of x → o ≡ fallen (aboveZero x) r → o ≡ converted (n * 2 ^ d) per of x
   unfolding converted
-  taken-in r p q e = ap accepted e ∙ sym (ap picked (inside n d b N is x p q))
+  taken-in o r p q e f = f ∙ ap (fallen (aboveZero x)) e ∙ sym (ap picked (inside n d b N is x p q))
 
   pub too-much : le (ofBits binary32 0) x ≡ true → le x (ofBits binary32 b) ≡ false → refused notAcceptable ≡ converted (n * 2 ^ d) per of x
   unfolding converted

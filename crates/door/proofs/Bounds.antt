@@ -1,7 +1,7 @@
 -- No reading gives more than 100 inches: what is in range, times per / of, is rounded to at most the range's end times per / of.
 -- Assumes nothing.
 use mathlib.Core.Path.{_≡_, refl, ap, _∙_}
-use mathlib.Core.Bool.{Bool, true, false, cond, not, _||_}
+use mathlib.Core.Bool.{Bool, true, false, cond, not, _&&_, _||_}
 use Prim.Native.Nat.{ℕ, _*_, _≤_, _<_, zero-le}
 use native.Mathlib.Nat.{le-trans, le-of-eq, mul-pos, mul-le-mul-right, mul-comm, mul-assoc, mul-right-comm}
 use native.Mathlib.Omega.{arith}
@@ -12,10 +12,10 @@ use lib.Ieee.Fits.{and-r, down-pos}
 use borrow.Author.Tests.{leb-true}
 use Rattle.exact.specs.Nearest.{nearestℕ}
 use Rattle.exact.proofs.Nearest.{near-within}
-use Rattle.door.specs.Exact.{within, nearestTo}
-use Rattle.door.specs.Outcome.{accepted, refused}
+use Rattle.door.specs.Exact.{within, aboveZero, nearestTo}
+use Rattle.door.specs.Outcome.{accepted, traced, refused}
 use Rattle.outline.specs.Refusals.{notAcceptable}
-use Rattle.door.specs.Readings.{mostReading, whole, converted, inches, millimetres, reading}
+use Rattle.door.specs.Readings.{mostReading, fallen, whole, converted, inches, millimetres, reading}
 use Rattle.door.specs.declared.Reading.{Reading}
 use Rattle.door.specs.declared.Reading.the-variants.{Whole, Inches, Millimetres, Missing}
 
@@ -38,8 +38,12 @@ module _ (most per of k : ℕ) (O : 0 < of) (e : most * per ≡ k * of) where
       near-most (m * up x * per) (down x * of) k (mul-pos (down-pos x) O)
       (sized m (up x) (down x) (leb→le (m * up x) (most * down x) (and-r (not s || eqb m 0) (leb (m * up x) (most * down x)) h)))
 
-  picked : (t : Bool) (x : Float) → (T t → nearestTo per of x ≤ k) → cond t (accepted (nearestTo per of x)) (refused notAcceptable) .water ≤ k
-  picked true x f = f tt
+  picked : (t : Bool) (x : Float) → (T t → nearestTo per of x ≤ k) → cond t (fallen (aboveZero x) (nearestTo per of x)) (refused notAcceptable) .water ≤ k
+  picked true x f = go (aboveZero x && eqb (nearestTo per of x) 0) (f tt)
+    where
+      go : (b : Bool) {n : ℕ} → n ≤ k → cond b traced (accepted n) .water ≤ k
+      go true h = zero-le
+      go false h = h
   picked false x f = zero-le
 
   pub converted-most : (x : Float) → converted most per of x .water ≤ k

@@ -2,18 +2,21 @@
 -- outcome (`from`), so no two answers have the same. Assumes nothing.
 use mathlib.Core.Path.{_≡_, refl, sym, ap, ap₂, _∙_}
 use mathlib.Core.Bool.{cond}
+use Prim.Native.Nat.{zero, suc}
 use lib.Dec.{eqb}
-use Rattle.door.specs.Outcome.{Outcome, MonthOutcomes, outcome, outcomes}
+use Rattle.door.specs.Outcome.{trace, Outcome, MonthOutcomes, outcome, outcomes}
 use Rattle.outline.specs.Refusals.{missing}
 use Rattle.door.specs.declared.Answer.{Answer}
-use Rattle.door.specs.declared.Answer.the-variants.{Water, NoReading, NotAcceptable}
+use Rattle.door.specs.declared.Answer.the-variants.{Water, Trace, NoReading, NotAcceptable}
 use Rattle.door.specs.declared.MonthAnswers.{MonthAnswers}
 
 abbrev from : Outcome → Answer
-from o = cond (eqb (o .number) 0) (Water (o .water)) (cond (eqb (o .number) missing) NoReading NotAcceptable)
+from o = cond (eqb (o .kind) trace) Trace (cond (eqb (o .number) 0) (Water (o .water)) (cond (eqb (o .number) missing) NoReading NotAcceptable))
 
 from-outcome : (a : Answer) → from (outcome a) ≡ a
-from-outcome (Water n) = refl
+from-outcome (Water zero) = refl
+from-outcome (Water (suc n)) = refl
+from-outcome Trace = refl
 from-outcome NoReading = refl
 from-outcome NotAcceptable = refl
 

@@ -1,16 +1,17 @@
 -- The two comparisons of the code, `x >= 0.0` and `x <= LIMIT`, say together what `within` says: of every float, a NaN and the infinities included.
--- Assumes nothing.
+-- And `x > 0.0` is `aboveZero`. Assumes nothing.
 use mathlib.Core.Path.{_≡_, refl, sym, ap, _∙_, subst}
 use mathlib.Core.Logic.{_⊎_, inl, inr}
 use mathlib.Core.Bool.{Bool, true, false, not, _&&_, _||_}
 use Prim.Native.Nat.{ℕ, zero, suc, _+_, _*_, _^_, _≤_, _<_, zero-le}
-use native.Mathlib.Nat.{le-trans, le-of-eq, le-of-lt, eq-or-lt-of-le, mul-one, zero-mul, mul-pos, lt-irrefl, zero-lt-suc, mul-le-mul-right, lt-of-lt-of-le, le-add-left}
+use native.Mathlib.Nat.{le-trans, le-of-eq, le-of-lt, eq-or-lt-of-le, mul-one, zero-mul, mul-pos, lt-irrefl, zero-lt-suc, mul-le-mul-right, lt-of-le-of-lt, lt-of-lt-of-le, le-add-left}
 use native.Mathlib.Omega.{arith}
 use lib.IntN.{pos}
 use lib.Dec.{T, leb, ltb, eqb, ltb→lt, lt→ltb, leb→le, le→leb, eqb→eq}
 use lib.Ieee.{Float, nan, inf, fin, binary32, up, down, lt, eq, le, ofBits, isNan}
 use lib.Ieee.Fits.{and-i, and-l, and-r, eq→eqb, up-pos, down-pos}
-use Rattle.door.specs.Exact.{within}
+use borrow.Author.Tests.{lt-ltb, le-ltb, ne-eqb}
+use Rattle.door.specs.Exact.{within, aboveZero}
 
 -- ---- tests
 
@@ -122,6 +123,18 @@ module _ (n d b : ℕ) (N : 0 < n * 2 ^ d) (is : ofBits binary32 b ≡ at n d) (
 
   pub under : le (ofBits binary32 0) x ≡ false → within (n * 2 ^ d) x ≡ false
   under p = by-bits ∙ ap (λ (t : Bool). t && le x (ofBits binary32 b)) p
+
+-- `x > 0.0`, of every float: neither zero is above zero
+pub above-is : (x : Float) → aboveZero x ≡ lt (ofBits binary32 0) x
+unfolding aboveZero lt
+above-is x = go x ∙ ap (λ (z : Float). lt z x) (sym zero-is)
+  where
+    go : (x : Float) → aboveZero x ≡ lt (at 0 0) x
+    go nan = refl
+    go (inf s) = refl
+    go (fin true m e) = refl
+    go (fin false zero e) = sym (le-ltb (0 * 1 * down e) (0 * up e * 1) (le-trans (le-of-eq (mul-one (0 * up e) ∙ zero-mul (up e))) zero-le))
+    go (fin false (suc m) e) = ap not (ne-eqb (suc m) 0 (no-suc m)) ∙ sym (lt-ltb (0 * 1 * down e) (suc m * up e * 1) (lt-of-le-of-lt (le-of-eq (zero-mul (down e))) (mul-pos (mul-pos (zero-lt-suc m) (up-pos e)) (zero-lt-suc 0))))
 
 -- 100.0 is 25 * 2 ^ 2, and 2540.0 is 635 * 2 ^ 2
 pub hundred-is : ofBits binary32 0x42c8_0000 ≡ at 25 2

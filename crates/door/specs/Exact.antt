@@ -14,6 +14,12 @@ within most nan = false
 within most (inf s) = false
 within most (fin s m e) = (not s || eqb m 0) && leb (m * up e) (most * down e)
 
+-- Whether x is above zero. No zero is, of either sign, and no NaN.
+unfoldable pub aboveZero : Float → Bool
+aboveZero nan = false
+aboveZero (inf s) = not s
+aboveZero (fin s m e) = not s && not (eqb m 0)
+
 -- The whole number nearest to the size of x times per / of, for an `of` above 0.
 unfoldable pub nearestTo : ℕ → ℕ → Float → ℕ
 nearestTo per of nan = 0

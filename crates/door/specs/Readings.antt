@@ -1,12 +1,12 @@
 -- Document 01, "Readings at the door": a reading is one of four, and the answer is the nearest thousandth of an inch to the exact value of
--- the number. Assumes nothing.
+-- the number. Document 02, E7: a number above zero whose nearest thousandth is 0 is a trace. Assumes nothing.
 use Prim.Native.Nat.{ℕ}
-use mathlib.Core.Bool.{cond}
+use mathlib.Core.Bool.{Bool, cond, _&&_}
 use lib.IntN.{ℤ, pos, negsuc}
-use lib.Dec.{leb}
+use lib.Dec.{leb, eqb}
 use lib.Ieee.{Float}
-use Rattle.door.specs.Exact.{within, nearestTo}
-use Rattle.door.specs.Outcome.{Outcome, MonthOutcomes, accepted, refused}
+use Rattle.door.specs.Exact.{within, aboveZero, nearestTo}
+use Rattle.door.specs.Outcome.{Outcome, MonthOutcomes, accepted, traced, refused}
 use Rattle.outline.specs.Refusals.{missing, notAcceptable}
 use Rattle.door.specs.declared.Reading.{Reading}
 use Rattle.door.specs.declared.Reading.the-variants.{Whole, Inches, Millimetres, Missing}
@@ -21,9 +21,13 @@ unfoldable pub whole : ℤ → Outcome
 whole (pos n) = cond (leb n mostReading) (accepted n) (refused notAcceptable)
 whole (negsuc n) = refused notAcceptable
 
+-- "trace (above zero, nearest thousandth 0)": n thousandths, of a number above zero or not
+abbrev pub fallen : Bool → ℕ → Outcome
+fallen above n = cond (above && eqb n 0) traced (accepted n)
+
 -- a binary32 number from 0 to `most`, of which one is per / of thousandths
 unfoldable pub converted : ℕ → ℕ → ℕ → Float → Outcome
-converted most per of x = cond (within most x) (accepted (nearestTo per of x)) (refused notAcceptable)
+converted most per of x = cond (within most x) (fallen (aboveZero x) (nearestTo per of x)) (refused notAcceptable)
 
 -- "inches as an IEEE 754 binary32 number (0 to 100)"
 abbrev pub mostInches : ℕ

@@ -1,4 +1,4 @@
-// Readings at the door: what a gauge says, as whole thousandths of an inch or a refusal.
+// Readings at the door: what a gauge says, as whole thousandths of an inch, a trace, or a refusal.
 //
 // A binary32 number is judged by comparisons and by the bits of its pattern alone; no float is added,
 // multiplied or rounded.
@@ -7,9 +7,9 @@ use outline::NO_READING;
 ghost use mathlib.Core.Path.{_≡_};
 ghost use Prim.Native.Nat.{_<_, _≤_};
 ghost use lib.Dec.{T};
-ghost use Rattle.door.specs.Exact.{within, nearestTo};
-ghost use Rattle.door.specs.Readings.{whole, inches, millimetres, reading, month};
-ghost use Rattle.door.specs.Outcome.{outcome, outcomes};
+ghost use Rattle.door.specs.Exact.{within, aboveZero, nearestTo};
+ghost use Rattle.door.specs.Readings.{fallen, whole, inches, millimetres, reading, month};
+ghost use Rattle.door.specs.Outcome.{outcome, outcomes, kindOfWater, kindsOf};
 
 // A reading is one of four.
 pub enum Reading {
@@ -22,10 +22,12 @@ pub enum Reading {
     Missing,
 }
 
-// What a reading answers. `outcome` gives each case the paper's number and thousandths.
+// What a reading answers. `outcome` gives each case the paper's number, thousandths and kind.
 pub enum Answer {
-    // 0: thousandths of an inch.
+    // 0: thousandths of an inch, of which 0 is no rain and any other number was measured.
     Water(u32),
+    // 0: rain, but too little to measure. It counts as no water.
+    Trace,
     // 8: reading missing.
     NoReading,
     // 9: reading not acceptable.
@@ -43,6 +45,20 @@ pub struct MonthAnswers {
     pub p: Answer,
     pub pe: Answer,
 }
+
+// The kinds of a month's two readings.
+#[repr(C)]
+pub struct MonthKinds {
+    pub p: u8,
+    pub pe: u8,
+}
+
+// The kinds of an answer; a refused reading's is 0.
+const NONE: u8 = 0;
+
+const TRACE: u8 = 1;
+
+const MEASURED: u8 = 2;
 
 // The ends of the three ranges.
 const MOST_WHOLE: i32 = 100_000;
@@ -68,12 +84,22 @@ fn nearest_to(x: f32, per: u64, of: u64) -> u32
     exact::nearest_unsigned((fraction as u64) * per, of << (150 - exponent)) as u32
 }
 
+// What was read as n thousandths of x: a trace where x is above zero and n is not. Negative zero is not above zero.
+fn fallen(x: f32, n: u32) -> Answer
+    ensures { λ r. ⌜ outcome r ≡ fallen (aboveZero x) n ⌝ }
+{
+    if n == 0 && x > 0.0 {
+        return Answer::Trace;
+    }
+    Answer::Water(n)
+}
+
 // A number of inches. A NaN passes no comparison, so both tests must pass.
 fn read_inches(x: f32) -> Answer
     ensures { λ r. ⌜ outcome r ≡ inches x ⌝ }
 {
     if x >= 0.0 && x <= MOST_INCHES {
-        return Answer::Water(nearest_to(x, 1000, 1));
+        return fallen(x, nearest_to(x, 1000, 1));
     }
     Answer::NotAcceptable
 }
@@ -83,7 +109,7 @@ fn read_millimetres(x: f32) -> Answer
     ensures { λ r. ⌜ outcome r ≡ millimetres x ⌝ }
 {
     if x >= 0.0 && x <= MOST_MILLIMETRES {
-        return Answer::Water(nearest_to(x, 5000, 127));
+        return fallen(x, nearest_to(x, 5000, 127));
     }
     Answer::NotAcceptable
 }
@@ -125,18 +151,48 @@ pub fn number(a: Answer) -> u8
 {
     match a {
         Answer::Water(_) => 0,
+        Answer::Trace => 0,
         Answer::NoReading => NO_READING,
         Answer::NotAcceptable => BAD_READING,
     }
 }
 
-// The thousandths of an answer, 0 where it is a refusal.
+// The thousandths of an answer, 0 where it is a trace or a refusal.
 pub fn water(a: Answer) -> u32
     ensures { λ r. ⌜ r ≡ outcome a .water ⌝ }
 {
     match a {
         Answer::Water(n) => n,
+        Answer::Trace => 0,
         Answer::NoReading => 0,
         Answer::NotAcceptable => 0,
+    }
+}
+
+// The kind of an answer.
+pub fn kind(a: Answer) -> u8
+    ensures { λ r. ⌜ r ≡ outcome a .kind ⌝ }
+{
+    match a {
+        Answer::Water(n) => kind_of_water(n),
+        Answer::Trace => TRACE,
+        Answer::NoReading => NONE,
+        Answer::NotAcceptable => NONE,
+    }
+}
+
+fn kind_of_water(n: u32) -> u8
+    ensures { λ r. ⌜ r ≡ kindOfWater n ⌝ }
+{
+    if n == 0 { NONE } else { MEASURED }
+}
+
+// The kinds of a month's two answers.
+pub fn kinds(p: Answer, pe: Answer) -> MonthKinds
+    ensures { λ r. ⌜ r ≡ kindsOf (outcome p) (outcome pe) ⌝ }
+{
+    MonthKinds {
+        p: kind(p),
+        pe: kind(pe),
     }
 }
