@@ -10,6 +10,7 @@ use mir.Val.{SFits}
 use Rattle.outline.specs.Numbers.{mostZ}
 use Rattle.exact.proofs.Held.{held}
 use Rattle.door.specs.Readings.{mostReading}
+use Rattle.door.specs.declared.MonthKinds.{MonthKinds}
 use Rattle.water.specs.Bounds.{ConstantsFit}
 use Rattle.water.specs.Expected.{monthOf}
 use Rattle.water.specs.declared.Constants.{Constants}
@@ -53,10 +54,10 @@ module _ (at : Progress) (ks : List ℤ) where
       record { is = rw e at f; bounded = z; fits = search held; kept = rw f (recordable (at .soil) p pe k (w .soil) (b .0) (b .1) (fit k e w)) }
 
   -- the month with its spells, put together, and its record and V written
-  pub measured-is : (p pe : ℕ) (m : Month) → Measured p pe m → (cs : Book) (ds : Columns) (s : Spelled) → Spells (at .months) (at .opens) (at .values) (m .z) (columnsOf cs) s ds
-      → (records : List (List ℤ)) → records ≡ set (cs .records) (at .months) (numbersOf (waterRecord (at .soil) p pe m (s .modified)))
+  pub measured-is : (p pe : ℕ) (kinds : MonthKinds) (m : Month) → Measured p pe m → (cs : Book) (ds : Columns) (s : Spelled) → Spells (at .months) (at .opens) (at .values) (m .z) (columnsOf cs) s ds
+      → (records : List (List ℤ)) → records ≡ set (cs .records) (at .months) (numbersOf (waterRecord (at .soil) p pe m (s .modified) (kinds .p)))
       → (v : List ℤ) → v ≡ set (cs .v) (at .months) (s .values .v)
-      → (t : MonthAdded) → t ≡ monthAdded at (soilAfter (at .soil) m) (waterFigures p pe m) (m .z) s
-      → result (addedOf t ks) (bookOf ds records v) ≡ takenWater (runOf at ks) p pe cs
+      → (t : MonthAdded) → t ≡ monthAdded at (soilAfter (at .soil) m) (waterFigures p pe kinds m) (m .z) s
+      → result (addedOf t ks) (bookOf ds records v) ≡ takenWater (runOf at ks) p pe kinds cs
   unfolding takenWater
-  measured-is p pe m i cs ds s h records f v g t e = rw (← i .is, e) (taken-is at (soilAfter (at .soil) m) (waterFigures p pe m) (m .z) (waterRecord (at .soil) p pe m (modifiedOf (at .values) (m .z))) cs s ds records v h (rw (h .modified-is) at f) g ks)
+  measured-is p pe kinds m i cs ds s h records f v g t e = rw (← i .is, e) (taken-is at (soilAfter (at .soil) m) (waterFigures p pe kinds m) (m .z) (waterRecord (at .soil) p pe m (modifiedOf (at .values) (m .z)) (kinds .p)) cs s ds records v h (rw (h .modified-is) at f) g ks)

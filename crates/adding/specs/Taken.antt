@@ -1,10 +1,11 @@
 -- Document 01, "What can be asked": a month that is added, and a refused one. What an add answers, the run that it hands back and what every
--- lent list then holds: the five columns, and document 02's records and V (E6), with the modified index (E4). Assumes nothing.
+-- lent list then holds: the five columns, and document 02's records and V (E6), with the modified index (E4) and the kinds of the readings (E7). Assumes nothing.
 use Prim.Native.Nat.{ℕ, suc}
 use mathlib.Core.List.{_++_}
 use lib.IntN.{ℤ}
 use lib.ListN.{drop, set}
 use Rattle.outline.specs.Refusals.{unlessRefused}
+use Rattle.door.specs.declared.MonthKinds.{MonthKinds}
 use Rattle.water.specs.Expected.{monthOf}
 use Rattle.water.specs.declared.Soil.{Soil}
 use Rattle.water.specs.declared.Month.{Month}
@@ -89,10 +90,11 @@ soilAfter s m = record { capacity = s .capacity; surface = m .surface; underlyin
 abbrev pub waterOf : Run → ℕ → ℕ → Month
 waterOf r p pe = monthOf (r .soil) p pe (constantsAt (r .constants) (r .calendar))
 
-unfoldable pub takenWater : Run → ℕ → ℕ → Book → Result
-takenWater r p pe cs =
-    taken r (soilAfter (r .soil) (waterOf r p pe)) (waterFigures p pe (waterOf r p pe)) (waterOf r p pe .z)
-    (waterRecord (r .soil) p pe (waterOf r p pe) (modifiedOf (r .values) (waterOf r p pe .z))) cs
+-- .. is added, from readings of these kinds
+unfoldable pub takenWater : Run → ℕ → ℕ → MonthKinds → Book → Result
+takenWater r p pe kinds cs =
+    taken r (soilAfter (r .soil) (waterOf r p pe)) (waterFigures p pe kinds (waterOf r p pe)) (waterOf r p pe .z)
+    (waterRecord (r .soil) p pe (waterOf r p pe) (modifiedOf (r .values) (waterOf r p pe .z)) (kinds .p)) cs
 
 -- the result, or where the number k is not 0 its refusal
 abbrev pub answered : ℕ → Run → Book → Result → Result

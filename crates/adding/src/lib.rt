@@ -3,6 +3,7 @@
 // For the crates that add a month, `taking` and `season_month`, and those that make the calls, `drought` and `season`, which ask for every refusal first: what has a `requires` is
 // for them alone. A run goes through here without its sixty constants, and an answer is put together once, where a call
 // hands it back.
+use door::MonthKinds;
 use outline::MANY_CONSTANTS;
 use runs::Progress;
 use runs::Run;
@@ -22,7 +23,7 @@ ghost use Rattle.adding.specs.Ready.{Ready};
 ghost use Rattle.adding.specs.Progress.{addedOf, monthAdded, notAdded};
 ghost use Rattle.adding.specs.Spelled.{Spells};
 
-// The water of a month: all 0 for an added Z.
+// The water of a month, and the kinds of its two readings: all 0 for an added Z.
 #[repr(C)]
 pub struct WaterFigures {
     pub p: u32,
@@ -36,6 +37,7 @@ pub struct WaterFigures {
     pub pro: u32,
     pub pl: u32,
     pub cafec: i32,
+    pub kinds: MonthKinds,
 }
 
 // A month's figures.
@@ -135,9 +137,9 @@ pub fn add_spells(
 // ---- the answer
 
 // A month of water whose spells are written, put together.
-pub fn watered(at: Progress, p: u32, pe: u32, m: Month, s: Spelled) -> MonthAdded
+pub fn watered(at: Progress, p: u32, pe: u32, kinds: MonthKinds, m: Month, s: Spelled) -> MonthAdded
     requires { ⌜ (at .months < mostMonths) × (calendarFits (at .calendar) ≡ true) ⌝ }
-    ensures { λ t. ⌜ t ≡ monthAdded at (soilAfter (at .soil) m) (waterFigures p pe m) (m .z) s ⌝ }
+    ensures { λ t. ⌜ t ≡ monthAdded at (soilAfter (at .soil) m) (waterFigures p pe kinds m) (m .z) s ⌝ }
 {
     let soil = at.soil;
     let left = Soil {
@@ -145,12 +147,12 @@ pub fn watered(at: Progress, p: u32, pe: u32, m: Month, s: Spelled) -> MonthAdde
         surface: m.surface,
         underlying: m.underlying,
     };
-    let water = water_figures(p, pe, m);
+    let water = water_figures(p, pe, kinds, m);
     month_added(at, left, water, m.z, s)
 }
 
-fn water_figures(p: u32, pe: u32, m: Month) -> WaterFigures
-    ensures { λ w. ⌜ w ≡ waterFigures p pe m ⌝ }
+fn water_figures(p: u32, pe: u32, kinds: MonthKinds, m: Month) -> WaterFigures
+    ensures { λ w. ⌜ w ≡ waterFigures p pe kinds m ⌝ }
 {
     WaterFigures {
         p,
@@ -164,6 +166,7 @@ fn water_figures(p: u32, pe: u32, m: Month) -> WaterFigures
         pro: m.pro,
         pl: m.pl,
         cafec: m.cafec,
+        kinds,
     }
 }
 
@@ -243,6 +246,7 @@ fn same_figures(f: Figures) -> Figures
     ensures { λ r. ⌜ r ≡ f ⌝ }
 {
     let w = f.water;
+    let kinds = w.kinds;
     let water = WaterFigures {
         p: w.p,
         pe: w.pe,
@@ -255,6 +259,7 @@ fn same_figures(f: Figures) -> Figures
         pro: w.pro,
         pl: w.pl,
         cafec: w.cafec,
+        kinds,
     };
     Figures {
         water,
@@ -272,6 +277,7 @@ fn same_figures(f: Figures) -> Figures
 pub fn no_water() -> WaterFigures
     ensures { λ w. ⌜ w ≡ noWater ⌝ }
 {
+    let kinds = MonthKinds { p: 0, pe: 0 };
     WaterFigures {
         p: 0,
         pe: 0,
@@ -284,5 +290,6 @@ pub fn no_water() -> WaterFigures
         pro: 0,
         pl: 0,
         cafec: 0,
+        kinds,
     }
 }

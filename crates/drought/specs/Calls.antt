@@ -5,7 +5,7 @@ use Prim.Native.Nat.{ℕ}
 use lib.IntN.{ℤ, pos}
 use lib.ListN.{getD}
 use Rattle.outline.specs.Refusals.{unlessRefused}
-use Rattle.door.specs.Outcome.{Outcome}
+use Rattle.door.specs.Outcome.{Outcome, kindsOf}
 use Rattle.door.specs.Readings.{reading, month}
 use Rattle.door.specs.declared.Reading.{Reading}
 use Rattle.door.specs.declared.MonthInches.{MonthInches}
@@ -18,7 +18,7 @@ use Rattle.drought.specs.declared.Shown.{Shown}
 
 -- ---- ADD A MONTH OF WATER, by what its two readings answer
 unfoldable pub addOutcomes : Run → Outcome → Outcome → Book → Result
-addOutcomes r p pe cs = answered (waterRefusal r (p .number) (pe .number) cs) r cs (takenWater r (p .water) (pe .water) cs)
+addOutcomes r p pe cs = answered (waterRefusal r (p .number) (pe .number) cs) r cs (takenWater r (p .water) (pe .water) (kindsOf p pe) cs)
 
 -- two readings
 unfoldable pub addWater : Run → Reading → Reading → Book → Result

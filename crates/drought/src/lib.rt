@@ -8,6 +8,7 @@ use adding::Added;
 use adding::MonthAdded;
 use door::Answer;
 use door::MonthInches;
+use door::MonthKinds;
 use door::Reading;
 use outline::BAD_LISTS;
 use outline::MANY_CONSTANTS;
@@ -91,6 +92,7 @@ pub fn add_water(
         refusals::reading_refusal(door::number(a), door::number(b)),
         door::water(a),
         door::water(b),
+        door::kinds(a, b),
         x1,
         x2,
         x3,
@@ -137,6 +139,7 @@ pub fn add_inches(
         refusals::reading_refusal(door::number(a), door::number(b)),
         door::water(a),
         door::water(b),
+        door::kinds(a, b),
         x1,
         x2,
         x3,
@@ -148,7 +151,7 @@ pub fn add_inches(
     adding::answer_of(t, constants)
 }
 
-// A month of water by the number and the thousandths that its two readings come to, added or refused. They come as numbers
+// A month of water by the number, the thousandths and the kinds that its two readings come to, added or refused. They come as numbers
 // and not as answers, which would be put together for the call and taken apart after it; and n is what is lent, measured.
 fn try_water(
     n: usize,
@@ -157,6 +160,7 @@ fn try_water(
     reading: u8,
     p: u32,
     pe: u32,
+    kinds: MonthKinds,
     x1: &mut [i32],
     x2: &mut [i32],
     x3: &mut [i32],
@@ -167,13 +171,26 @@ fn try_water(
 ) -> MonthAdded
     requires { ⌜ n ≡ lentLong (book (now x1) (now x2) (now x3) (now index) (now mark) (now records) (now v)) ⌝ }
     requires { ⌜ (p ≤ mostReading) × (pe ≤ mostReading) ⌝ }
-    ensures { λ t. ⌜ result (addedOf t (now (constants .entry))) (book (now (x1 .exit)) (now (x2 .exit)) (now (x3 .exit)) (now (index .exit)) (now (mark .exit)) (now (records .exit)) (now (v .exit))) ≡ addOutcomes (runOf at (now (constants .entry))) (record { number = reading; water = p }) (record { number = 0; water = pe }) (book (now (x1 .entry)) (now (x2 .entry)) (now (x3 .entry)) (now (index .entry)) (now (mark .entry)) (now (records .entry)) (now (v .entry))) ⌝ }
+    ensures { λ t. ⌜ result (addedOf t (now (constants .entry))) (book (now (x1 .exit)) (now (x2 .exit)) (now (x3 .exit)) (now (index .exit)) (now (mark .exit)) (now (records .exit)) (now (v .exit))) ≡ addOutcomes (runOf at (now (constants .entry))) (record { number = reading; water = p; kind = kinds .p }) (record { number = 0; water = pe; kind = kinds .pe }) (book (now (x1 .entry)) (now (x2 .entry)) (now (x3 .entry)) (now (index .entry)) (now (mark .entry)) (now (records .entry)) (now (v .entry))) ⌝ }
 {
     let number = refusals::water_refusal(n, at, constants, reading, records);
     if number != 0 {
         return adding::refuse(number, at);
     }
-    taking::add_measured(at, constants, p, pe, x1, x2, x3, index, mark, records, v)
+    taking::add_measured(
+        at,
+        constants,
+        p,
+        pe,
+        kinds,
+        x1,
+        x2,
+        x3,
+        index,
+        mark,
+        records,
+        v,
+    )
 }
 
 // Adds a Z: the storages stay, the calendar moves on. 1, 7, 12, 10.

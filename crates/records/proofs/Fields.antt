@@ -3,8 +3,8 @@ use mathlib.Core.Path.{_≡_}
 use lib.IntN.{ℤ}
 use Rattle.records.specs.declared.Record.{Record}
 
-abbrev fields : ℤ → ℤ → ℤ → ℤ → ℤ → ℤ → ℤ → ℤ → ℤ → ℤ → ℤ → ℤ → ℤ → Record
-fields z p pe et r l ro ss su surface underlying water modified =
+abbrev fields : ℤ → ℤ → ℤ → ℤ → ℤ → ℤ → ℤ → ℤ → ℤ → ℤ → ℤ → ℤ → ℤ → ℤ → Record
+fields z p pe et r l ro ss su surface underlying water modified kind =
     record {
       z = z;
       p = p;
@@ -19,10 +19,11 @@ fields z p pe et r l ro ss su surface underlying water modified =
       underlying = underlying;
       water = water;
       modified = modified;
+      kind = kind;
     }
 
 pub same-fields :
-    {a0 a1 a2 a3 a4 a5 a6 a7 a8 a9 a10 a11 a12 b0 b1 b2 b3 b4 b5 b6 b7 b8 b9 b10 b11 b12 : ℤ}
+    {a0 a1 a2 a3 a4 a5 a6 a7 a8 a9 a10 a11 a12 a13 b0 b1 b2 b3 b4 b5 b6 b7 b8 b9 b10 b11 b12 b13 : ℤ}
     → a0 ≡ b0
     → a1 ≡ b1
     → a2 ≡ b2
@@ -36,5 +37,6 @@ pub same-fields :
     → a10 ≡ b10
     → a11 ≡ b11
     → a12 ≡ b12
-    → fields a0 a1 a2 a3 a4 a5 a6 a7 a8 a9 a10 a11 a12 ≡ fields b0 b1 b2 b3 b4 b5 b6 b7 b8 b9 b10 b11 b12
-same-fields p0 p1 p2 p3 p4 p5 p6 p7 p8 p9 p10 p11 p12 = cc
+    → a13 ≡ b13
+    → fields a0 a1 a2 a3 a4 a5 a6 a7 a8 a9 a10 a11 a12 a13 ≡ fields b0 b1 b2 b3 b4 b5 b6 b7 b8 b9 b10 b11 b12 b13
+same-fields p0 p1 p2 p3 p4 p5 p6 p7 p8 p9 p10 p11 p12 p13 = cc

@@ -1,18 +1,19 @@
 -- Document 02, E6, "Rows that show the water": "Each month's record keeps Z, .. P, PE, ET, R, L, RO and both storages at its start and end .. A
 -- Z-only month records its Z .., zeros for the six water figures and the carried storages, with a mark that it had no water." The record's fields
 -- are the columns of a lent table that has a place a month. V after the month, which passes 32 bits, has a list of its own. E4's modified index, the last
--- of the fields, is handed in: the crate `modified` has its rule. Assumes nothing.
+-- of the fields but one, is handed in: the crate `modified` has its rule. So is E7's, last: "one more column keeps precipitation's" kind. Assumes nothing.
 use Prim.Native.Nat.{ℕ, _+_}
 use mathlib.Core.List.{List, [], _∷_}
 use lib.IntN.{ℤ, pos}
 use lib.ListN.{getD}
+use Rattle.door.specs.Outcome.{none}
 use Rattle.water.specs.declared.Soil.{Soil}
 use Rattle.water.specs.declared.Month.{Month}
 use Rattle.records.specs.declared.Record.{Record}
 
--- a month of water from this soil, with precipitation p, PE pe and this modified index: L is what both layers lose
-abbrev pub waterRecord : Soil → ℕ → ℕ → Month → ℤ → Record
-waterRecord s p pe m modified =
+-- a month of water from this soil, with precipitation p, PE pe, this modified index and precipitation of this kind: L is what both layers lose
+abbrev pub waterRecord : Soil → ℕ → ℕ → Month → ℤ → ℕ → Record
+waterRecord s p pe m modified kind =
     record {
       z = m .z;
       p = pos p;
@@ -27,6 +28,7 @@ waterRecord s p pe m modified =
       underlying = pos (m .underlying);
       water = pos 1;
       modified = modified;
+      kind = pos kind;
     }
 
 -- an added Z: "zeros for the six water figures and the carried storages, with a mark that it had no water"
@@ -46,6 +48,7 @@ zRecord s z modified =
       underlying = pos (s .underlying);
       water = pos 0;
       modified = modified;
+      kind = pos none;
     }
 
 -- where there is no month
@@ -65,6 +68,7 @@ noRecord =
       underlying = pos 0;
       water = pos 0;
       modified = pos 0;
+      kind = pos 0;
     }
 
 -- its numbers, in the order in which they stand at its place in the lent list
@@ -83,6 +87,7 @@ numbersOf r =
     ∷ r .underlying
     ∷ r .water
     ∷ r .modified
+    ∷ r .kind
     ∷ []
 
 -- the record whose numbers these are
@@ -102,6 +107,7 @@ recordIn n =
       underlying = getD n 10 (pos 0);
       water = getD n 11 (pos 0);
       modified = getD n 12 (pos 0);
+      kind = getD n 13 (pos 0);
     }
 
 -- what the lent list holds of the month at place i

@@ -16,7 +16,7 @@ ghost use Rattle.records.specs.Ends.{amounts, endsMeet};
 ghost use Rattle.records.specs.Recordable.{Recordable};
 
 // How many numbers a record has.
-pub const NUMBERS: usize = 13;
+pub const NUMBERS: usize = 14;
 
 // A record as it stands at its place in the lent list: its numbers, in the order of its fields.
 pub type RecordNumbers = [i32; NUMBERS];
@@ -31,7 +31,8 @@ const NO_WATER: i32 = 0;
 
 const WATER: i32 = 1;
 
-// A month's record: its Z, its water, both storages at its start and at its end, whether it had water, and its modified index.
+// A month's record: its Z, its water, both storages at its start and at its end, whether it had water, its modified index, and
+// the kind of its precipitation.
 #[repr(C)]
 pub struct Record {
     pub z: i32,
@@ -47,12 +48,14 @@ pub struct Record {
     pub underlying: i32,
     pub water: i32,
     pub modified: i32,
+    pub kind: i32,
 }
 
-// The record of a month of water with this modified index: what fell, what was asked for, and what the balance made of it.
-pub fn water_record(s: Soil, p: u32, pe: u32, m: Month, modified: i32) -> Record
+// The record of a month of water with this modified index: what fell and of which kind that was, what was asked for, and what the
+// balance made of it.
+pub fn water_record(s: Soil, p: u32, pe: u32, m: Month, modified: i32, kind: u8) -> Record
     requires { ⌜ Recordable s p pe m ⌝ }
-    ensures { λ r. ⌜ r ≡ waterRecord s p pe m modified ⌝ }
+    ensures { λ r. ⌜ r ≡ waterRecord s p pe m modified kind ⌝ }
 {
     Record {
         z: m.z,
@@ -68,6 +71,7 @@ pub fn water_record(s: Soil, p: u32, pe: u32, m: Month, modified: i32) -> Record
         underlying: m.underlying as i32,
         water: WATER,
         modified,
+        kind: kind as i32,
     }
 }
 
@@ -92,6 +96,7 @@ pub fn z_record(s: Soil, z: i32, modified: i32) -> Record
         underlying,
         water: NO_WATER,
         modified,
+        kind: 0,
     }
 }
 
@@ -113,6 +118,7 @@ pub fn no_record() -> Record
         underlying: 0,
         water: NO_WATER,
         modified: 0,
+        kind: 0,
     }
 }
 
@@ -135,6 +141,7 @@ pub fn put(at: usize, r: Record, records: &mut [RecordNumbers])
         r.underlying,
         r.water,
         r.modified,
+        r.kind,
     ];
 }
 
@@ -166,6 +173,7 @@ pub fn record_at(records: &[RecordNumbers], i: usize) -> Record
         underlying: n[UNDERLYING],
         water: n[11],
         modified: n[12],
+        kind: n[13],
     }
 }
 

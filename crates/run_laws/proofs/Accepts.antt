@@ -3,7 +3,7 @@ use mathlib.Core.Path.{_≡_}
 use Prim.Native.Nat.{_≤_, _<_}
 use lib.IntN.{natAbs}
 use Rattle.outline.specs.Numbers.{mostZ}
-use Rattle.door.specs.Outcome.{Outcome}
+use Rattle.door.specs.Outcome.{Outcome, kindsOf}
 use Rattle.door.specs.Readings.{mostReading}
 use Rattle.water.specs.Layers.{SoilFits}
 use Rattle.water.proofs.Theorems.{z-acceptable, month-layers-kept}
@@ -25,12 +25,12 @@ module _ (r : Run) (cs : Book) where
     pub room : r .months < long cs
     pub soil : SoilFits (soilAfter (r .soil) (waterOf r (p .water) (pe .water)))
     pub z : natAbs (waterOf r (p .water) (pe .water) .z) ≤ mostZ
-    pub did : addOutcomes r p pe cs ≡ takenWater r (p .water) (pe .water) cs
+    pub did : addOutcomes r p pe cs ≡ takenWater r (p .water) (pe .water) (kindsOf p pe) cs
 
   pub took-water : (p pe : Outcome) → p .water ≤ mostReading → pe .water ≤ mostReading → addOutcomes r p pe cs .answer .number ≡ 0 → TookWater p pe
   unfolding addOutcomes
   took-water p pe hp hpe h =
-      let u = answered-zero (waterRefusal r (p .number) (pe .number) cs) r cs (takenWater r (p .water) (pe .water) cs) h in
+      let u = answered-zero (waterRefusal r (p .number) (pe .number) cs) r cs (takenWater r (p .water) (pe .water) (kindsOf p pe) cs) h in
       let g = water-passes r cs (p .number) (pe .number) (u .0) in
       let f = run-is r cs (g .0) in
       record {

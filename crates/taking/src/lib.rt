@@ -3,6 +3,7 @@
 // For `drought`, which asks for every refusal first: what has a `requires` is for it alone. A month of a season goes through
 // the same steps in `season_month`.
 use adding::MonthAdded;
+use door::MonthKinds;
 use outline::MANY_CONSTANTS;
 use records::RecordNumbers;
 use runs::Progress;
@@ -25,12 +26,13 @@ ghost use Rattle.adding.specs.Taken.{result, takenWater};
 ghost use Rattle.adding.specs.Ready.{Ready, Watered};
 ghost use Rattle.adding.specs.Progress.{addedOf, Takes};
 
-// The balance of the run's month with precipitation p and PE pe, and the month added.
+// The balance of the run's month with precipitation p and PE pe, read from readings of these kinds, and the month added.
 pub fn add_measured(
     at: Progress,
     constants: &[i32; MANY_CONSTANTS],
     p: u32,
     pe: u32,
+    kinds: MonthKinds,
     x1: &mut [i32],
     x2: &mut [i32],
     x3: &mut [i32],
@@ -43,7 +45,7 @@ pub fn add_measured(
     requires { ⌜ (at .months < length (now records)) × (at .months < length (now v)) ⌝ }
     requires { ⌜ Watered (runOf at (now constants)) ⌝ }
     requires { ⌜ (p ≤ mostReading) × (pe ≤ mostReading) ⌝ }
-    ensures { λ t. ⌜ result (addedOf t (now (constants .entry))) (book (now (x1 .exit)) (now (x2 .exit)) (now (x3 .exit)) (now (index .exit)) (now (mark .exit)) (now (records .exit)) (now (v .exit))) ≡ takenWater (runOf at (now (constants .entry))) p pe (book (now (x1 .entry)) (now (x2 .entry)) (now (x3 .entry)) (now (index .entry)) (now (mark .entry)) (now (records .entry)) (now (v .entry))) ⌝ }
+    ensures { λ t. ⌜ result (addedOf t (now (constants .entry))) (book (now (x1 .exit)) (now (x2 .exit)) (now (x3 .exit)) (now (index .exit)) (now (mark .exit)) (now (records .exit)) (now (v .exit))) ≡ takenWater (runOf at (now (constants .entry))) p pe kinds (book (now (x1 .entry)) (now (x2 .entry)) (now (x3 .entry)) (now (index .entry)) (now (mark .entry)) (now (records .entry)) (now (v .entry))) ⌝ }
 {
     let soil = at.soil;
     let values = at.values;
@@ -51,10 +53,10 @@ pub fn add_measured(
     let m = water::month_of(soil, p, pe, k);
     let s = adding::add_spells(at.months, at.opens, values, m.z, x1, x2, x3, index, mark);
     let after = s.values;
-    let kept = records::water_record(soil, p, pe, m, s.modified);
+    let kept = records::water_record(soil, p, pe, m, s.modified, kinds.p);
     records::put(at.months as usize, kept, records);
     records::put_v(at.months as usize, after.v, v);
-    adding::watered(at, p, pe, m, s)
+    adding::watered(at, p, pe, kinds, m, s)
 }
 
 // An added Z: no water, and the storages stay.

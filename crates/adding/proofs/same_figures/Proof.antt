@@ -8,7 +8,7 @@ use Rattle.adding.proofs.same_figures.Tie as tie
 
 returns : tie.Need-returns
 returns c =
-    let a = c .before .before .before .args in
+    let a = c .before .before .before .before .args in
     let f1 : SFits w32 (a .f .water .cafec) = search held in
     let f2 : SFits w32 (a .f .z) = search held in
     let f3 : SFits w32 (a .f .x1) = search held in

@@ -45,10 +45,13 @@ water-requires c κs = search needs
 water-requires-2 : tie.Need-water-requires-2
 water-requires-2 c κs = search needs
 
+kinds-requires : tie.Need-kinds-requires
+kinds-requires c κs = search needs
+
 try-water-requires : tie.Need-try-water-requires
 unfolding month
 try-water-requires c κs =
-    let w = c .before .before .before .before .before .before .before in
+    let w = c .before .before .before .before .before .before .before .before in
     let n = w .before .before .before .before .before .before in
     let d = n .before .before .before in
     let q = d .before .before .args .q in
@@ -58,31 +61,32 @@ answer-of-requires : tie.Need-answer-of-requires
 answer-of-requires c κs = search needs
 
 same-length : tie.Need-same-length
-same-length c = c .before .before .before .before .before .before .before .before .before .try-water .kept .1 .1 .1 .1 .1 .1 .0
+same-length c = c .before .before .before .before .before .before .before .before .before .try-water .kept .1 .1 .1 .1 .1 .1 .1 .0
 
 same-length-2 : tie.Need-same-length-2
-same-length-2 c = c .before .before .before .before .before .before .before .before .before .try-water .kept .1 .1 .1 .1 .1 .1 .1 .0
+same-length-2 c = c .before .before .before .before .before .before .before .before .before .try-water .kept .1 .1 .1 .1 .1 .1 .1 .1 .0
 
 same-length-3 : tie.Need-same-length-3
-same-length-3 c = c .before .before .before .before .before .before .before .before .before .try-water .kept .1 .1 .1 .1 .1 .1 .1 .1 .0
+same-length-3 c = c .before .before .before .before .before .before .before .before .before .try-water .kept .1 .1 .1 .1 .1 .1 .1 .1 .1 .0
 
 same-length-4 : tie.Need-same-length-4
-same-length-4 c = c .before .before .before .before .before .before .before .before .before .try-water .kept .1 .1 .1 .1 .1 .1 .1 .1 .1 .0
+same-length-4 c = c .before .before .before .before .before .before .before .before .before .try-water .kept .1 .1 .1 .1 .1 .1 .1 .1 .1 .1 .0
 
 same-length-5 : tie.Need-same-length-5
-same-length-5 c = c .before .before .before .before .before .before .before .before .before .try-water .kept .1 .1 .1 .1 .1 .1 .1 .1 .1 .1 .0
+same-length-5 c = c .before .before .before .before .before .before .before .before .before .try-water .kept .1 .1 .1 .1 .1 .1 .1 .1 .1 .1 .1 .0
 
 same-length-6 : tie.Need-same-length-6
-same-length-6 c = c .before .before .before .before .before .before .before .before .before .try-water .kept .1 .1 .1 .1 .1 .1 .1 .1 .1 .1 .1 .0
+same-length-6 c = c .before .before .before .before .before .before .before .before .before .try-water .kept .1 .1 .1 .1 .1 .1 .1 .1 .1 .1 .1 .1 .0
 
 same-length-7 : tie.Need-same-length-7
-same-length-7 c = c .before .before .before .before .before .before .before .before .before .try-water .kept .1 .1 .1 .1 .1 .1 .1 .1 .1 .1 .1 .1 .0
+same-length-7 c = c .before .before .before .before .before .before .before .before .before .try-water .kept .1 .1 .1 .1 .1 .1 .1 .1 .1 .1 .1 .1 .1 .0
 
 returns : tie.Need-returns
 unfolding addInches
 returns c =
     let t = c .before .before .before .before .before .before .before .before .before in
-    let w = t .before .before .before .before .before .before .before .before in
+    let j = t .before .before .before .before .before .before .before .before in
+    let w = j .before in
     let k = w .before .before in
     let n = k .before in
     let o = n .before .before .before .before .before in
@@ -90,7 +94,7 @@ returns c =
     let s = d .before .before in
     let a = s .args in
     rw (c .answer-of .ensures, ← joined (a .run) (month (a .q) .p) (month (a .q) .pe) (lent s))
-    (rw (o .progress-of .ensures, k .reading-refusal .ensures, n .before .number .ensures, n .number2 .ensures, w .before .water .ensures, w .water2 .ensures, first d, second d) at (t .try-water .ensures))
+    (rw (j .kinds .ensures, o .progress-of .ensures, k .reading-refusal .ensures, n .before .number .ensures, n .number2 .ensures, w .before .water .ensures, w .water2 .ensures, first d, second d) at (t .try-water .ensures))
 
 pub add-inches-spec : {M : Type 1} → statement M
 add-inches-spec =
@@ -104,6 +108,7 @@ add-inches-spec =
     reading-refusal-requires
     water-requires
     water-requires-2
+    kinds-requires
     try-water-requires
     answer-of-requires
     same-length

@@ -39,9 +39,12 @@ water-requires c κs = search needs
 water-requires-2 : tie.Need-water-requires-2
 water-requires-2 c κs = search needs
 
+kinds-requires : tie.Need-kinds-requires
+kinds-requires c κs = search needs
+
 try-water-requires : tie.Need-try-water-requires
 try-water-requires c κs =
-    let w = c .before .before .before .before .before .before .before in
+    let w = c .before .before .before .before .before .before .before .before in
     let n = w .before .before .before .before .before .before in
     let d = n .before .before .before in
     let a = d .before .before .before .args in
@@ -51,31 +54,32 @@ answer-of-requires : tie.Need-answer-of-requires
 answer-of-requires c κs = search needs
 
 same-length : tie.Need-same-length
-same-length c = c .before .before .before .before .before .before .before .before .before .try-water .kept .1 .1 .1 .1 .1 .1 .0
+same-length c = c .before .before .before .before .before .before .before .before .before .try-water .kept .1 .1 .1 .1 .1 .1 .1 .0
 
 same-length-2 : tie.Need-same-length-2
-same-length-2 c = c .before .before .before .before .before .before .before .before .before .try-water .kept .1 .1 .1 .1 .1 .1 .1 .0
+same-length-2 c = c .before .before .before .before .before .before .before .before .before .try-water .kept .1 .1 .1 .1 .1 .1 .1 .1 .0
 
 same-length-3 : tie.Need-same-length-3
-same-length-3 c = c .before .before .before .before .before .before .before .before .before .try-water .kept .1 .1 .1 .1 .1 .1 .1 .1 .0
+same-length-3 c = c .before .before .before .before .before .before .before .before .before .try-water .kept .1 .1 .1 .1 .1 .1 .1 .1 .1 .0
 
 same-length-4 : tie.Need-same-length-4
-same-length-4 c = c .before .before .before .before .before .before .before .before .before .try-water .kept .1 .1 .1 .1 .1 .1 .1 .1 .1 .0
+same-length-4 c = c .before .before .before .before .before .before .before .before .before .try-water .kept .1 .1 .1 .1 .1 .1 .1 .1 .1 .1 .0
 
 same-length-5 : tie.Need-same-length-5
-same-length-5 c = c .before .before .before .before .before .before .before .before .before .try-water .kept .1 .1 .1 .1 .1 .1 .1 .1 .1 .1 .0
+same-length-5 c = c .before .before .before .before .before .before .before .before .before .try-water .kept .1 .1 .1 .1 .1 .1 .1 .1 .1 .1 .1 .0
 
 same-length-6 : tie.Need-same-length-6
-same-length-6 c = c .before .before .before .before .before .before .before .before .before .try-water .kept .1 .1 .1 .1 .1 .1 .1 .1 .1 .1 .1 .0
+same-length-6 c = c .before .before .before .before .before .before .before .before .before .try-water .kept .1 .1 .1 .1 .1 .1 .1 .1 .1 .1 .1 .1 .0
 
 same-length-7 : tie.Need-same-length-7
-same-length-7 c = c .before .before .before .before .before .before .before .before .before .try-water .kept .1 .1 .1 .1 .1 .1 .1 .1 .1 .1 .1 .1 .0
+same-length-7 c = c .before .before .before .before .before .before .before .before .before .try-water .kept .1 .1 .1 .1 .1 .1 .1 .1 .1 .1 .1 .1 .1 .0
 
 returns : tie.Need-returns
 unfolding addWater
 returns c =
     let t = c .before .before .before .before .before .before .before .before .before in
-    let w = t .before .before .before .before .before .before .before .before in
+    let j = t .before .before .before .before .before .before .before .before in
+    let w = j .before in
     let k = w .before .before in
     let n = k .before in
     let o = n .before .before .before .before .before in
@@ -83,7 +87,7 @@ returns c =
     let s = d .before .before .before in
     let a = s .args in
     rw (c .answer-of .ensures, ← joined (a .run) (reading (a .p)) (reading (a .pe)) (lent s))
-    (rw (o .progress-of .ensures, k .reading-refusal .ensures, n .before .number .ensures, n .number2 .ensures, w .before .water .ensures, w .water2 .ensures, d .before .read .ensures, d .read2 .ensures) at (t .try-water .ensures))
+    (rw (j .kinds .ensures, o .progress-of .ensures, k .reading-refusal .ensures, n .before .number .ensures, n .number2 .ensures, w .before .water .ensures, w .water2 .ensures, d .before .read .ensures, d .read2 .ensures) at (t .try-water .ensures))
 
 pub add-water-spec : {M : Type 1} → statement M
 add-water-spec =
@@ -98,6 +102,7 @@ add-water-spec =
     reading-refusal-requires
     water-requires
     water-requires-2
+    kinds-requires
     try-water-requires
     answer-of-requires
     same-length

@@ -45,7 +45,7 @@ number-is c =
     rw (← water-lent (lent s) (given s) (s .args .reading) 0, or-nothing (s .args .reading), ← s .pre .0) (c .water-refusal .ensures)
 
 abbrev done : tie.Start → Result
-done s = takenWater (given s) (s .args .p) (s .args .pe) (lent s)
+done s = takenWater (given s) (s .args .p) (s .args .pe) (s .args .kinds) (lent s)
 
 passes : (c : tie.Else1) → let s = entered (c .before) in Good (given s) (lent s) × (given s .months < long (lent s))
 passes c =
@@ -70,25 +70,25 @@ add-measured-requires c κs =
     (ready (given s) (lent s) (p .0) (p .1), (placed (given s) (lent s) (p .0) (p .1), (watered (given s) (lent s) (p .0), s .pre .1)))
 
 same-length-2 : tie.Need-same-length-2
-same-length-2 c = c .before .before .before .before .before .before .before .before .add-measured .kept .1 .1 .1 .1 .0
+same-length-2 c = c .before .before .before .before .before .before .before .before .add-measured .kept .1 .1 .1 .1 .1 .0
 
 same-length-3 : tie.Need-same-length-3
-same-length-3 c = c .before .before .before .before .before .before .before .before .add-measured .kept .1 .1 .1 .1 .1 .0
+same-length-3 c = c .before .before .before .before .before .before .before .before .add-measured .kept .1 .1 .1 .1 .1 .1 .0
 
 same-length-4 : tie.Need-same-length-4
-same-length-4 c = c .before .before .before .before .before .before .before .before .add-measured .kept .1 .1 .1 .1 .1 .1 .0
+same-length-4 c = c .before .before .before .before .before .before .before .before .add-measured .kept .1 .1 .1 .1 .1 .1 .1 .0
 
 same-length-5 : tie.Need-same-length-5
-same-length-5 c = c .before .before .before .before .before .before .before .before .add-measured .kept .1 .1 .1 .1 .1 .1 .1 .0
+same-length-5 c = c .before .before .before .before .before .before .before .before .add-measured .kept .1 .1 .1 .1 .1 .1 .1 .1 .0
 
 same-length-6 : tie.Need-same-length-6
-same-length-6 c = c .before .before .before .before .before .before .before .before .add-measured .kept .1 .1 .1 .1 .1 .1 .1 .1 .0
+same-length-6 c = c .before .before .before .before .before .before .before .before .add-measured .kept .1 .1 .1 .1 .1 .1 .1 .1 .1 .0
 
 same-length-7 : tie.Need-same-length-7
-same-length-7 c = c .before .before .before .before .before .before .before .before .add-measured .kept .1 .1 .1 .1 .1 .1 .1 .1 .1 .0
+same-length-7 c = c .before .before .before .before .before .before .before .before .add-measured .kept .1 .1 .1 .1 .1 .1 .1 .1 .1 .1 .0
 
 same-length-8 : tie.Need-same-length-8
-same-length-8 c = c .before .before .before .before .before .before .before .before .add-measured .kept .1 .1 .1 .1 .1 .1 .1 .1 .1 .1 .0
+same-length-8 c = c .before .before .before .before .before .before .before .before .add-measured .kept .1 .1 .1 .1 .1 .1 .1 .1 .1 .1 .1 .0
 
 returns-2 : tie.Need-returns-2
 unfolding addOutcomes
@@ -96,7 +96,7 @@ returns-2 c =
     let t = c .before .before .before .before .before .before .before .before in
     let e = t .before .before .before .before .before .before .before .before in
     let s = entered (e .before) in
-    let l = t .add-measured .last .1 .1 .1 .1 in
+    let l = t .add-measured .last .1 .1 .1 .1 .1 in
     accepts (e .before .water-refusal .result) (asked s) (given s) (lent s) (done s) (number-is (e .before)) (result (addedOf (t .add-measured .result) (now (s .args .constants))) (book (l .0) (l .1 .0) (l .1 .1 .0) (l .1 .1 .1 .0) (l .1 .1 .1 .1 .0) (l .1 .1 .1 .1 .1 .0) (l .1 .1 .1 .1 .1 .1 .0))) (e .if1 .left) (t .add-measured .ensures)
 
 pub try-water-spec : {M : Type 1} → statement M

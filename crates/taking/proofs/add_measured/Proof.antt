@@ -76,7 +76,7 @@ abbrev spelled : tie.After-put → tie.After-add-spells
 spelled n = n .before .before .before .before .before .before .before .before .before .before .before .before
 
 -- the record and V, as they are written
-put-wrote : (n : tie.After-put) → let t = spelled n in let a = given t .args in n .put .last .1 .1 .0 ≡ set (now (a .records)) (a .at .months) (numbersOf (waterRecord (a .at .soil) (a .p) (a .pe) (watered t .month-of .result) (t .add-spells .result .modified)))
+put-wrote : (n : tie.After-put) → let t = spelled n in let a = given t .args in n .put .last .1 .1 .0 ≡ set (now (a .records)) (a .at .months) (numbersOf (waterRecord (a .at .soil) (a .p) (a .pe) (watered t .month-of .result) (t .add-spells .result .modified) (a .kinds .p)))
 put-wrote n =
     let t = spelled n in
     let f : SFits w32 (t .add-spells .result .modified) = record { sfits = n .before .before .before .before .struct-told2 .given .1 .1 .1 .1 .1 .0 .1 } in
@@ -122,7 +122,7 @@ returns c =
     let d = watered t in
     let a = entered d .args in
     let l = t .add-spells .last .1 .1 .1 .1 in
-    measured-is (a .at) (now (a .constants)) (a .p) (a .pe) (d .month-of .result) (month-is d) (book (now (a .x1)) (now (a .x2)) (now (a .x3)) (now (a .index)) (now (a .mark)) (now (a .records)) (now (a .v))) (columns (l .0) (l .1 .0) (l .1 .1 .0) (l .1 .1 .1 .0) (l .1 .1 .1 .1 .0)) (t .add-spells .result)
+    measured-is (a .at) (now (a .constants)) (a .p) (a .pe) (a .kinds) (d .month-of .result) (month-is d) (book (now (a .x1)) (now (a .x2)) (now (a .x3)) (now (a .index)) (now (a .mark)) (now (a .records)) (now (a .v))) (columns (l .0) (l .1 .0) (l .1 .1 .0) (l .1 .1 .1 .0) (l .1 .1 .1 .1 .0)) (t .add-spells .result)
     (rw (toZ-ofZ (month-is d .fits)) at (t .add-spells .ensures)) _ (put-wrote n) _ (put-v-wrote u) (c .watered .result) (c .watered .ensures)
 
 pub add-measured-spec : {M : Type 1} → statement M
