@@ -11,6 +11,7 @@ use lib.Seq.{drop-cons}
 use Rattle.outline.specs.Numbers.{mostMonths}
 use Rattle.outline.specs.Refusals.{unlessRefused}
 use Rattle.outline.proofs.Refusals.{is-done, is-refused}
+use Rattle.door.specs.Outcome.{kindsOf}
 use Rattle.door.specs.Readings.{reading}
 use Rattle.door.specs.declared.Reading.{Reading}
 use Rattle.door.proofs.Bounds.{reading-most}
@@ -45,7 +46,7 @@ module _ (r : Run) (p pe : Reading) (cs : Book) (h : addWater r p pe cs .answer 
   good-next =
       let t = took-water r cs (reading p) (reading pe) (reading-most p) (reading-most pe) h in
       let w = waterOf r (reading p .water) (reading pe .water) in
-      rw (t .did) (good-taken r cs (t .good) (t .room) (soilAfter (r .soil) w) (t .soil) (waterFigures (reading p .water) (reading pe .water) w) (w .z) (t .z) (waterRecord (r .soil) (reading p .water) (reading pe .water) w (modifiedOf (r .values) (w .z))) refl refl)
+      rw (t .did) (good-taken r cs (t .good) (t .room) (soilAfter (r .soil) w) (t .soil) (waterFigures (reading p .water) (reading pe .water) (kindsOf (reading p) (reading pe)) w) (w .z) (t .z) (waterRecord (r .soil) (reading p .water) (reading pe .water) w (modifiedOf (r .values) (w .z)) (reading p .kind)) refl refl)
 
   -- one month more, and no more settled than were open before it, with it
   pub counts-next : (b .answer .run .months ≡ suc (r .months)) × (b .answer .settled + b .answer .run .opens ≤ suc (r .opens))
@@ -60,7 +61,7 @@ unfolding addWater addOutcomes takenWater taken
 refused-leaves r p pe cs h = go (waterRefusal r (reading p .number) (reading pe .number) cs) h
   where
     done : Result
-    done = takenWater r (reading p .water) (reading pe .water) cs
+    done = takenWater r (reading p .water) (reading pe .water) (kindsOf (reading p) (reading pe)) cs
 
     go : (k : ℕ) → (answered k r cs done .answer .number ≡ 0 → ⊥) → answered k r cs done .columns ≡ cs
     go zero h = absurd (h refl)

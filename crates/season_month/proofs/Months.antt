@@ -5,11 +5,12 @@ use mathlib.Core.List.{List, [], _∷_}
 use Prim.Native.Nat.{ℕ, zero, suc}
 use native.Mathlib.Omega.{arith}
 use lib.IntN.{ℤ, pos, negsuc}
-use Rattle.door.specs.Outcome.{outcome}
+use Rattle.door.specs.Outcome.{trace, Outcome, outcome, kindsOf}
 use Rattle.door.specs.Readings.{reading}
 use Rattle.door.specs.declared.Answer.{Answer}
-use Rattle.door.specs.declared.Answer.the-variants.{Water, NoReading, NotAcceptable}
+use Rattle.door.specs.declared.Answer.the-variants.{Water, Trace, NoReading, NotAcceptable}
 use Rattle.door.proofs.Answer.{the-type}
+use Rattle.door.proofs.Traces.{whole-no-trace}
 use denote.Enum.Declared.{tagOf}
 use types.Run.{OneOf}
 use Rattle.door.specs.declared.Reading.{Reading}
@@ -42,11 +43,19 @@ listed-whole (negsuc zero) h = absurd (h refl)
 listed-whole (negsuc (suc n)) h = refl
 
 -- ---- the single add, where 1 and 7 have been asked for
--- an answer that is not water has a refusal's number
-pub not-water : (a : Answer) → OneOf (1 ∷ 2 ∷ []) (tagOf the-type a) → outcome a .number ≡ 0 → ⊥
-not-water (Water n) t e = elim t [ inl h ↦ omega arith | inr h ↦ omega arith ]
-not-water NoReading t e = omega arith
-not-water NotAcceptable t e = omega arith
+-- a month of a list is never a trace,
+listed-no-trace : (n : ℤ) → reading (listed n) .kind ≡ trace → ⊥
+unfolding listed reading
+listed-no-trace (pos n) h = whole-no-trace (pos n) h
+listed-no-trace (negsuc zero) h = omega arith
+listed-no-trace (negsuc (suc n)) h = whole-no-trace (negsuc (suc n)) h
+
+-- so where its answer is not water, that has a refusal's number
+pub not-water : (a : Answer) (n : ℤ) → outcome a ≡ reading (listed n) → OneOf (1 ∷ 2 ∷ 3 ∷ []) (tagOf the-type a) → outcome a .number ≡ 0 → ⊥
+not-water (Water m) n f t e = elim t [ inl h ↦ omega arith | inr h ↦ elim h [ inl h ↦ omega arith | inr h ↦ omega arith ] ]
+not-water Trace n f t e = listed-no-trace n (sym (ap (λ (o : Outcome). o .kind) f))
+not-water NoReading n f t e = omega arith
+not-water NotAcceptable n f t e = omega arith
 
 module _ (at : Progress) (ks : List ℤ) (p pe : Reading) (cs : Book) (g : Good (runOf at ks) cs) where
   abbrev pub r : Run
@@ -64,7 +73,7 @@ module _ (at : Progress) (ks : List ℤ) (p pe : Reading) (cs : Book) (g : Good 
   number-is = sym (or-second (runRefusal r cs) number (good-passes r cs g))
 
   abbrev pub done : Result
-  done = takenWater r (reading p .water) (reading pe .water) cs
+  done = takenWater r (reading p .water) (reading pe .water) (kindsOf (reading p) (reading pe)) cs
 
   pub refused-as : (k : ℕ) → k ≡ number → (k ≡ 0 → ⊥) → (t : MonthAdded) → t ≡ notAdded k at → result (addedOf t ks) cs ≡ addWater r p pe cs
   unfolding addWater addOutcomes

@@ -49,16 +49,17 @@ pub fn add_listed(
     if full != 0 {
         return adding::refuse(full, at);
     }
+    let kinds = door::kinds(first, second);
     let soil = at.soil;
     let values = at.values;
     let k = calendar::constants_at(constants, at.calendar);
     let m = water::month_of(soil, measured, potential, k);
     let s = adding::add_spells(at.months, at.opens, values, m.z, x1, x2, x3, index, mark);
     let after = s.values;
-    let kept = records::water_record(soil, measured, potential, m, s.modified);
+    let kept = records::water_record(soil, measured, potential, m, s.modified, kinds.p);
     records::put(at.months as usize, kept, records);
     records::put_v(at.months as usize, after.v, v);
-    adding::watered(at, measured, potential, m, s)
+    adding::watered(at, measured, potential, kinds, m, s)
 }
 
 // A month of a list as a reading.

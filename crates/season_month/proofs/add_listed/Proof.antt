@@ -1,6 +1,6 @@
 -- `season_month::add_listed` meets its contract: each reading is refused or its water taken, and then it refuses for want of room or adds the
 -- run's month of water. Assumes nothing.
-use mathlib.Core.Path.{_≡_, sym, ap, _∙_}
+use mathlib.Core.Path.{_≡_, sym, ap, ap₂, _∙_}
 use Prim.Native.Nat.{ℕ, _≤_, _<_}
 use native.Mathlib.Omega.{arith}
 use borrow.Author.Needs.{needs}
@@ -9,7 +9,8 @@ use mir.Syntax.{w32, w64}
 use mir.Val.{SFits}
 use mir.Facts.{toZ-ofZ}
 use denote.Ref.{now}
-use Rattle.door.specs.Outcome.{Outcome, outcome, accepted}
+use Rattle.door.specs.Outcome.{Outcome, outcome, accepted, kindsOf}
+use Rattle.door.specs.declared.MonthKinds.{MonthKinds}
 use Rattle.door.specs.Readings.{reading, mostReading}
 use Rattle.door.proofs.Bounds.{reading-most}
 use Rattle.runs.specs.declared.Run.{Run}
@@ -47,7 +48,7 @@ first-refused : (n : tie.After-number) → n .number .result ≡ reading (listed
 first-refused n = n .number .ensures ∙ ap (λ (o : Outcome). o .number) (first-is (n .before .before))
 
 first-no : (n : tie.After-number) → n .number .result ≡ 0 → ⊥
-first-no n z = not-water (n .before .before .read .result) (n .before .match .keys2) (sym (n .number .ensures) ∙ z)
+first-no n z = let d = n .before .before in not-water (d .read .result) (d .before .before .before .args .p) (first-is d) (n .before .match .keys2) (sym (n .number .ensures) ∙ z)
 
 first-water : (k : tie.After-first) → reading (listed (k .before .before .before .before .before .args .p)) ≡ accepted (k .first .given .0 .0)
 first-water k = sym (first-is (k .before .before)) ∙ ap outcome (k .first .given .1)
@@ -62,7 +63,7 @@ second-refused : (n : tie.After-number2) → n .number2 .result ≡ reading (lis
 second-refused n = n .number2 .ensures ∙ ap (λ (o : Outcome). o .number) (second-is (n .before .before))
 
 second-no : (n : tie.After-number2) → n .number2 .result ≡ 0 → ⊥
-second-no n z = not-water (n .before .before .read2 .result) (n .before .match2 .keys2) (sym (n .number2 .ensures) ∙ z)
+second-no n z = let d = n .before .before in not-water (d .read2 .result) (d .before .before .before .before .before .before .before .before .args .pe) (second-is d) (n .before .match2 .keys2) (sym (n .number2 .ensures) ∙ z)
 
 second-water : (k : tie.After-second) → reading (listed (k .before .before .before .before .before .before .before .before .before .before .args .pe)) ≡ accepted (k .second .given .0 .0)
 second-water k = sym (second-is (k .before .before)) ∙ ap outcome (k .second .given .1)
@@ -167,20 +168,32 @@ placed-is e = let s = asked (e .before) in placed (given s) (lent s) (s .pre) (r
 watered-is : (e : tie.Else1) → Watered (given (asked (e .before)))
 watered-is e = let s = asked (e .before) in watered (given s) (lent s) (s .pre)
 
+kinds-requires : tie.Need-kinds-requires
+kinds-requires c κs = search needs
+
 constants-at-requires : tie.Need-constants-at-requires
 constants-at-requires c κs =
-    let w = watered-is (c .before .before) in
+    let w = watered-is (c .before .before .before) in
     search needs
 
 month-of-requires : tie.Need-month-of-requires
 month-of-requires c κs =
-    let e = c .before .before .before in
+    let e = c .before .before .before .before in
     let a = asked (e .before) .args in
     let w = watered-is e in
     (w .soil, (waters e, fit (a .at) (now (a .constants)) (c .constants-at .result) (c .constants-at .ensures) w))
 
 abbrev spared : tie.After-month-of → tie.Else1
-spared c = c .before .before .before .before
+spared c = c .before .before .before .before .before
+
+-- the kinds of the two readings
+abbrev kinds-of : tie.After-month-of → MonthKinds
+kinds-of c = c .before .before .before .before .kinds .result
+
+kinds-are : (c : tie.After-month-of) → let a = asked (spared c .before) .args in kinds-of c ≡ kindsOf (reading (listed (a .p))) (reading (listed (a .pe)))
+kinds-are c =
+    let e = spared c in
+    c .before .before .before .before .kinds .ensures ∙ sym (ap₂ kindsOf (first-water (first e)) (second-water (second e)))
 
 -- the month of water is the run's
 month-is : (c : tie.After-month-of) → let e = spared c in let a = asked (e .before) .args in Measured (a .at) (now (a .constants)) (p-of e) (pe-of e) (c .month-of .result)
@@ -231,7 +244,7 @@ spelled n = n .before .before .before .before .before .before .before .before .b
 -- the record and V, as they are written
 put-wrote : (n : tie.After-put)
     → let t = spelled n in let e = spared (made t) in let a = asked (e .before) .args in
-    n .put .last .1 .1 .0 ≡ set (now (a .records)) (a .at .months) (numbersOf (waterRecord (a .at .soil) (p-of e) (pe-of e) (made t .month-of .result) (t .add-spells .result .modified)))
+    n .put .last .1 .1 .0 ≡ set (now (a .records)) (a .at .months) (numbersOf (waterRecord (a .at .soil) (p-of e) (pe-of e) (made t .month-of .result) (t .add-spells .result .modified) (kinds-of (made t) .p)))
 put-wrote n =
     let t = spelled n in
     let f : SFits w32 (t .add-spells .result .modified) = record { sfits = n .before .before .before .before .struct-told2 .given .1 .1 .1 .1 .1 .0 .1 } in
@@ -284,7 +297,7 @@ returns-4 c =
     let p = ap (λ (o : Outcome). o .water) (first-water (first e)) in
     let q = ap (λ (o : Outcome). o .water) (second-water (second e)) in
     accepted-as (a .at) (now (a .constants)) (listed (a .p)) (listed (a .pe)) (lent s) (s .pre) (room-is (e .before) ∙ e .if1 .left) (result (addedOf (c .watered .result) (now (a .constants))) (bookOf ds (n .put .last .1 .1 .0) (u .put-v .last .1 .1 .0)))
-    (rw (p, q) (measured-is (a .at) (now (a .constants)) (p-of e) (pe-of e) (d .month-of .result) (month-is d) (lent s) ds (t .add-spells .result)
+    (rw (p, q, ← kinds-are d) (measured-is (a .at) (now (a .constants)) (p-of e) (pe-of e) (kinds-of d) (d .month-of .result) (month-is d) (lent s) ds (t .add-spells .result)
     (rw (toZ-ofZ (month-is d .fits)) at (t .add-spells .ensures)) (n .put .last .1 .1 .0) (put-wrote n) (u .put-v .last .1 .1 .0) (put-v-wrote u) (c .watered .result) (c .watered .ensures)))
 
 pub add-listed-spec : {M : Type 1} → statement M
@@ -306,6 +319,7 @@ add-listed-spec =
     room-refusal-requires
     refuse-requires-3
     returns-3
+    kinds-requires
     constants-at-requires
     month-of-requires
     add-spells-requires
