@@ -28,6 +28,12 @@ pub const SETTLED: u8 = 2;
 pub const HAD_NO_WATER: i32 = 0;
 pub const HAD_WATER: i32 = 1;
 
+/// The kinds of a reading's answer: no rain, or a refused reading; rain, but too little to measure, which counts as
+/// no water; and water above 0. card_read in include/card.h says which number is which.
+pub const NONE: u8 = 0;
+pub const TRACE: u8 = 1;
+pub const MEASURED: u8 = 2;
+
 /// What a number means: the words of card_meaning in include/card.h.
 pub fn meaning(number: u8) -> &'static str {
     match number {
@@ -82,6 +88,7 @@ impl Reading {
 #[derive(Clone, Copy, Debug, PartialEq, Eq)]
 pub struct Answer {
     pub number: u8,
+    pub kind: u8,
     pub water: u32,
 }
 
@@ -120,6 +127,14 @@ pub struct Started {
     pub run: Run,
 }
 
+/// The kinds of a month's two readings; of an added Z both `NONE`.
+#[repr(C)]
+#[derive(Clone, Copy, Debug, Default, PartialEq, Eq)]
+pub struct MonthKinds {
+    pub p: u8,
+    pub pe: u8,
+}
+
 #[repr(C)]
 #[derive(Clone, Copy, Debug, Default, PartialEq, Eq)]
 pub struct Water {
@@ -134,6 +149,7 @@ pub struct Water {
     pub pro: u32,
     pub pl: u32,
     pub cafec: i32,
+    pub kinds: MonthKinds,
 }
 
 #[repr(C)]
@@ -179,8 +195,8 @@ pub struct MonthInches {
     pub pe: f32,
 }
 
-/// A month's record as its column holds it: its Z, its water, its soil and its modified index. `water` is `HAD_WATER`, or
-/// `HAD_NO_WATER` where the month was added as a Z.
+/// A month's record as its column holds it: its Z, its water, its soil, its modified index and the kind of its
+/// precipitation. `water` is `HAD_WATER`, or `HAD_NO_WATER` where the month was added as a Z.
 #[repr(C)]
 #[derive(Clone, Copy, Debug, Default, PartialEq, Eq)]
 pub struct Record {
@@ -197,6 +213,7 @@ pub struct Record {
     pub underlying: i32,
     pub water: i32,
     pub modified: i32,
+    pub kind: i32,
 }
 
 #[repr(C)]

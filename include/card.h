@@ -34,6 +34,9 @@
  * until a month is settled. It is fixed when the month is added, and while a spell abates it stands between X3
  * and the other side, X1 or X2, by the chance that the spell has ended: see card_record.
  *
+ * A trace is rain that fell, but too little to measure. It counts as no water, and is told from no rain all the
+ * same: in the reading's answer, in the month's figures and in its record. See card_read.
+ *
  * Each call answers with a number: 0 where it did what it was asked, and otherwise the refusal, from the
  * list below. A refused call writes nothing that was lent, answers with all figures 0 and hands back the
  * run as it was given (a refused start: a run of zeros). Where several refusals hold, the first in the
@@ -85,7 +88,7 @@
  * It is counted from the return address, which is included, down to the lowest word of 8 bytes that was
  * written by the call or by what it calls, memcpy and memset included. Not counted is what the caller
  * keeps: the arguments that are passed on the stack (a run alone is 288 bytes), the room for the answer
- * (card_started 296 bytes, card_added 376, card_season 376, card_shown 88) and what the inline functions
+ * (card_started 296 bytes, card_added 376, card_season 384, card_shown 88) and what the inline functions
  * of this header put into the caller's frame; nor is an interrupt. The figures are the deepest seen over
  * months and refusals of all sorts: measured, not proved.
  */
@@ -184,9 +187,17 @@ static inline card_reading card_millimetres(float millimetres) {
     return r;
 }
 
-/* What a reading gives: its number, and thousandths of an inch, 0 where it is refused. */
+/* The kinds of a reading's answer: see card_read. */
+enum {
+    CARD_NONE = 0,    /* no rain, or a refused reading: the water is 0 */
+    CARD_TRACE = 1,   /* rain, but too little to measure: it counts as no water, and the water is 0 */
+    CARD_MEASURED = 2 /* the water is above 0 */
+};
+
+/* What a reading gives: its number, its kind, and thousandths of an inch, 0 where it is refused. */
 typedef struct card_answer {
     uint8_t number;
+    uint8_t kind; /* CARD_NONE, CARD_TRACE or CARD_MEASURED */
     uint32_t water;
 } card_answer;
 
@@ -197,7 +208,18 @@ typedef struct card_answer {
  * are not acceptable. 0.0625 inch gives 63; 7.9375 mm gives 313; 2,540 mm gives 100,000.
  *
  * The exact value is the float's: 0.0025f is a little less than 0.0025 and gives 2. Whoever has decimals
- * and wants their halves exact makes thousandths of them and uses card_whole. */
+ * and wants their halves exact makes thousandths of them and uses card_whole.
+ *
+ * The kind is
+ * - CARD_MEASURED where the water is above 0;
+ * - CARD_TRACE where the water is 0 and the number, inches or millimetres, is above zero: from the smallest
+ *   float there is up to 0.00049999997f inch and 0.0126999998f mm. 0.0005f inch gives 1, and 0.0127f mm, which
+ *   is a little less than 0.0127, is a trace;
+ * - CARD_NONE where the number is zero, negative zero too, or a whole 0, and with every refusal. The amounts of
+ *   a division file are whole, so its 0.00 is none.
+ *
+ * A whole number cannot say a trace. For a gauge or an observer that says T, hand in any number that is one, as
+ * card_inches(0.0001f). */
 card_answer card_read(card_reading reading);
 
 /* ---- A run ---------------------------------------------------------------------------------------- */
@@ -293,7 +315,8 @@ card_started card_start(const int32_t *constants, size_t constants_length,
 enum { CARD_HAD_NO_WATER = 0, CARD_HAD_WATER = 1 };
 
 /* A month's record: its Z, its water, what the soil stored and its modified index, in thousandths, of an inch
- * but for Z and the index. It is 52 bytes without gaps. No number but these two is ever below 0.
+ * but for Z and the index; and the kind of its precipitation. It is 56 bytes without gaps. No number but Z and
+ * the modified index is ever below 0.
  *
  * The add that takes the month writes its record, at the month's place, and no add to the run that it hands
  * back writes it again: the index of an open month may change, its record does not. Places after the last
@@ -307,6 +330,10 @@ enum { CARD_HAD_NO_WATER = 0, CARD_HAD_WATER = 1 };
  * An added Z has no water: p to ro are 0, and the storages at its end are those at its start. A run's first
  * month starts with the storages that card_start was given, every other with those at the end of the month
  * before.
+ *
+ * Where p is 0, kind tells a trace (CARD_TRACE) from no rain (CARD_NONE); where p is above 0 it is
+ * CARD_MEASURED. An added Z has CARD_NONE, and water tells it from a month without rain. The kind of the PE is
+ * not kept.
  *
  * The modified index is, nearest, with the X1, X2 and X3 that the month leaves,
  *
@@ -330,24 +357,29 @@ typedef struct card_record {
     int32_t underlying; /* what the underlying layer stored then */
     int32_t water;      /* CARD_HAD_WATER, or of an added Z CARD_HAD_NO_WATER */
     int32_t modified;   /* the modified index */
+    int32_t kind;       /* CARD_NONE, CARD_TRACE or CARD_MEASURED: the kind of the precipitation */
 } card_record;
 
 /* The seven columns that hold a run's months, each with its length: X1, X2, X3, index and mark, the records,
  * and V after each month, which is written as a record is. They are to be of one length, 1 to
- * CARD_MOST_MONTHS, which is how many months the run can come to hold; a month takes 77 bytes in all, the
- * longest columns 924,000. A struct of zeros is seven lists of length 0, and refused with 1.
+ * CARD_MOST_MONTHS, which is how many months the run can come to hold; a month takes 81 bytes in all, the
+ * longest columns 972,000. A struct of zeros is seven lists of length 0, and refused with 1.
  *
  * A card may hold five columns, from before records and V were kept. It goes on with the same run and two
  * lists more, as long as the five. It has no record of its months, and of the last one every call wants the
  * storages (7): where run.months is not 0, put run.soil's surface and underlying into the record at place
  * run.months - 1. That is the least, and all else in the two lists may be 0. A row then shows these months
- * without water and with a Z, a V and a modified index of 0, and that says nothing of them. V after the last
- * one is run.values.v; the rest is had only by adding all months again, to a new run in other columns.
+ * without water and with a Z, a V, a modified index and a kind of 0, and that says nothing of them. V after the
+ * last one is run.values.v; the rest is had only by adding all months again, to a new run in other columns.
+ *
+ * A card may hold records of 52 bytes, from before the kind of the precipitation was kept: the first thirteen
+ * numbers of a record as it is now. Copy each into the beginning of a longer one and put 0 (CARD_NONE) for
+ * kind, or anything: no call asks for it, and a row shows it as it stands. The run and the other six lists stay
+ * as they are. Whether a p of 0 was a trace is had only by adding all months again, from their readings.
  *
  * A card may hold records of 48 bytes, from before the modified index was kept: the first twelve numbers of a
- * record as it is now. Copy each into the beginning of a longer one and put 0 for modified, or anything: no
- * call asks for it, and a row shows it as it stands. The run and the other six lists stay as they are. The
- * modified indexes of these months, too, are had only by adding all months again.
+ * record as it is now. They are copied in the same way, with 0 for modified too, or anything. The modified
+ * indexes of these months, too, are had only by adding all months again.
  *
  * What a call answers and writes hangs on that length only where the months do not fit in (7) or fill it
  * (10). So columns made for 2,400, which was the most once, stay usable and give the same answers. And a
@@ -385,8 +417,15 @@ static inline card_columns card_columns_of(int32_t *x1, int32_t *x2, int32_t *x3
 
 /* ---- Adding a month ------------------------------------------------------------------------------- */
 
-/* The water of a month, in thousandths of an inch. All 0 for an added Z. Of these the month's record keeps
- * p, pe, et, r, ro and ls + lu. */
+/* The kinds of a month's two readings, CARD_NONE, CARD_TRACE or CARD_MEASURED each, as card_read gives them. */
+typedef struct card_month_kinds {
+    uint8_t p;  /* of the precipitation */
+    uint8_t pe; /* of the PE */
+} card_month_kinds;
+
+/* The water of a month, in thousandths of an inch, and the kinds of the readings that it came from. All 0, the
+ * kinds too (CARD_NONE), for an added Z. Of these the month's record keeps p, pe, et, r, ro, ls + lu and
+ * kinds.p. */
 typedef struct card_water {
     uint32_t p;     /* precipitation */
     uint32_t pe;    /* potential evapotranspiration */
@@ -399,6 +438,7 @@ typedef struct card_water {
     uint32_t pro;   /* potential runoff */
     uint32_t pl;    /* potential loss */
     int32_t cafec;  /* expected (CAFEC) precipitation */
+    card_month_kinds kinds;
 } card_water;
 
 /* A month's figures. */
@@ -427,7 +467,10 @@ typedef struct card_added {
  *
  * The call writes the new month's place in the seven columns (place run.months, counted from 0), and index
  * and mark of the open months that it settles, and nothing else. It takes the run's open months as the
- * columns hold them and does not check what they hold. */
+ * columns hold them and does not check what they hold.
+ *
+ * A trace, as precipitation or as PE, comes to what 0 comes to, but for its kind in the figures and, of the
+ * precipitation, in the record. */
 static inline card_added card_add_water_in(card_columns columns, card_run run,
                                            card_reading precipitation, card_reading pe);
 
@@ -437,12 +480,13 @@ typedef struct card_month_inches {
     float pe;
 } card_month_inches;
 
-/* The same from precipitation and PE that arrive together as inches. Refusals, in this order: 1, 7,
- * precipitation 9, PE 9, 10. There is no missing reading here: NaN is 9. */
+/* The same from precipitation and PE that arrive together as inches, their kinds included. Refusals, in this
+ * order: 1, 7, precipitation 9, PE 9, 10. There is no missing reading here: NaN is 9. */
 static inline card_added card_add_inches_in(card_columns columns, card_run run, card_month_inches month);
 
 /* Adds a Z, -4,000,000 to 4,000,000: the storages stay, the calendar moves on. Refusals, in this order:
- * 1, 7, 12, 10. It writes the places that card_add_water_in writes; its record says that it had no water. */
+ * 1, 7, 12, 10. It writes the places that card_add_water_in writes; its record says that it had no water. There
+ * was no reading, so both kinds of its figures and the record's are CARD_NONE. */
 static inline card_added card_add_z_in(card_columns columns, card_run run, int32_t z);
 
 /* ---- Adding a season ------------------------------------------------------------------------------ */
@@ -466,6 +510,9 @@ typedef struct card_season {
  *
  * precipitation and pe: lists of one length, any length, 0 included; whole thousandths of an inch, 0 to
  * 100,000, or CARD_NO_READING. card_read makes thousandths of inches and millimetres.
+ *
+ * Whole thousandths cannot say a trace: 0 is CARD_NONE here, and no month is CARD_TRACE. A card that wants its
+ * traces kept adds those months singly, by card_add_water_in, and the months between them as seasons.
  *
  * Refusals: before the first month 1 (the seven columns as ever, and the two lists of unequal length), then
  * 7; then of each month, in this order, precipitation 8 or 9, PE 8 or 9, 10. At the first month refused the
@@ -495,8 +542,9 @@ static inline card_season card_add_season_in(card_columns columns, card_run run,
  *   seem to weaken or to end that did not.
  * - Start a new run, in other columns: in the same ones it would write over the past months. It knows no
  *   spell (X1, X2, X3 all 0) and needs start storages; months must pass before its index says anything.
- * - Never give 0 for a missing reading. A month without rain is a dry month that nobody measured, and it
- *   can found a drought. Nor a code that stands for one: 99.99 is within the range of inches, and is taken.
+ * - Never give 0 for a missing reading, nor a trace. A month without rain is a dry month that nobody measured,
+ *   and it can found a drought. Nor a code that stands for one: 99.99 is within the range of inches, and is
+ *   taken.
  *
  * This project recommends: wait as long as the reading may still come, for the index is monthly and a late
  * one is better than a wrong one. Then take an estimate from neighbouring stations, written down as such. A
@@ -512,7 +560,7 @@ typedef struct card_shown {
     int32_t x3;
     int32_t index;
     uint8_t mark;
-    card_record month; /* its water, its soil and its modified index, */
+    card_record month; /* its water, its soil, its modified index and the kind of its precipitation, */
     int64_t v;         /* and V after it, all as its add wrote them */
 } card_shown;
 
@@ -599,7 +647,7 @@ typedef struct card_none {
 } card_none;
 
 static inline card_none card_nothing(void) {
-    card_none none = {0, 0, {0, 0, 0, 0, 0, 0, 0, 0, 0, 0, 0, 0, 0}, 0};
+    card_none none = {0, 0, {0, 0, 0, 0, 0, 0, 0, 0, 0, 0, 0, 0, 0, 0}, 0};
     return none;
 }
 

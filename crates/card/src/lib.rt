@@ -29,6 +29,7 @@ pub extern "C" fn card_read(g: CReading) -> CAnswer
     let a = drought::read(kinds::reading_of(g));
     CAnswer {
         number: door::number(a),
+        kind: door::kind(a),
         water: door::water(a),
     }
 }

@@ -36,4 +36,4 @@ readingOfC g =
 
 -- an answer in the paper's terms
 abbrev pub answered : CAnswer → Outcome
-answered a = record { number = a .number; water = a .water }
+answered a = record { number = a .number; water = a .water; kind = a .kind }

@@ -14,10 +14,11 @@ pub struct CReading {
     pub measure: f32,
 }
 
-// A reading's answer: 0, 8 or 9, and thousandths of an inch.
+// A reading's answer: 0, 8 or 9, its kind (none, trace or measured), and thousandths of an inch.
 #[repr(C)]
 pub struct CAnswer {
     pub number: u8,
+    pub kind: u8,
     pub water: u32,
 }
 

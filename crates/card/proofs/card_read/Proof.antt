@@ -1,4 +1,4 @@
--- `card::card_read` meets its contract: the reading, its answer, and the answer's two numbers. Assumes nothing.
+-- `card::card_read` meets its contract: the reading, its answer, and the answer's number, kind and water. Assumes nothing.
 use borrow.Author.Needs.{needs}
 use Rattle.card.proofs.card_read.Statement.{statement}
 use Rattle.card.proofs.card_read.Tie as tie
@@ -12,14 +12,19 @@ read-requires c κs = search needs
 number-requires : tie.Need-number-requires
 number-requires c κs = search needs
 
+kind-requires : tie.Need-kind-requires
+kind-requires c κs = search needs
+
 water-requires : tie.Need-water-requires
 water-requires c κs = search needs
 
 returns : tie.Need-returns
 returns c =
-    let a = c .before .before .read .ensures in
-    rw (c .before .number .ensures, c .water .ensures, ← c .before .before .before .reading-of .ensures) a
+    let k = c .before in
+    let n = k .before in
+    let a = n .before .read .ensures in
+    rw (n .number .ensures, k .kind .ensures, c .water .ensures, ← n .before .before .reading-of .ensures) a
 
 pub card-read-spec : {M : Type 1} → statement M
 card-read-spec =
-    tie.close (tie.spec reading-of-requires read-requires number-requires water-requires returns)
+    tie.close (tie.spec reading-of-requires read-requires number-requires kind-requires water-requires returns)
