@@ -9,7 +9,7 @@ use Rattle.series.specs.Series.{seriesRefusal, wholeSeries}
 use Rattle.series.proofs.SeriesLaws.{number-of, refused-writes-nothing}
 use Rattle.demands.specs.Demands.{Demand1, Demand2, Demand3}
 use Rattle.demands.proofs.Shown.{refused-add, refused-start, figures-are, layers-hold, water-balances, inches-balance, values-at, settled-is-hindsight, open-exactly-when, settled-stays-settled, values-never-change, open-are-last, opens-are-counted, settled-are-counted}
-use Rattle.demands.proofs.Given.{no-water, readings-exactly, adds-exactly, row-shows, rows-exactly, series-exactly}
+use Rattle.demands.proofs.Given.{nothing-else, readings-exactly, adds-exactly, row-shows, rows-exactly, series-exactly}
 use Rattle.demands.proofs.Chain.{chain, kept, calendar}
 use Rattle.demands.proofs.Writes.{writes}
 use Rattle.demands.proofs.Soils.{z-given, soil-started, soil-always, layers-exist}
@@ -32,7 +32,7 @@ refused-series z index mark =
 pub demand-1 : Demand1
 demand-1 =
     record {
-      readings = no-water;
+      readings = nothing-else;
       readings-exactly = readings-exactly;
       starts = refused-start;
       starts-exactly = starts-exactly;

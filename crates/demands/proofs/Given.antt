@@ -1,22 +1,22 @@
 -- Which number each call gives, exactly when, as specs/Given.antt has it. Each call's tests are taken apart once, in their order, and make the
 -- case of the number that is then given; and each case gives its number. Assumes nothing.
 use mathlib.Core.Path.{_≡_, refl, sym, ap, _∙_, subst}
-use mathlib.Core.Bool.{Bool, true, false, cond}
+use mathlib.Core.Bool.{Bool, true, false, cond, _&&_}
 use mathlib.Core.Logic.{_↔_, _⊎_, inl, inr, ⊎-elim}
 use mathlib.Core.List.{List}
 use Prim.Native.Nat.{ℕ, zero, suc, zero-le}
 use native.Mathlib.Omega.{arith}
 use borrow.Author.Tests.{lt-ltb, le-ltb, ltb-true, ltb-false, leb-true, leb-false, le-leb, lt-leb}
-use lib.Dec.{leb, ltb, leb→le, le→leb}
+use lib.Dec.{leb, ltb, eqb, leb→le, le→leb}
 use lib.IntN.{ℤ, pos, negsuc, natAbs}
 use lib.ListN.{length}
 use Rattle.outline.specs.Numbers.{mostZ, zFits}
 use Rattle.outline.specs.Refusals.{badLists, notARun, missing, notAcceptable, full, noSuchRow, badZ, orElse, unlessRefused}
 use Rattle.outline.proofs.Tests.{if-so}
 use Rattle.outline.proofs.Refusals.{or-first, or-second, is-done, is-refused}
-use Rattle.door.specs.Exact.{within, nearestTo}
-use Rattle.door.specs.Outcome.{accepted, refused}
-use Rattle.door.specs.Readings.{mostReading, mostInches, mostMillimetres, whole, converted, inches, millimetres, reading, month}
+use Rattle.door.specs.Exact.{within, aboveZero, nearestTo}
+use Rattle.door.specs.Outcome.{Outcome, accepted, traced, refused}
+use Rattle.door.specs.Readings.{fallen, mostReading, mostInches, mostMillimetres, whole, converted, inches, millimetres, reading, month}
 use Rattle.door.specs.declared.Reading.{Reading}
 use Rattle.door.specs.declared.Reading.the-variants.{Whole, Inches, Millimetres, Missing}
 use Rattle.runs.specs.declared.Run.{Run}
@@ -85,16 +85,24 @@ acceptable-fits Missing h = absurd h
 not-acceptable : (r : Reading) → fits r ≡ false → Acceptable r → ⊥
 not-acceptable r e h = let f = acceptable-fits r h in not-both-ways f e
 
-picked : (t : Bool) (n : ℕ) → cond t (accepted n) (refused notAcceptable) .number ≡ cond t 0 notAcceptable
-picked true n = refl
-picked false n = refl
+picked : (t : Bool) (o : Outcome) → o .number ≡ 0 → cond t o (refused notAcceptable) .number ≡ cond t 0 notAcceptable
+picked true o h = h
+picked false o h = refl
+
+-- a number in range is accepted, a trace too
+fallen-done : (above : Bool) (n : ℕ) → fallen above n .number ≡ 0
+fallen-done above n = go (above && eqb n 0)
+  where
+    go : (t : Bool) → cond t traced (accepted n) .number ≡ 0
+    go true = refl
+    go false = refl
 
 number-by : (r : Reading) → named r ≡ 0 → reading r .number ≡ cond (fits r) 0 notAcceptable
 unfolding reading whole inches millimetres converted
-number-by (Whole (pos n)) e = picked (leb n mostReading) n
+number-by (Whole (pos n)) e = picked (leb n mostReading) (accepted n) refl
 number-by (Whole (negsuc n)) e = refl
-number-by (Inches x) e = picked (within mostInches x) (nearestTo 1000 1 x)
-number-by (Millimetres x) e = picked (within mostMillimetres x) (nearestTo 5000 127 x)
+number-by (Inches x) e = picked (within mostInches x) _ (fallen-done (aboveZero x) (nearestTo 1000 1 x))
+number-by (Millimetres x) e = picked (within mostMillimetres x) _ (fallen-done (aboveZero x) (nearestTo 5000 127 x))
 number-by Missing e = absurd (omega arith)
 
 number-missing : (r : Reading) → r ≡ Missing → reading r .number ≡ missing
@@ -121,18 +129,18 @@ reading-which r n (reading-0 h) k = absurd (k refl)
 reading-which r n (reading-8 m) k = inl refl
 reading-which r n (reading-9 h g) k = inr refl
 
--- a refused reading gives no water
-picked-none : (t : Bool) (n : ℕ) → (cond t (accepted n) (refused notAcceptable) .number ≡ 0 → ⊥) → cond t (accepted n) (refused notAcceptable) .water ≡ 0
-picked-none true n h = absurd (h refl)
-picked-none false n h = refl
+-- a refused reading gives its number and nothing else
+picked-none : (t : Bool) (o : Outcome) → o .number ≡ 0 → (cond t o (refused notAcceptable) .number ≡ 0 → ⊥) → cond t o (refused notAcceptable) ≡ refused (cond t o (refused notAcceptable) .number)
+picked-none true o z h = absurd (h z)
+picked-none false o z h = refl
 
-pub no-water : (r : Reading) → (reading r .number ≡ 0 → ⊥) → reading r .water ≡ 0
+pub nothing-else : (r : Reading) → (reading r .number ≡ 0 → ⊥) → reading r ≡ refused (reading r .number)
 unfolding reading whole inches millimetres converted
-no-water (Whole (pos n)) h = picked-none (leb n mostReading) n h
-no-water (Whole (negsuc n)) h = refl
-no-water (Inches x) h = picked-none (within mostInches x) (nearestTo 1000 1 x) h
-no-water (Millimetres x) h = picked-none (within mostMillimetres x) (nearestTo 5000 127 x) h
-no-water Missing h = refl
+nothing-else (Whole (pos n)) h = picked-none (leb n mostReading) (accepted n) refl h
+nothing-else (Whole (negsuc n)) h = refl
+nothing-else (Inches x) h = picked-none (within mostInches x) _ (fallen-done (aboveZero x) (nearestTo 1000 1 x)) h
+nothing-else (Millimetres x) h = picked-none (within mostMillimetres x) _ (fallen-done (aboveZero x) (nearestTo 5000 127 x)) h
+nothing-else Missing h = refl
 
 -- ---- a month by itself
 month-gives : (p pe : Reading) → MonthGives p pe (orElse (reading p .number) (reading pe .number))

@@ -17,6 +17,7 @@ use Rattle.outline.proofs.Tests.{each}
 use Rattle.exact.specs.Worked.{Row as Line, _gives_, minus, agree}
 use Rattle.exact.proofs.Z.{le-yes, le-no, ≤ℤ-antisym}
 use Rattle.water.specs.Layers.{surfaceHolds, underlyingHolds, SoilFits}
+use Rattle.door.specs.Outcome.{noKinds}
 use Rattle.door.specs.declared.Reading.{Reading}
 use Rattle.door.specs.declared.MonthInches.{MonthInches}
 use Rattle.ending.specs.Ending.{turn, uOf, vOf, eOf, endingOf}
@@ -111,7 +112,7 @@ month p et ro ss su =
       number = 0;
       settled = 0;
       figures = record {
-        water = record { p = p; pe = 0; ls = 0; lu = 0; et = et; r = 0; ro = ro; pr = 0; pro = 0; pl = 0; cafec = pos 0 };
+        water = record { p = p; pe = 0; ls = 0; lu = 0; et = et; r = 0; ro = ro; pr = 0; pro = 0; pl = 0; cafec = pos 0; kinds = noKinds };
         z = pos 0;
         percent = 0;
         x1 = pos 0;
@@ -328,15 +329,16 @@ water-record p et ro ss su surface underlying =
       underlying = pos underlying;
       water = pos 1;
       modified = pos 0;
+      kind = pos 0;
     }
 
 pub record-balances : (p et ro ss su surface underlying : ℕ)
     → RecordBalances (water-record p et ro ss su surface underlying) ↔ Balances (storing ss su) (month p et ro surface underlying)
 record-balances p et ro ss su surface underlying = (ap natAbs, ap pos)
 
--- ---- `ZOnly`: all of a record but the storages, which are carried, and the modified index, which is the spells'
-pub z-only-is : (z : ℤ) (m : Record) → ZOnly z m → numbersOf m ≡ z ∷ pos 0 ∷ pos 0 ∷ pos 0 ∷ pos 0 ∷ pos 0 ∷ pos 0 ∷ m .ss ∷ m .su ∷ m .ss ∷ m .su ∷ pos 0 ∷ m .modified ∷ []
-z-only-is z m h = rw (h .its-z, h .p, h .pe, h .et, h .r, h .l, h .ro, h .surface, h .underlying, h .no-water)
+-- ---- `ZOnly`: all of a record but the storages, which are carried, and the modified index, which is the spells'; and no kind of rain
+pub z-only-is : (z : ℤ) (m : Record) → ZOnly z m → numbersOf m ≡ z ∷ pos 0 ∷ pos 0 ∷ pos 0 ∷ pos 0 ∷ pos 0 ∷ pos 0 ∷ m .ss ∷ m .su ∷ m .ss ∷ m .su ∷ pos 0 ∷ m .modified ∷ pos 0 ∷ []
+z-only-is z m h = rw (h .its-z, h .p, h .pe, h .et, h .r, h .l, h .ro, h .surface, h .underlying, h .no-water, h .no-kind)
 
 -- ---- `waterMark`: of water by either call, and of a Z
 pub marks : (p pe : Reading) (q : MonthInches) (z : ℤ) → (waterMark (water p pe) ≡ pos 1) × (waterMark (inches q) ≡ pos 1) × (waterMark (anomaly z) ≡ pos 0)
@@ -349,7 +351,7 @@ numbered =
       number = 1;
       settled = 2;
       figures = record {
-        water = record { p = 11; pe = 12; ls = 13; lu = 14; et = 15; r = 16; ro = 17; pr = 18; pro = 19; pl = 20; cafec = pos 21 };
+        water = record { p = 11; pe = 12; ls = 13; lu = 14; et = 15; r = 16; ro = 17; pr = 18; pro = 19; pl = 20; cafec = pos 21; kinds = record { p = 35; pe = 36 } };
         z = pos 10;
         percent = 22;
         x1 = pos 23;
@@ -364,7 +366,7 @@ numbered =
 
 pub by-answer :
     numbersOf (recordBy (storing 31 32) (anomaly (pos 0)) numbered)
-    ≡ pos 10 ∷ pos 11 ∷ pos 12 ∷ pos 15 ∷ pos 16 ∷ pos 27 ∷ pos 17 ∷ pos 31 ∷ pos 32 ∷ pos 33 ∷ pos 34 ∷ pos 0 ∷ pos 29 ∷ []
+    ≡ pos 10 ∷ pos 11 ∷ pos 12 ∷ pos 15 ∷ pos 16 ∷ pos 27 ∷ pos 17 ∷ pos 31 ∷ pos 32 ∷ pos 33 ∷ pos 34 ∷ pos 0 ∷ pos 29 ∷ pos 35 ∷ []
 by-answer = refl
 
 -- ---- `LastRowEnds`: the run of one month stands at 600 and 2,200; its record ends there, and no other amount, nor a negative one, does

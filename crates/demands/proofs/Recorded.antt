@@ -284,7 +284,7 @@ module _ (f : Fresh) where
   z-only : (earlier : List Ask) (z : ℤ) (later : List Ask) → let asks = earlier ++ (anomaly z ∷ later) in Accepted (first f) asks → ZOnly z (monthAt (now f asks) (length earlier))
   z-only earlier z later h =
       rw (month-of earlier (anomaly z) later h)
-      (record { its-z = refl; p = refl; pe = refl; et = refl; r = refl; l = refl; ro = refl; surface = refl; underlying = refl; no-water = refl })
+      (record { its-z = refl; p = refl; pe = refl; et = refl; r = refl; l = refl; ro = refl; surface = refl; underlying = refl; no-water = refl; no-kind = refl })
 
 pub recorded : Recorded
 recorded =

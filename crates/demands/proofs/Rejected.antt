@@ -13,7 +13,7 @@ use lib.Ieee.{Float, nan, fin}
 use Rattle.exact.specs.Nearest.{nearest, nearestℕ}
 use Rattle.exact.specs.Next.{nextOf}
 use Rattle.exact.specs.Worked.{minus}
-use Rattle.door.specs.Exact.{within, nearestTo}
+use Rattle.door.specs.Exact.{within, aboveZero, nearestTo}
 use Rattle.door.specs.Readings.{whole, converted, inches as inInches, reading, month}
 use Rattle.door.specs.declared.Reading.{Reading}
 use Rattle.door.specs.declared.Reading.the-variants.{Whole, Missing}
@@ -243,7 +243,7 @@ record Worked : Type 0 where
   no-run : rowOfRun weightless 0 (blank 1) .number ≡ 7
 
 worked : Worked
-unfolding nearest nearestℕ nextOf turn uOf vOf eOf qOf endingOf percentOf raised lowered largerInSize provisional steadyMonth abatingValues abatingMonth founded unfounded tried noSpell endingMonth inForce stepOf surfaceHolds underlyingHolds underLoss lossSurface lossUnderlying dryMonth toSurface toUnderlying wetMonth balanceOf potentialSurface potentialUnderlying potentialsOf nOf cafecOf zOf expectedOf monthOf limitOf constantFits constantsFitTo constantsAt zeroKWithin calendarFits nextCalendar lengthFits zFits soilFits sizesFit signsFit vFits isRun isRunFor endsMeet amounts within nearestTo converted inInches whole reading month lengthsFit runRefusal roomRefusal waterRefusal zRefusal rowRefusal taken takenWater addOutcomes addWater addInches addZ rowOfRun
+unfolding nearest nearestℕ nextOf turn uOf vOf eOf qOf endingOf percentOf raised lowered largerInSize provisional steadyMonth abatingValues abatingMonth founded unfounded tried noSpell endingMonth inForce stepOf surfaceHolds underlyingHolds underLoss lossSurface lossUnderlying dryMonth toSurface toUnderlying wetMonth balanceOf potentialSurface potentialUnderlying potentialsOf nOf cafecOf zOf expectedOf monthOf limitOf constantFits constantsFitTo constantsAt zeroKWithin calendarFits nextCalendar lengthFits zFits soilFits sizesFit signsFit vFits isRun isRunFor endsMeet amounts within aboveZero nearestTo converted inInches whole reading month lengthsFit runRefusal roomRefusal waterRefusal zRefusal rowRefusal taken takenWater addOutcomes addWater addInches addZ rowOfRun
 worked =
     record {
       z =

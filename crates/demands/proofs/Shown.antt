@@ -10,7 +10,9 @@ use lib.ListN.{length, getD, take, replicate, length-append}
 use lib.Seq.{getD-take}
 use Rattle.starts.specs.declared.Started.{Started}
 use Rattle.outline.specs.Refusals.{unlessRefused}
+use Rattle.door.specs.Outcome.{kindsOf}
 use Rattle.door.specs.Readings.{reading, month}
+use Rattle.door.specs.declared.MonthKinds.{MonthKinds}
 use Rattle.door.specs.declared.Reading.{Reading}
 use Rattle.door.specs.declared.MonthInches.{MonthInches}
 use Rattle.water.specs.Layers.{SoilFits}
@@ -33,7 +35,7 @@ use Rattle.adding.specs.Figures.{figuresOf, waterFigures}
 use Rattle.drought.specs.Calls.{addOutcomes, addWater, addInches, addZ}
 use Rattle.adding.specs.Taken.{Result, heldBy, soilAfter, taken, takenWater, takenZ, answered}
 use Rattle.adding.proofs.Readiness.{run-is}
-use Rattle.demands.specs.Months.{Ask, water, inches, anomaly, asked, State, after, afterAll, Accepted, stationOf, watered, zFor, modifiedFor, soilFor, waterFor, stationNext, stationRow, noRow}
+use Rattle.demands.specs.Months.{Ask, water, inches, anomaly, asked, State, after, afterAll, Accepted, stationOf, watered, zFor, modifiedFor, soilFor, kindsFor, waterFor, stationNext, stationRow, noRow}
 use Rattle.demands.proofs.Took.{Took, took, settled-is, held-next}
 use Rattle.demands.specs.Demands.{Fresh, first, numberOf, Answers, valuesAt, Balances, rowsSoFar}
 use Rattle.hindsight_laws.proofs.Steps.{rows-long, rows-append}
@@ -50,8 +52,8 @@ unless-answers (suc k) r cs done h = (refl, λ f. (refl, refl, refl, refl))
 -- an add answers with its number, and where that is a refusal it hands the run back and leaves every lent list as it was
 pub refused-add : (r : Run) (a : Ask) (cs : Book) → Answers r cs (numberOf r a cs) (asked r a cs)
 unfolding addWater addInches addOutcomes addZ takenWater taken
-refused-add r (water p pe) cs = unless-answers (waterRefusal r (reading p .number) (reading pe .number) cs) r cs (takenWater r (reading p .water) (reading pe .water) cs) refl
-refused-add r (inches q) cs = unless-answers (waterRefusal r (month q .p .number) (month q .pe .number) cs) r cs (takenWater r (month q .p .water) (month q .pe .water) cs) refl
+refused-add r (water p pe) cs = unless-answers (waterRefusal r (reading p .number) (reading pe .number) cs) r cs (takenWater r (reading p .water) (reading pe .water) (kindsOf (reading p) (reading pe)) cs) refl
+refused-add r (inches q) cs = unless-answers (waterRefusal r (month q .p .number) (month q .pe .number) cs) r cs (takenWater r (month q .p .water) (month q .pe .water) (kindsOf (month q .p) (month q .pe)) cs) refl
 refused-add r (anomaly z) cs = unless-answers (zRefusal r z cs) r cs (takenZ r z cs) refl
 
 -- a start answers with its number, and a refused one with a run of all zeros
@@ -85,18 +87,18 @@ unfolding taken
 layers-hold r a cs h = let t = took r cs a h in subst (λ (b : Result). SoilFits (b .answer .run .soil)) (sym (t .did)) (t .soil)
 
 -- whatever the amounts were read from
-balanced : (r : Run) (a : Ask) (cs : Book) (p pe : ℕ) → (t : Took r a cs)
-    → waterFor (stationOf r) a ≡ waterFigures p pe (watered (stationOf r) p pe) → soilFor (stationOf r) a ≡ soilAfter (r .soil) (watered (stationOf r) p pe) → Balances r (asked r a cs)
+balanced : (r : Run) (a : Ask) (cs : Book) (p pe : ℕ) (kinds : MonthKinds) → (t : Took r a cs)
+    → waterFor (stationOf r) a ≡ waterFigures p pe kinds (watered (stationOf r) p pe) → soilFor (stationOf r) a ≡ soilAfter (r .soil) (watered (stationOf r) p pe) → Balances r (asked r a cs)
 unfolding taken
-balanced r a cs p pe t w s =
+balanced r a cs p pe kinds t w s =
     let f = run-is r cs (t .good) .soil in
     subst (Balances r) (sym (t .did)) (rw (w, s) (month-water-kept (r .soil) p pe (constantsAt (r .constants) (r .calendar)) f))
 
 pub water-balances : (r : Run) (p pe : Reading) (cs : Book) → asked r (water p pe) cs .answer .number ≡ 0 → Balances r (asked r (water p pe) cs)
-water-balances r p pe cs h = balanced r (water p pe) cs (reading p .water) (reading pe .water) (took r cs (water p pe) h) refl refl
+water-balances r p pe cs h = balanced r (water p pe) cs (reading p .water) (reading pe .water) (kindsFor (water p pe)) (took r cs (water p pe) h) refl refl
 
 pub inches-balance : (r : Run) (q : MonthInches) (cs : Book) → asked r (inches q) cs .answer .number ≡ 0 → Balances r (asked r (inches q) cs)
-inches-balance r q cs h = balanced r (inches q) cs (month q .p .water) (month q .pe .water) (took r cs (inches q) h) refl refl
+inches-balance r q cs h = balanced r (inches q) cs (month q .p .water) (month q .pe .water) (kindsFor (inches q)) (took r cs (inches q) h) refl refl
 
 -- ---- 3. "Take any accepted months added one by one to a fresh run whose columns nobody else writes."
 module _ (f : Fresh) where

@@ -7,7 +7,7 @@ use native.Mathlib.Omega.{arith}
 use lib.IntN.{pos, natAbs}
 use lib.ListN.{drop, set}
 use Rattle.outline.specs.Numbers.{mostZ}
-use Rattle.door.specs.Outcome.{Outcome}
+use Rattle.door.specs.Outcome.{Outcome, kindsOf}
 use Rattle.door.specs.Readings.{mostReading, reading, month}
 use Rattle.door.proofs.Bounds.{reading-most, inches-most}
 use Rattle.water.specs.Layers.{SoilFits}
@@ -47,7 +47,7 @@ module _ (r : Run) (cs : Book) where
       → asked r a cs ≡ addOutcomes r p pe cs
       → soilFor (stationOf r) a ≡ record { capacity = r .soil .capacity; surface = waterOf r (p .water) (pe .water) .surface; underlying = waterOf r (p .water) (pe .water) .underlying }
       → zFor (stationOf r) a ≡ waterOf r (p .water) (pe .water) .z
-      → takenWater r (p .water) (pe .water) cs ≡ taken r (soilFor (stationOf r) a) (waterFor (stationOf r) a) (zFor (stationOf r) a) (recordFor (stationOf r) a) cs
+      → takenWater r (p .water) (pe .water) (kindsOf p pe) cs ≡ taken r (soilFor (stationOf r) a) (waterFor (stationOf r) a) (zFor (stationOf r) a) (recordFor (stationOf r) a) cs
       → asked r a cs .answer .number ≡ 0 → Took r a cs
   took-water a p pe hp hpe is soil z did h =
       let t = water-took r cs p pe hp hpe (sym (ap (λ (b : Result). b .answer .number) is) ∙ h) in

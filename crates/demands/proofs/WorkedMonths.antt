@@ -6,7 +6,7 @@ use Rattle.exact.specs.Nearest.{nearest, nearestℕ}
 use Rattle.exact.specs.Next.{nextOf}
 use Rattle.exact.specs.Worked.{agree}
 use Rattle.outline.specs.Numbers.{lengthFits, zFits}
-use Rattle.door.specs.Exact.{within, nearestTo}
+use Rattle.door.specs.Exact.{within, aboveZero, nearestTo}
 use Rattle.door.specs.Readings.{whole, converted, inches, millimetres, reading, month}
 use Rattle.water.specs.Layers.{surfaceHolds, underlyingHolds}
 use Rattle.water.specs.Balance.{underLoss, lossSurface, lossUnderlying, dryMonth, toSurface, toUnderlying, wetMonth, balanceOf}
@@ -31,5 +31,5 @@ use Rattle.demands.specs.Answered.{march, marchInches, october, november
 use Rattle.demands.specs.Worked.{workedTable, months}
 
 pub worked : agree workedTable ≡ true
-unfolding lengthFits zFits within nearestTo whole converted inches millimetres reading month calendarFits nextCalendar soilFits sizesFit signsFit vFits isRun isRunFor endsMeet amounts startOf listsFit seriesRefusal wholeSeries lengthsFit runRefusal roomRefusal waterRefusal zRefusal rowRefusal taken takenWater addOutcomes addWater addInches addZ rowOfRun listed addEach seasonRefusal addSeason march marchInches october november december january season refused series nearest nearestℕ limitOf constantFits constantsFitTo constantsAt zeroKWithin capacityFits storagesFit monthFits startRefusal surfaceHolds underlyingHolds underLoss lossSurface lossUnderlying dryMonth toSurface toUnderlying wetMonth balanceOf potentialSurface potentialUnderlying potentialsOf nOf cafecOf zOf expectedOf monthOf nextOf turn uOf vOf eOf qOf endingOf percentOf raised lowered largerInSize provisional steadyMonth abatingValues abatingMonth founded unfounded tried noSpell endingMonth inForce stepOf mixed side leaning modifiedBy modifiedIn modifiedOf s1 s23 s4-first s4-second s4-third s56 months
+unfolding lengthFits zFits within aboveZero nearestTo whole converted inches millimetres reading month calendarFits nextCalendar soilFits sizesFit signsFit vFits isRun isRunFor endsMeet amounts startOf listsFit seriesRefusal wholeSeries lengthsFit runRefusal roomRefusal waterRefusal zRefusal rowRefusal taken takenWater addOutcomes addWater addInches addZ rowOfRun listed addEach seasonRefusal addSeason march marchInches october november december january season refused series nearest nearestℕ limitOf constantFits constantsFitTo constantsAt zeroKWithin capacityFits storagesFit monthFits startRefusal surfaceHolds underlyingHolds underLoss lossSurface lossUnderlying dryMonth toSurface toUnderlying wetMonth balanceOf potentialSurface potentialUnderlying potentialsOf nOf cafecOf zOf expectedOf monthOf nextOf turn uOf vOf eOf qOf endingOf percentOf raised lowered largerInSize provisional steadyMonth abatingValues abatingMonth founded unfounded tried noSpell endingMonth inForce stepOf mixed side leaning modifiedBy modifiedIn modifiedOf s1 s23 s4-first s4-second s4-third s56 months
 worked = refl

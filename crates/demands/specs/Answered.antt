@@ -86,7 +86,7 @@ marchSaid =
       number = 0;
       settled = 1;
       figures = record {
-        water = record { p = 1000; pe = 2500; ls = 500; lu = 500; et = 2000; r = 0; ro = 0; pr = 2500; pro = 3500; pl = 1500; cafec = pos 2125 };
+        water = record { p = 1000; pe = 2500; ls = 500; lu = 500; et = 2000; r = 0; ro = 0; pr = 2500; pro = 3500; pl = 1500; cafec = pos 2125; kinds = record { p = 2; pe = 2 } };
         z = minus 1688;
         percent = 0;
         x1 = pos 0;
@@ -113,7 +113,7 @@ novemberSaid =
       number = 0;
       settled = 0;
       figures = record {
-        water = record { p = 0; pe = 0; ls = 0; lu = 0; et = 0; r = 0; ro = 0; pr = 0; pro = 0; pl = 0; cafec = pos 0 };
+        water = record { p = 0; pe = 0; ls = 0; lu = 0; et = 0; r = 0; ro = 0; pr = 0; pro = 0; pl = 0; cafec = pos 0; kinds = record { p = 0; pe = 0 } };
         z = pos 3590;
         percent = 40;
         x1 = pos 1197;
@@ -140,7 +140,7 @@ refusedSaid =
       number = 8;
       settled = 0;
       figures = record {
-        water = record { p = 0; pe = 0; ls = 0; lu = 0; et = 0; r = 0; ro = 0; pr = 0; pro = 0; pl = 0; cafec = pos 0 };
+        water = record { p = 0; pe = 0; ls = 0; lu = 0; et = 0; r = 0; ro = 0; pr = 0; pro = 0; pl = 0; cafec = pos 0; kinds = record { p = 0; pe = 0 } };
         z = pos 0;
         percent = 0;
         x1 = pos 0;
@@ -164,7 +164,7 @@ decemberSaid =
       number = 0;
       settled = 0;
       figures = record {
-        water = record { p = 400; pe = 950; ls = 300; lu = 208; et = 908; r = 0; ro = 0; pr = 700; pro = 5300; pl = 842; cafec = pos 982 };
+        water = record { p = 400; pe = 950; ls = 300; lu = 208; et = 908; r = 0; ro = 0; pr = 700; pro = 5300; pl = 842; cafec = pos 982; kinds = record { p = 2; pe = 2 } };
         z = minus 878;
         percent = 34;
         x1 = pos 781;
@@ -194,7 +194,7 @@ januarySaid =
       number = 0;
       settled = 3;
       figures = record {
-        water = record { p = 5900; pe = 400; ls = 0; lu = 0; et = 400; r = 1208; ro = 4292; pr = 1208; pro = 4792; pl = 319; cafec = pos 604 };
+        water = record { p = 5900; pe = 400; ls = 0; lu = 0; et = 400; r = 1208; ro = 4292; pr = 1208; pro = 4792; pl = 319; cafec = pos 604; kinds = record { p = 2; pe = 2 } };
         z = pos 7933;
         percent = 100;
         x1 = pos 0;
@@ -215,26 +215,26 @@ januarySaid =
     }
 
 -- each month's record (document 02, E6), from the figures above: Z, P, PE, ET, R, L = Ls + Lu, RO, the storages that the month before left, those
--- at its end, 1 for a month that had water, and the modified index (E4). "A Z-only month records its Z .., zeros for the six water figures and the carried storages"
+-- at its end, 1 for a month that had water, the modified index (E4), and the kind of the precipitation (E7), 2 measured and 0 none. "A Z-only month records its Z .., zeros for the six water figures and the carried storages"
 abbrev marchRecord : List ℤ
 marchRecord =
-    minus 1688 ∷ pos 1000 ∷ pos 2500 ∷ pos 2000 ∷ pos 0 ∷ pos 1000 ∷ pos 0 ∷ pos 500 ∷ pos 3000 ∷ pos 0 ∷ pos 2500 ∷ pos 1 ∷ minus 563 ∷ []
+    minus 1688 ∷ pos 1000 ∷ pos 2500 ∷ pos 2000 ∷ pos 0 ∷ pos 1000 ∷ pos 0 ∷ pos 500 ∷ pos 3000 ∷ pos 0 ∷ pos 2500 ∷ pos 1 ∷ minus 563 ∷ pos 2 ∷ []
 
 abbrev octoberRecord : List ℤ
 octoberRecord =
-    minus 12210 ∷ pos 0 ∷ pos 0 ∷ pos 0 ∷ pos 0 ∷ pos 0 ∷ pos 0 ∷ pos 300 ∷ pos 5000 ∷ pos 300 ∷ pos 5000 ∷ pos 0 ∷ minus 4070 ∷ []
+    minus 12210 ∷ pos 0 ∷ pos 0 ∷ pos 0 ∷ pos 0 ∷ pos 0 ∷ pos 0 ∷ pos 300 ∷ pos 5000 ∷ pos 300 ∷ pos 5000 ∷ pos 0 ∷ minus 4070 ∷ pos 0 ∷ []
 
 abbrev novemberRecord : List ℤ
 novemberRecord =
-    pos 3590 ∷ pos 0 ∷ pos 0 ∷ pos 0 ∷ pos 0 ∷ pos 0 ∷ pos 0 ∷ pos 300 ∷ pos 5000 ∷ pos 300 ∷ pos 5000 ∷ pos 0 ∷ minus 1009 ∷ []
+    pos 3590 ∷ pos 0 ∷ pos 0 ∷ pos 0 ∷ pos 0 ∷ pos 0 ∷ pos 0 ∷ pos 300 ∷ pos 5000 ∷ pos 300 ∷ pos 5000 ∷ pos 0 ∷ minus 1009 ∷ pos 0 ∷ []
 
 abbrev decemberRecord : List ℤ
 decemberRecord =
-    minus 878 ∷ pos 400 ∷ pos 950 ∷ pos 908 ∷ pos 0 ∷ pos 508 ∷ pos 0 ∷ pos 300 ∷ pos 5000 ∷ pos 0 ∷ pos 4792 ∷ pos 1 ∷ minus 1379 ∷ []
+    minus 878 ∷ pos 400 ∷ pos 950 ∷ pos 908 ∷ pos 0 ∷ pos 508 ∷ pos 0 ∷ pos 300 ∷ pos 5000 ∷ pos 0 ∷ pos 4792 ∷ pos 1 ∷ minus 1379 ∷ pos 2 ∷ []
 
 abbrev januaryRecord : List ℤ
 januaryRecord =
-    pos 7933 ∷ pos 5900 ∷ pos 400 ∷ pos 400 ∷ pos 1208 ∷ pos 0 ∷ pos 4292 ∷ pos 0 ∷ pos 4792 ∷ pos 1000 ∷ pos 5000 ∷ pos 1 ∷ pos 3345 ∷ []
+    pos 7933 ∷ pos 5900 ∷ pos 400 ∷ pos 400 ∷ pos 1208 ∷ pos 0 ∷ pos 4292 ∷ pos 0 ∷ pos 4792 ∷ pos 1000 ∷ pos 5000 ∷ pos 1 ∷ pos 3345 ∷ pos 2 ∷ []
 
 -- at a place that no month has
 abbrev noMonth : List ℤ
@@ -304,6 +304,8 @@ eachWater w said =
     ∷ (pos (w .pro) gives pos (said .pro))
     ∷ (pos (w .pl) gives pos (said .pl))
     ∷ (w .cafec gives said .cafec)
+    ∷ (pos (w .kinds .p) gives pos (said .kinds .p))
+    ∷ (pos (w .kinds .pe) gives pos (said .kinds .pe))
     ∷ []
 
 -- lists place by place; where one is longer they do not agree
@@ -406,6 +408,7 @@ eachOfMonth m said =
     ∷ (m .underlying gives said .underlying)
     ∷ (m .water gives said .water)
     ∷ (m .modified gives said .modified)
+    ∷ (m .kind gives said .kind)
     ∷ []
 
 abbrev eachOfRow : Shown → Shown → List Row
@@ -446,6 +449,7 @@ rowTable =
             underlying = pos 4792;
             water = pos 1;
             modified = minus 1379;
+            kind = pos 2;
           };
       v = pos 3012;
     })
@@ -464,6 +468,7 @@ rowTable =
       underlying = pos 5000;
       water = pos 1;
       modified = pos 3345;
+      kind = pos 2;
     })
     ++ (eachOfMonth (row 0 .month)
     (record {
@@ -480,6 +485,7 @@ rowTable =
       underlying = pos 5000;
       water = pos 0;
       modified = minus 4070;
+      kind = pos 0;
     })
     ++ eachOfRow (row 4)
     (record {
@@ -504,6 +510,7 @@ rowTable =
             underlying = pos 0;
             water = pos 0;
             modified = pos 0;
+            kind = pos 0;
           };
       v = pos 0;
     })))

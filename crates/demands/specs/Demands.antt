@@ -14,6 +14,7 @@ use lib.IntN.{ℤ, pos, natAbs}
 use lib.ListN.{length, getD, take, drop, set, replicate}
 use Rattle.outline.specs.Numbers.{mostZ, lastMonth}
 use Rattle.outline.specs.Refusals.{badLists, badCapacity, badStorage, notARun}
+use Rattle.door.specs.Outcome.{refused}
 use Rattle.door.specs.Readings.{reading, month}
 use Rattle.door.specs.declared.Reading.{Reading}
 use Rattle.door.specs.declared.MonthInches.{MonthInches}
@@ -84,8 +85,8 @@ abbrev pub Honest : ℕ → Type 0
 Honest k = (k ≡ 1 → ⊥) × (k ≡ 7 → ⊥)
 
 pub record Demand1 : Type 0 where
-  -- EVERY READING: each number exactly when, and a refused one gives no water
-  pub readings : (r : Reading) → (reading r .number ≡ 0 → ⊥) → reading r .water ≡ 0
+  -- EVERY READING: each number exactly when, and a refused one gives no water and no kind
+  pub readings : (r : Reading) → (reading r .number ≡ 0 → ⊥) → reading r ≡ refused (reading r .number)
   pub readings-exactly : (r : Reading) (n : ℕ) → (reading r .number ≡ n) ↔ ReadingGives r n
   -- EVERY START: a refused one hands back all zeros
   pub starts :

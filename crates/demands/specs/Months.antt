@@ -4,7 +4,9 @@ use Prim.Native.Nat.{ℕ}
 use mathlib.Core.Path.{_≡_}
 use mathlib.Core.List.{List, [], _∷_, map}
 use lib.IntN.{ℤ, pos}
+use Rattle.door.specs.Outcome.{kindsOf, noKinds}
 use Rattle.door.specs.Readings.{reading, month}
+use Rattle.door.specs.declared.MonthKinds.{MonthKinds}
 use Rattle.door.specs.declared.Reading.{Reading}
 use Rattle.door.specs.declared.MonthInches.{MonthInches}
 use Rattle.water.specs.Expected.{monthOf}
@@ -110,9 +112,15 @@ soilFor s (water p pe) = soilAfter (s .soil) (watered s (reading p .water) (read
 soilFor s (inches q) = soilAfter (s .soil) (watered s (month q .p .water) (month q .pe .water))
 soilFor s (anomaly z) = s .soil
 
+-- the kinds of the month's two readings (document 02, E7), which no other figure hangs on
+abbrev pub kindsFor : Ask → MonthKinds
+kindsFor (water p pe) = kindsOf (reading p) (reading pe)
+kindsFor (inches q) = kindsOf (month q .p) (month q .pe)
+kindsFor (anomaly z) = noKinds
+
 abbrev pub waterFor : Station → Ask → WaterFigures
-waterFor s (water p pe) = waterFigures (reading p .water) (reading pe .water) (watered s (reading p .water) (reading pe .water))
-waterFor s (inches q) = waterFigures (month q .p .water) (month q .pe .water) (watered s (month q .p .water) (month q .pe .water))
+waterFor s (water p pe) = waterFigures (reading p .water) (reading pe .water) (kindsFor (water p pe)) (watered s (reading p .water) (reading pe .water))
+waterFor s (inches q) = waterFigures (month q .p .water) (month q .pe .water) (kindsFor (inches q)) (watered s (month q .p .water) (month q .pe .water))
 waterFor s (anomaly z) = noWater
 
 abbrev pub stationNext : Station → Ask → Station
@@ -139,8 +147,8 @@ figuresOfMonths s (a ∷ later) = figuresFor s a ∷ figuresOfMonths (stationNex
 
 -- the month's record (document 02, E6): of water by either call, or of an added Z
 abbrev pub recordFor : Station → Ask → Record
-recordFor s (water p pe) = waterRecord (s .soil) (reading p .water) (reading pe .water) (watered s (reading p .water) (reading pe .water)) (modifiedFor s (water p pe))
-recordFor s (inches q) = waterRecord (s .soil) (month q .p .water) (month q .pe .water) (watered s (month q .p .water) (month q .pe .water)) (modifiedFor s (inches q))
+recordFor s (water p pe) = waterRecord (s .soil) (reading p .water) (reading pe .water) (watered s (reading p .water) (reading pe .water)) (modifiedFor s (water p pe)) (kindsFor (water p pe) .p)
+recordFor s (inches q) = waterRecord (s .soil) (month q .p .water) (month q .pe .water) (watered s (month q .p .water) (month q .pe .water)) (modifiedFor s (inches q)) (kindsFor (inches q) .p)
 recordFor s (anomaly z) = zRecord (s .soil) z (modifiedFor s (anomaly z))
 
 -- those of months, one after another

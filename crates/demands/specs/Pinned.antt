@@ -24,7 +24,7 @@ use Rattle.drought.specs.Calls.{addZ}
 -- a record's numbers, another one each, but for the storages at its end
 abbrev pub endingIn : ℤ → ℤ → List ℤ
 endingIn surface underlying =
-    pos 81 ∷ pos 82 ∷ pos 83 ∷ pos 84 ∷ pos 85 ∷ pos 86 ∷ pos 87 ∷ pos 88 ∷ pos 89 ∷ surface ∷ underlying ∷ pos 92 ∷ pos 93 ∷ []
+    pos 81 ∷ pos 82 ∷ pos 83 ∷ pos 84 ∷ pos 85 ∷ pos 86 ∷ pos 87 ∷ pos 88 ∷ pos 89 ∷ surface ∷ underlying ∷ pos 92 ∷ pos 93 ∷ pos 94 ∷ []
 
 -- columns of so many places, which hold another number each, with records that end empty; and all of one length
 abbrev lentOf : ℕ → ℕ → ℕ → ℕ → ℕ → ℕ → ℕ → Book

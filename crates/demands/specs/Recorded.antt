@@ -13,6 +13,7 @@ use Prim.Native.Nat.{ℕ, suc, _+_, _≤_, _<_}
 use lib.IntN.{ℤ, pos, _+ℤ_}
 use lib.ListN.{length, getD, take, set}
 use Rattle.outline.specs.Refusals.{notARun}
+use Rattle.door.specs.Outcome.{none}
 use Rattle.runs.specs.Runs.{isRun}
 use Rattle.runs.specs.declared.Run.{Run}
 use Rattle.records.specs.Record.{noRecord, numbersOf, recordAt}
@@ -67,6 +68,8 @@ pub record ZOnly (z : ℤ) (m : Record) : Type 0 where
   pub surface : m .surface ≡ m .ss
   pub underlying : m .underlying ≡ m .su
   pub no-water : m .water ≡ pos 0
+  -- E7: "none, .. as is a Z-only month"
+  pub no-kind : m .kind ≡ pos none
 
 -- the record that an add's own answer makes: its figures, the storages of the run that it was given, and those of the run that it hands back
 abbrev pub recordBy : Run → Ask → Added → Record
@@ -85,6 +88,7 @@ recordBy r a b =
       underlying = pos (b .run .soil .underlying);
       water = waterMark a;
       modified = b .figures .modified;
+      kind = pos (b .figures .water .kinds .p);
     }
 
 -- "after any month, the last row's end storages equal the run's"
