@@ -24,6 +24,8 @@ pub mod Longer
 pub mod GoesOn
 pub mod Recorded
 pub mod Modified
+pub mod Plain
+pub mod Traces
 pub mod Table
 pub mod Rejected
 pub mod SeasonRejected

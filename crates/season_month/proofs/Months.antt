@@ -44,7 +44,7 @@ listed-whole (negsuc (suc n)) h = refl
 
 -- ---- the single add, where 1 and 7 have been asked for
 -- a month of a list is never a trace,
-listed-no-trace : (n : ℤ) → reading (listed n) .kind ≡ trace → ⊥
+pub listed-no-trace : (n : ℤ) → reading (listed n) .kind ≡ trace → ⊥
 unfolding listed reading
 listed-no-trace (pos n) h = whole-no-trace (pos n) h
 listed-no-trace (negsuc zero) h = omega arith
