@@ -1,7 +1,8 @@
 -- What each helper of a statement rules out, so that none of them can be weakened unseen: `agree` of the worked table; `Honest`, `Answers`,
 -- `Balances`, `Accepted`, the answers and the figures month after month, `calendarAfter`, `marksWith`, `Existing`, `SoilFits`, `NoneFrom` and
 -- `count` of the demands; `SameFrom` of a season; `Excepted` and `TurnsAbout` of the mirror; `firstPlaces`, `longer` and `resumed` of longer columns;
--- the records and V month after month, `RecordBalances`, `ZOnly`, `waterMark`, `recordBy` and `LastRowEnds` of rows that show the water. Where a
+-- the records and V month after month, `RecordBalances`, `ZOnly`, `waterMark`, `recordBy` and `LastRowEnds` of rows that show the water; `Little`, `plainFigures`,
+-- `plainNumbers` and `OneWater` of trace rain. Where a
 -- helper is about numbers, one month that it lets through stands beside those that it does not. The cases of specs/Given.antt want no such lemma:
 -- each call gives a number exactly where they have it. Assumes nothing.
 use mathlib.Core.Path.{_≡_, refl, sym, ap, subst}
@@ -10,14 +11,16 @@ use mathlib.Core.Logic.{_↔_}
 use mathlib.Core.List.{List, [], _∷_, _++_}
 use Prim.Native.Nat.{ℕ, _+_, _≤_, _<_}
 use native.Mathlib.Omega.{arith}
-use lib.IntN.{ℤ, pos, natAbs}
+use lib.IntN.{ℤ, pos, negsuc, natAbs}
+use lib.Ieee.{fin}
+use lib.Dec.{lit≤, lit<}
 use lib.Signed.{leZ, _<ℤ_, <ℤ-irrefl}
 use lib.ListN.{length, getD}
 use Rattle.outline.proofs.Tests.{each}
 use Rattle.exact.specs.Worked.{Row as Line, _gives_, minus, agree}
 use Rattle.exact.proofs.Z.{le-yes, le-no, ≤ℤ-antisym}
 use Rattle.water.specs.Layers.{surfaceHolds, underlyingHolds, SoilFits}
-use Rattle.door.specs.Outcome.{noKinds}
+use Rattle.door.specs.Outcome.{noKinds, accepted, traced, refused}
 use Rattle.door.specs.declared.Reading.{Reading}
 use Rattle.door.specs.declared.MonthInches.{MonthInches}
 use Rattle.ending.specs.Ending.{turn, uOf, vOf, eOf, endingOf}
@@ -46,6 +49,7 @@ use Rattle.demands.specs.Mirror.{Excepted, TurnsAbout}
 use Rattle.demands.specs.Longer.{firstPlaces, longer, resumed}
 use Rattle.demands.specs.Recorded.{RecordBalances, waterMark, ZOnly, recordBy, LastRowEnds}
 use Rattle.demands.specs.Modified.{modifiedOfMonths, AbatesIn, Kept}
+use Rattle.demands.specs.Traces.{Little, plainFigures, plainNumbers, OneWater}
 use Rattle.demands.specs.Pinned.{endingIn, soil}
 
 -- two numbers of which the first is above the second
@@ -435,3 +439,51 @@ keeps-not = (
   (λ h. apart refl (ap (λ (n : List ℤ). getD n 0 (pos 0)) (h .numbers))),
   (λ h. apart refl (h .v)),
 )
+
+-- ---- `Little`: the largest trace of each unit, and neither the next number nor zero nor a negative one
+pub little : Little 1000 1 (fin false 8589934 (negsuc 33)) × Little 5000 127 (fin false 13636521 (negsuc 29))
+little = ((refl, lit≤ tt, lit< tt), (refl, lit≤ tt, lit< tt))
+
+pub not-little :
+    (Little 1000 1 (fin false 8589935 (negsuc 33)) → ⊥)
+    × (Little 5000 127 (fin false 13636522 (negsuc 29)) → ⊥)
+    × (Little 1000 1 (fin false 0 (pos 0)) → ⊥)
+    × (Little 1000 1 (fin true 1 (negsuc 33)) → ⊥)
+not-little = ((λ h. omega arith), (λ h. omega arith), (λ h. omega arith), (λ h. let k : _≡_ {A = ℕ} 0 1 = cc in omega arith))
+
+-- ---- `plainFigures` and `plainNumbers` leave out the kinds and nothing else
+abbrev withKinds : Figures → ℕ → ℕ → Figures
+withKinds f p pe =
+    record {
+      water =
+          record {
+            p = f .water .p;
+            pe = f .water .pe;
+            ls = f .water .ls;
+            lu = f .water .lu;
+            et = f .water .et;
+            r = f .water .r;
+            ro = f .water .ro;
+            pr = f .water .pr;
+            pro = f .water .pro;
+            pl = f .water .pl;
+            cafec = f .water .cafec;
+            kinds = record { p = p; pe = pe };
+          };
+      z = f .z;
+      percent = f .percent;
+      x1 = f .x1;
+      x2 = f .x2;
+      x3 = f .x3;
+      index = f .index;
+      mark = f .mark;
+      modified = f .modified;
+    }
+
+pub plain-but-kinds : (f : Figures) (m : Record)
+    → (withKinds (plainFigures f) (f .water .kinds .p) (f .water .kinds .pe) ≡ f) × (plainNumbers (numbersOf m) ++ (m .kind ∷ []) ≡ numbersOf m)
+plain-but-kinds f m = (refl, refl)
+
+-- ---- `OneWater`: a trace is alike to none; a thousandth, or a refusal, is not
+pub one-water : OneWater traced (accepted 0) × (OneWater traced (accepted 1) → ⊥) × (OneWater traced (refused 8) → ⊥)
+one-water = ((refl, refl), (λ h. omega arith), (λ h. omega arith))

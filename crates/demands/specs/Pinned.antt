@@ -1,4 +1,5 @@
--- Document 01's numbers by what the calls do at and beside them, so that none can be changed alike in the definitions and in the code. Those of a
+-- Document 01's numbers by what the calls do at and beside them, so that none can be changed alike in the definitions and in the code; and document 02's
+-- kinds of a reading (E7). Those of a
 -- start stand with the crate `starts`. Worked.antt beside this file joins the rows to the table of worked months, and its one claim is that
 -- every row agrees. Assumes nothing.
 use Prim.Native.Nat.{ℕ, _+_, _*_}
@@ -11,6 +12,7 @@ use Rattle.outline.specs.Refusals.{notANumber}
 use Rattle.exact.specs.Worked.{Row, _gives_, minus}
 use Rattle.door.specs.Outcome.{Outcome}
 use Rattle.door.specs.Readings.{reading}
+use Rattle.door.specs.declared.Reading.{Reading}
 use Rattle.door.specs.declared.Reading.the-variants.{Whole, Inches, Millimetres, Missing}
 use Rattle.water.specs.declared.Soil.{Soil}
 use Rattle.spells.specs.Values.{fresh}
@@ -18,8 +20,10 @@ use Rattle.spells.specs.declared.Running.{Running}
 use Rattle.starts.specs.Start.{ones}
 use Rattle.runs.specs.declared.Run.{Run}
 use Rattle.series.specs.Series.{seriesRefusal}
+use Rattle.records.specs.Record.{recordAt}
 use Rattle.refusals.specs.Book.{Book, book}
-use Rattle.drought.specs.Calls.{addZ}
+use Rattle.adding.specs.Taken.{Result}
+use Rattle.drought.specs.Calls.{addWater, addZ}
 
 -- a record's numbers, another one each, but for the storages at its end
 abbrev pub endingIn : ℤ → ℤ → List ℤ
@@ -233,5 +237,51 @@ listTable =
     ∷ (pos notANumber gives pos 13)
     ∷ []
 
+-- a reading's kind; and a month of two readings, the first of a fresh run: the kinds and the precipitation that it answers, and the kind that its record keeps
+abbrev kind : Reading → ℤ
+kind r = pos (reading r .kind)
+
+abbrev month : Reading → Reading → Result
+month p pe = addWater (run 0 0 1 (soil 6000 0 0) fresh) p pe (lent 1)
+
+abbrev kindsOfMonth : Result → List ℤ
+kindsOfMonth b = pos (b .answer .figures .water .kinds .p) ∷ pos (b .answer .figures .water .kinds .pe) ∷ pos (b .answer .figures .water .p) ∷ recordAt (b .columns .records) 0 .kind ∷ []
+
+abbrev eachOf : List ℤ → List ℤ → List Row
+eachOf [] [] = []
+eachOf [] (y ∷ said) = (pos 0 gives pos 1) ∷ []
+eachOf (x ∷ l) [] = (pos 0 gives pos 1) ∷ []
+eachOf (x ∷ l) (y ∷ said) = (x gives y) ∷ eachOf l said
+
+-- document 02, E7: 0 none, 1 trace, 2 measured
+abbrev kindTable : List Row
+kindTable =
+    -- "A whole-number reading of 0 is none"; and a refused reading's is 0
+    (kind (Whole (pos 0)) gives pos 0)
+    ∷ (kind (Whole (pos 1)) gives pos 2)
+    ∷ (kind (Whole (negsuc 0)) gives pos 0)
+    ∷ (kind Missing gives pos 0)
+    ∷ (kind (Inches nan) gives pos 0)
+    -- zero and negative zero, and the smallest number above them
+    ∷ (kind (Inches (fin false 0 (pos 0))) gives pos 0)
+    ∷ (kind (Inches (fin true 0 (pos 0))) gives pos 0)
+    ∷ (kind (Inches (fin false 1 (negsuc 148))) gives pos 1)
+    ∷ (kind (Millimetres (fin true 0 (pos 0))) gives pos 0)
+    ∷ (kind (Millimetres (fin false 1 (negsuc 148))) gives pos 1)
+    -- "2^-11 inch gives 0": a trace
+    ∷ (kind (Inches (fin false 1 (negsuc 10))) gives pos 1)
+    -- the last binary32 number below half a thousandth, and the next: in inches 0.0005 is 8,589,934.592 x 2^-34, in millimetres 0.0127 is 13,636,521.1648 x 2^-30
+    ∷ (kind (Inches (fin false 8589934 (negsuc 33))) gives pos 1)
+    ∷ (kind (Inches (fin false 8589935 (negsuc 33))) gives pos 2)
+    ∷ (inch (fin false 8589935 (negsuc 33)) gives pos 1)
+    ∷ (kind (Millimetres (fin false 13636521 (negsuc 29))) gives pos 1)
+    ∷ (kind (Millimetres (fin false 13636522 (negsuc 29))) gives pos 2)
+    ∷ (mm (fin false 13636522 (negsuc 29)) gives pos 1)
+    -- a month of a trace and of PE 1, and the other way round; "one more column keeps precipitation's"
+    ∷ (eachOf (kindsOfMonth (month (Inches (fin false 1 (negsuc 10))) (Whole (pos 1)))) (pos 1 ∷ pos 2 ∷ pos 0 ∷ pos 1 ∷ [])
+    ++ (eachOf (kindsOfMonth (month (Whole (pos 1)) (Inches (fin false 1 (negsuc 10))))) (pos 2 ∷ pos 1 ∷ pos 1 ∷ pos 2 ∷ [])
+    -- and of a whole 0 and a trace: none, not precipitation's
+    ++ eachOf (kindsOfMonth (month (Whole (pos 0)) (Millimetres (fin false 1 (negsuc 148))))) (pos 0 ∷ pos 1 ∷ pos 0 ∷ pos 0 ∷ [])))
+
 abbrev pub numbersTable : List Row
-numbersTable = readingTable ++ (runTable ++ listTable)
+numbersTable = readingTable ++ (runTable ++ (listTable ++ kindTable))
