@@ -4,8 +4,9 @@
   door_vectors.py           says whether the stored files are what this program makes
   door_vectors.py --write   writes them: crates/door_vectors/stdin and crates/door_vectors/stdout
 
-It shares nothing with the Rattle code but document 01: a pattern is taken apart by the struct module, its exact
-value is a Fraction, and the nearest thousandth, halves up, is floor(value + 1/2).
+It shares nothing with the Rattle code but documents 01 and 02: a pattern is taken apart by the struct module, its exact
+value is a Fraction, and the nearest thousandth, halves up, is floor(value + 1/2). An answer is its number, its
+thousandths and its kind: 0 none, 1 a trace, which is above zero with nearest thousandth 0, 2 measured.
 """
 import random
 import struct
@@ -30,13 +31,14 @@ def converted(unit, bits):
     most, factor = UNITS[unit]
     x = value(bits)
     if x is None or x < 0 or x > most:
-        return '9 0'
-    return '0 %d' % floor(x * factor + Fraction(1, 2))
+        return '9 0 0'
+    n = floor(x * factor + Fraction(1, 2))
+    return '0 %d %d' % (n, 2 if n else 1 if x > 0 else 0)
 
 
 def whole(bits):
     n = bits - (1 << 32) if bits >= 1 << 31 else bits
-    return '0 %d' % n if 0 <= n <= 100000 else '9 0'
+    return '0 %d %d' % (n, 2 if n else 0) if 0 <= n <= 100000 else '9 0 0'
 
 
 def pattern(x):
@@ -98,7 +100,7 @@ def lines():
         yield 'w', n % (1 << 32), 0
     yield '-', 0, 0
     # months of two inches: each way round, one refused, both refused
-    some = [pattern(Fraction(1, 16)), pattern(Fraction(100)), pattern(Fraction(100)) + 1, 0x7fc00000, 0x80000000, 0xbf800000, pattern(Fraction(5, 2))]
+    some = [pattern(Fraction(1, 16)), pattern(Fraction(100)), pattern(Fraction(100)) + 1, 0x7fc00000, 0x80000000, 0xbf800000, pattern(Fraction(5, 2)), pattern(Fraction(1, 2048))]
     for a in some:
         for b in some:
             yield 'p', a, b
@@ -111,7 +113,7 @@ def answer(letter, first, second):
         return whole(first)
     if letter == 'p':
         return converted('i', first) + ' ' + converted('i', second)
-    return '8 0'
+    return '8 0 0'
 
 
 def main():

@@ -3,7 +3,7 @@
 // A line is 20 bytes: a letter, a space, eight hexadecimal digits, a space, eight more, a line feed. The
 // letter is w (whole thousandths, the first eight digits as an i32), i (inches) or m (millimetres, the first
 // eight as a binary32 pattern), p (one month's two inches), or another (missing). The answer is the paper's
-// number and the thousandths; for p both of them for precipitation and then for PE.
+// number, the thousandths and the kind; for p all three for precipitation and then for PE.
 use door::Answer;
 use door::MonthInches;
 use door::Reading;
@@ -64,6 +64,8 @@ fn show(a: Answer) {
     io::print_decimal(STDOUT_FILENO, door::number(a) as u64);
     io::write_all(STDOUT_FILENO, b" ");
     io::print_decimal(STDOUT_FILENO, door::water(a) as u64);
+    io::write_all(STDOUT_FILENO, b" ");
+    io::print_decimal(STDOUT_FILENO, door::kind(a) as u64);
 }
 
 fn answer(kind: u8, first: u32, second: u32) {
