@@ -31,6 +31,9 @@ const NO_WATER: i32 = 0;
 
 const WATER: i32 = 1;
 
+// What a record's `kind` says of a month that was added as a Z.
+const NONE: i32 = 0;
+
 // A month's record: its Z, its water, both storages at its start and at its end, whether it had water, its modified index, and
 // the kind of its precipitation.
 #[repr(C)]
@@ -96,7 +99,7 @@ pub fn z_record(s: Soil, z: i32, modified: i32) -> Record
         underlying,
         water: NO_WATER,
         modified,
-        kind: 0,
+        kind: NONE,
     }
 }
 
