@@ -14,7 +14,7 @@ mod reference;
 mod stack;
 
 use card::{Columns, MonthInches, Reading, Record, Run, MOST_MONTHS};
-use reference::{Added, Refusal, Season};
+use reference::{Added, Amount, Refusal, Season};
 use std::hint::black_box;
 use std::time::{Duration, Instant};
 
@@ -246,9 +246,9 @@ impl Lists {
     }
 }
 
-fn all_of(record: &Record) -> [i32; 13] {
-    let Record { z, p, pe, et, r, l, ro, ss, su, surface, underlying, water, modified } = *record;
-    [z, p, pe, et, r, l, ro, ss, su, surface, underlying, water, modified]
+fn all_of(record: &Record) -> [i32; 14] {
+    let Record { z, p, pe, et, r, l, ro, ss, su, surface, underlying, water, modified, kind } = *record;
+    [z, p, pe, et, r, l, ro, ss, su, surface, underlying, water, modified, kind]
 }
 
 // ---- The rounds --------------------------------------------------------------------------------------------
@@ -391,7 +391,7 @@ mod row {
     }
 
     fn sum(shown: &Shown) -> u32 {
-        let last = shown.month.water + shown.month.modified + shown.v as i32;
+        let last = shown.month.water + shown.month.modified + shown.month.kind + shown.v as i32;
         (shown.x1 + shown.x2 + shown.x3 + shown.index + shown.month.z + last) as u32 + u32::from(shown.mark)
     }
 
@@ -461,20 +461,26 @@ mod series {
 mod read {
     use super::*;
 
-    type Read = fn(&Reading) -> Result<u32, Refusal>;
+    type Read = fn(&Reading) -> Result<Amount, Refusal>;
 
     /// The conversion in floating point that is nearest to hand.
-    fn by_double(reading: &Reading) -> Result<u32, Refusal> {
+    fn by_double(reading: &Reading) -> Result<Amount, Refusal> {
         let x = reading.measure;
-        match reading.kind {
-            card::MISSING => Err(Refusal::Missing),
-            card::WHOLE if (0..=100_000).contains(&reading.whole) => Ok(reading.whole as u32),
-            card::INCHES if (0.0..=100.0).contains(&x) => Ok((f64::from(x) * 1000.0).round() as u32),
+        let (water, above_zero) = match reading.kind {
+            card::MISSING => return Err(Refusal::Missing),
+            card::WHOLE if (0..=100_000).contains(&reading.whole) => (reading.whole as u32, false),
+            card::INCHES if (0.0..=100.0).contains(&x) => ((f64::from(x) * 1000.0).round() as u32, x > 0.0),
             card::MILLIMETRES if (0.0..=2_540.0).contains(&x) => {
-                Ok((f64::from(x) * 5000.0 / 127.0).round() as u32)
+                ((f64::from(x) * 5000.0 / 127.0).round() as u32, x > 0.0)
             }
-            _ => Err(Refusal::NotAcceptable),
-        }
+            _ => return Err(Refusal::NotAcceptable),
+        };
+        let kind = match (water, above_zero) {
+            (0, false) => card::NONE,
+            (0, true) => card::TRACE,
+            _ => card::MEASURED,
+        };
+        Ok(Amount { water, kind })
     }
 
     fn sum_library<T: Copy>(list: &[T], reading: fn(T) -> Reading) -> u32 {
@@ -483,7 +489,7 @@ mod read {
 
     fn sum<T: Copy>(list: &[T], reading: fn(T) -> Reading, read: Read) -> u32 {
         let read = black_box(read);
-        list.iter().map(|x| read(&reading(*x)).unwrap_or(0)).fold(0, u32::wrapping_add)
+        list.iter().map(|x| read(&reading(*x)).map_or(0, |amount| amount.water)).fold(0, u32::wrapping_add)
     }
 
     pub fn inches_library(inputs: &mut Inputs) -> u32 {
@@ -518,12 +524,13 @@ mod read {
         sum(&inputs.season.0[..READINGS], Reading::whole, reference::read)
     }
 
-    /// That the three conversions give the same, measure by measure.
+    /// That the three conversions give the same, measure by measure, and kind by kind, which the sums leave out.
     pub fn check(inputs: &Inputs) {
         let inches = inputs.inches.iter().map(|x| Reading::inches(*x));
         let mm = inputs.mm.iter().map(|x| Reading::millimetres(*x));
         for reading in inches.chain(mm) {
-            let answers = [Ok(card::read(reading).water), reference::read(&reading), by_double(&reading)];
+            let card::Answer { water, kind, .. } = card::read(reading);
+            let answers = [Ok(Amount { water, kind }), reference::read(&reading), by_double(&reading)];
             if answers != [answers[0]; 3] {
                 eprintln!("bench: {reading:?} gives {answers:?}");
                 std::process::exit(1);

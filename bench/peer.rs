@@ -16,7 +16,7 @@ mod series;
 use card::{
     Added, Answer, Columns, Figures, MonthInches, Reading, Record, Run, Season, Shown, Soil, Started, Values,
 };
-use reference::Refusal;
+use reference::{Amount, Refusal};
 use std::slice::{from_raw_parts, from_raw_parts_mut};
 
 /// "A refused start: a run of zeros."
@@ -55,8 +55,8 @@ fn added(answer: Result<reference::Added, Refusal>, run: &Run) -> Added {
 #[no_mangle]
 pub extern "C" fn card_read(reading: Reading) -> Answer {
     match reference::read(&reading) {
-        Ok(water) => Answer { number: card::DONE, water },
-        Err(refusal) => Answer { number: refusal as u8, water: 0 },
+        Ok(Amount { water, kind }) => Answer { number: card::DONE, kind, water },
+        Err(refusal) => Answer { number: refusal as u8, kind: card::NONE, water: 0 },
     }
 }
 

@@ -105,14 +105,19 @@ fn deepest_with_run(call: fn(&mut u64, bool) -> Call) -> usize {
     deepest
 }
 
+/// In inches.
+const TRACE: f32 = 0.0001;
+
 fn water(state: &mut u64, refused: bool) -> Call {
-    let p = [Reading::whole(random(state, 0, 9_000)), Reading::millimetres(random(state, 0, 300) as f32)];
+    let (whole, mm) = (random(state, 0, 9_000), random(state, 0, 300) as f32);
+    let p = [Reading::whole(whole), Reading::millimetres(mm), Reading::inches(TRACE)];
     let pe = if refused { Reading::missing() } else { Reading::inches(random(state, 0, 9) as f32) };
-    Call::Water(p[random(state, 0, 1) as usize], pe)
+    Call::Water(p[random(state, 0, 2) as usize], pe)
 }
 
 fn inches(state: &mut u64, refused: bool) -> Call {
-    Call::Inches(random(state, 0, 9) as f32, if refused { -1.0 } else { random(state, 0, 9) as f32 })
+    let p = [random(state, 0, 9) as f32, TRACE];
+    Call::Inches(p[random(state, 0, 1) as usize], if refused { -1.0 } else { random(state, 0, 9) as f32 })
 }
 
 fn z(state: &mut u64, refused: bool) -> Call {

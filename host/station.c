@@ -21,12 +21,17 @@
  *
  * A whole number is digits, perhaps after a minus, within 32 bits; a reading is the same with perhaps a point
  * and more digits, or a dash alone, which is a missing reading. A reading counts as the binary32 number nearest
- * to it, as a gauge would hand it over: 100.000001 is 100.
+ * to it, as a gauge would hand it over: 100.000001 is 100. Precipitation may also be T, as observers write a
+ * trace: rain that fell, but too little to measure.
  *
  * Printed are three tables, in thousandths: the months as their adds answered, or with MONTHS the calls; the rows
  * of all months as they stand in the end; and of each month its water and what the two layers of soil stored at
  * its end, with dashes for the water of a month that had none. Beside index, which is Palmer's and may change until
  * its month is settled, the first two have modified, the modified index, which does not change.
+ *
+ * P is T where precipitation was a trace: a T, or a number above zero that is nearer to 0 than to a thousandth of
+ * an inch. It counts as 0. PE is always printed as a number. With MONTHS a trace is printed 0: the call that adds
+ * many months takes whole thousandths, which cannot say it.
  *
  * Nothing is printed on standard output before the whole file was found good, the run was started and every
  * month was added: a card must not show figures of half a file. What is wrong is said in one line on standard
@@ -252,17 +257,29 @@ typedef struct kind {
     const char *comma;
     const char *form;
     const char *after;
+    int takes_trace;   /* whether T is one, */
+    const char *trace; /* and what is said of a t, and of a T where it is none */
 } kind;
 
 static const kind THOUSANDTHS = {0, ", and a whole number has digits only",
                                  "expected: a whole number of thousandths of an inch",
-                                 "expected: a whole number of thousandths of an inch"};
+                                 "expected: a whole number of thousandths of an inch", 0, NULL};
 static const kind TEN_THOUSANDTHS = {0, ", and a whole number has digits only",
                                      "expected: a whole number of ten-thousandths",
-                                     "expected: a whole number of ten-thousandths"};
-static const kind READING = {1, ", and decimals begin with a point",
-                             "expected: digits, perhaps with a point, or - for a missing reading",
-                             "digits and a point only, and the unit stands once, in the line months"};
+                                     "expected: a whole number of ten-thousandths", 0, NULL};
+static const kind PRECIPITATION = {
+    1, ", and decimals begin with a point",
+    "expected: digits, perhaps with a point, T for a trace, or - for a missing reading",
+    "digits and a point only, and the unit stands once, in the line months", 1,
+    "a trace of rain is written T, a missing reading -"};
+static const kind PE = {
+    1, ", and decimals begin with a point", "expected: digits, perhaps with a point, or - for a missing reading",
+    "digits and a point only, and the unit stands once, in the line months", 0,
+    "a trace is of rain; PE is worked out and not observed: write 0, or - where it is missing"};
+
+/* The smallest binary32 number above zero, which T is handed over as: in either unit it is a trace to the library
+ * and can be nothing else, and it says no more of the rain than the observer did. */
+#define SMALLEST 0x1p-149f
 
 /* Not isdigit, which asks the locale and takes no negative char. */
 static int is_digit(word w, size_t i) { return i < w.length && w.text[i] >= '0' && w.text[i] <= '9'; }
@@ -294,9 +311,8 @@ static size_t first_digit(word w, const kind *k) {
         if (!k->decimals) refuse_rest(w, i, k);
         refuse(in_word(w, i), "no digit before the point in \"%s\"; one half is written 0.5", said(w));
     }
-    if (k->decimals && (is(w, "T") || is(w, "t")))
-        refuse(w.at, "\"%s\" is no number; a trace of rain is written 0, a missing reading -", said(w));
-    refuse(w.at, "\"%s\" is no number; %s", said(w), k->form);
+    int trace = k->trace != NULL && (is(w, "T") || is(w, "t"));
+    refuse(w.at, "\"%s\" is no number; %s", said(w), trace ? k->trace : k->form);
     return i;
 }
 
@@ -331,18 +347,22 @@ typedef struct measure {
 /* The word is scanned here, since strtof takes much that is no reading (0x10, nan, 5mm). What is left reads to
  * its end, at a space, a line feed or the zero byte after the file; and with a point, as setlocale is never
  * called. */
-static measure take_reading(scanner *s, card_reading (*unit)(float)) {
+static measure take_reading(scanner *s, card_reading (*unit)(float), const kind *k) {
     measure m = {card_missing(), take(s)};
     word w = m.word;
     if (is(w, "-")) return m;
-    size_t i = after_digits(w, first_digit(w, &READING));
+    if (k->takes_trace && is(w, "T")) {
+        m.reading = unit(SMALLEST);
+        return m;
+    }
+    size_t i = after_digits(w, first_digit(w, k));
     if (i < w.length && w.text[i] == '.') {
         if (!is_digit(w, i + 1))
             refuse(in_word(w, i), "no digit after the point in \"%s\"; write digits after it, or no point",
                    said(w));
         i = after_digits(w, i + 1);
     }
-    if (i < w.length) refuse_rest(w, i, &READING);
+    if (i < w.length) refuse_rest(w, i, k);
     m.reading = unit(strtof(w.text, NULL));
     return m;
 }
@@ -476,8 +496,8 @@ static int read_month(scanner *s, station *st) {
         return 0;
     }
     long when = take_date(s, st, m.date);
-    m.precipitation = take_reading(s, st->unit);
-    m.pe = take_reading(s, st->unit);
+    m.precipitation = take_reading(s, st->unit, &PRECIPITATION);
+    m.pe = take_reading(s, st->unit, &PE);
     close_line(s);
     if (st->count == 0) st->first = when;
     st->next = when + 1;
@@ -595,8 +615,8 @@ static card_run add_singly(const station *st, card_columns columns, card_run run
     return run;
 }
 
-/* A reading as a season's lists have it: whole thousandths, or CARD_NO_READING. One that is not acceptable
- * becomes a number that is not, so that the season refuses it as a single add does. */
+/* A reading as a season's lists have it: whole thousandths, of a trace 0, or CARD_NO_READING. One that is not
+ * acceptable becomes a number that is not, so that the season refuses it as a single add does. */
 static int32_t listed(card_reading reading) {
     card_answer a = card_read(reading);
     if (a.number == CARD_MISSING_READING) return CARD_NO_READING;
@@ -650,14 +670,23 @@ static void flush(void) {
     if (fflush(stdout) != 0) not_written();
 }
 
+/* Precipitation as it is printed: T for a trace, as observers write it. PE is worked out and not observed, and is
+ * always a number. It holds until the next call. */
+static const char *rain(uint32_t thousandths, uint32_t kind) {
+    static char held[12];
+    if (kind == CARD_TRACE) return "T";
+    snprintf(held, sizeof held, "%" PRIu32, thousandths);
+    return held;
+}
+
 /* A row for each month, as its own add answered. */
 static void print_singly(const page *r, long first) {
     print("month P PE CAFEC Z percent index modified settled\n");
     for (size_t i = 0; i < r->steps; i++) {
         const card_figures *f = &r->step[i].figures;
         long when = first + (long)i;
-        print("%04ld-%02ld %" PRIu32 " %" PRIu32 " %" PRId32 " ", when / 12, when % 12 + 1, f->water.p,
-              f->water.pe, f->water.cafec);
+        print("%04ld-%02ld %s %" PRIu32 " %" PRId32 " ", when / 12, when % 12 + 1,
+              rain(f->water.p, f->water.kinds.p), f->water.pe, f->water.cafec);
         print("%" PRId32 " %" PRIu32 " %" PRId32 " %" PRId32 " %" PRIu32 "\n", f->z, f->percent, f->index,
               f->modified, r->step[i].settled);
     }
@@ -695,8 +724,8 @@ static void print_water(const page *r, long first) {
         if (m->water != CARD_HAD_WATER)
             print("- - - - - - ");
         else
-            print("%" PRId32 " %" PRId32 " %" PRId32 " %" PRId32 " %" PRId32 " %" PRId32 " ", m->p, m->pe, m->et,
-                  m->r, m->l, m->ro);
+            print("%s %" PRId32 " %" PRId32 " %" PRId32 " %" PRId32 " %" PRId32 " ",
+                  rain((uint32_t)m->p, (uint32_t)m->kind), m->pe, m->et, m->r, m->l, m->ro);
         print("%" PRId32 " %" PRId32 "\n", m->surface, m->underlying);
     }
 }
@@ -707,6 +736,17 @@ static void print_help(void) {
           "\n"
           "Reads a station file from standard input, adds its months to a run and prints what the card shows.\n"
           "MONTHS, 1 to %d: adds so many months in a call, as a card that was offline; else one by one.\n"
+          "\n"
+          "Printed are three tables; water, Z, X and both indexes in thousandths:\n"
+          "  month P PE CAFEC Z percent index modified settled   each month as it was added, and how many that\n"
+          "                                                      settled; with MONTHS each call, as\n"
+          "                                                      season added settled index modified\n"
+          "  month X1 X2 X3 index modified mark                  each month as it stands in the end, S settled\n"
+          "                                                      or O open\n"
+          "  month P PE ET R L RO surface underlying             its water, and the soil at its end\n"
+          "\n"
+          "T for a month's precipitation, in the file and as P, is a trace: rain too little to measure, which\n"
+          "counts as 0. PE is always a number. With MONTHS a trace is printed 0: such a call cannot tell it.\n"
           "\n"
           "Status: 0 done; 1 the file or a month in it is refused; 2 wrong arguments, or input that cannot be\n"
           "read; 3 output that cannot be written. What is wrong is said on standard error, in one line.\n"

@@ -10,7 +10,7 @@ mod card;
 
 use card::{
     meaning, Columns, Figures, Reading, Record, Run, Shown, BAD_READING, CAPACITY_OUT, CONSTANTS, CONSTANT_OUT,
-    DONE, FULL, HAD_WATER, MISSING_READING, MOST_MONTHS, SETTLED, STORAGE_OUT, ZERO_K,
+    DONE, FULL, HAD_WATER, MISSING_READING, MOST_MONTHS, SETTLED, STORAGE_OUT, TRACE, ZERO_K,
 };
 use std::fs::File;
 use std::io::{Read, Write};
@@ -276,6 +276,8 @@ struct Kind {
     comma: &'static str,
     form: &'static str,
     after: &'static str,
+    takes_trace: bool,           // whether T is one,
+    trace: Option<&'static str>, // and what is said of a t, and of a T where it is none
 }
 
 const THOUSANDTHS: Kind = Kind {
@@ -283,19 +285,37 @@ const THOUSANDTHS: Kind = Kind {
     comma: ", and a whole number has digits only",
     form: "expected: a whole number of thousandths of an inch",
     after: "expected: a whole number of thousandths of an inch",
+    takes_trace: false,
+    trace: None,
 };
 const TEN_THOUSANDTHS: Kind = Kind {
     decimals: false,
     comma: ", and a whole number has digits only",
     form: "expected: a whole number of ten-thousandths",
     after: "expected: a whole number of ten-thousandths",
+    takes_trace: false,
+    trace: None,
 };
-const READING: Kind = Kind {
+const PRECIPITATION: Kind = Kind {
+    decimals: true,
+    comma: ", and decimals begin with a point",
+    form: "expected: digits, perhaps with a point, T for a trace, or - for a missing reading",
+    after: "digits and a point only, and the unit stands once, in the line months",
+    takes_trace: true,
+    trace: Some("a trace of rain is written T, a missing reading -"),
+};
+const PE: Kind = Kind {
     decimals: true,
     comma: ", and decimals begin with a point",
     form: "expected: digits, perhaps with a point, or - for a missing reading",
     after: "digits and a point only, and the unit stands once, in the line months",
+    takes_trace: false,
+    trace: Some("a trace is of rain; PE is worked out and not observed: write 0, or - where it is missing"),
 };
+
+/// The smallest binary32 number above zero, which T is handed over as: in either unit it is a trace to the library
+/// and can be nothing else, and it says no more of the rain than the observer did.
+const SMALLEST: f32 = f32::from_bits(1);
 
 /// What follows a number's digits and does not belong to it.
 fn refuse_rest<T>(w: Word, i: usize, k: &Kind) -> Result<T, Stop> {
@@ -328,11 +348,8 @@ fn first_digit(w: Word, k: &Kind) -> Result<usize, Stop> {
     if w.byte(i) == Some(b'.') {
         return refuse(w.place(i), format!("no digit before the point in \"{said}\"; one half is written 0.5"));
     }
-    if k.decimals && (w.is("T") || w.is("t")) {
-        let what = format!("\"{said}\" is no number; a trace of rain is written 0, a missing reading -");
-        return refuse(w.at, what);
-    }
-    refuse(w.at, format!("\"{said}\" is no number; {}", k.form))
+    let what = k.trace.filter(|_| w.is("T") || w.is("t")).unwrap_or(k.form);
+    refuse(w.at, format!("\"{said}\" is no number; {what}"))
 }
 
 /// A whole number, and the word that it was.
@@ -371,12 +388,15 @@ struct Measure<'a> {
 
 /// The word is scanned here, since `parse` takes much that is no reading (1e2, nan, +5). What is left it takes; a
 /// NaN in its place would be refused by the library.
-fn take_reading<'a>(s: &mut Scanner<'a>, unit: Unit) -> Result<Measure<'a>, Stop> {
+fn take_reading<'a>(s: &mut Scanner<'a>, unit: Unit, k: &Kind) -> Result<Measure<'a>, Stop> {
     let w = s.take()?;
     if w.is("-") {
         return Ok(Measure { reading: Reading::missing(), word: w });
     }
-    let mut i = w.after_digits(first_digit(w, &READING)?);
+    if k.takes_trace && w.is("T") {
+        return Ok(Measure { reading: unit.reading(SMALLEST), word: w });
+    }
+    let mut i = w.after_digits(first_digit(w, k)?);
     if w.byte(i) == Some(b'.') {
         if !w.is_digit(i + 1) {
             let what = "write digits after it, or no point";
@@ -385,7 +405,7 @@ fn take_reading<'a>(s: &mut Scanner<'a>, unit: Unit) -> Result<Measure<'a>, Stop
         i = w.after_digits(i + 1);
     }
     if i < w.text.len() {
-        return refuse_rest(w, i, &READING);
+        return refuse_rest(w, i, k);
     }
     let measure = std::str::from_utf8(w.text).ok().and_then(|text| text.parse().ok()).unwrap_or(f32::NAN);
     Ok(Measure { reading: unit.reading(measure), word: w })
@@ -560,8 +580,8 @@ fn read_month<'a>(s: &mut Scanner<'a>, st: &mut Station<'a>) -> Result<bool, Sto
         return Ok(false);
     }
     let when = take_date(s, st, w)?;
-    let precipitation = take_reading(s, st.unit)?;
-    let pe = take_reading(s, st.unit)?;
+    let precipitation = take_reading(s, st.unit, &PRECIPITATION)?;
+    let pe = take_reading(s, st.unit, &PE)?;
     s.close_line()?;
     if st.months.is_empty() {
         st.first = when;
@@ -695,8 +715,8 @@ fn add_singly(st: &Station, columns: &mut Columns, mut run: Run) -> Result<(Run,
     Ok((run, steps))
 }
 
-/// A reading as a season's lists have it: whole thousandths, or NO_READING. One that is not acceptable becomes a
-/// number that is not, so that the season refuses it as a single add does.
+/// A reading as a season's lists have it: whole thousandths, of a trace 0, or NO_READING. One that is not acceptable
+/// becomes a number that is not, so that the season refuses it as a single add does.
 fn listed(reading: Reading) -> i32 {
     let a = card::read(reading);
     match a.number {
@@ -744,12 +764,23 @@ fn standard(number: i32) -> ManuallyDrop<File> {
     ManuallyDrop::new(unsafe { File::from_raw_fd(number) })
 }
 
+/// Precipitation as it is printed: T for a trace, as observers write it. PE is worked out and not observed, and is
+/// always a number.
+fn rain(thousandths: i64, trace: bool) -> String {
+    if trace {
+        "T".to_string()
+    } else {
+        thousandths.to_string()
+    }
+}
+
 /// A row for each month, as its own add answered.
 fn singly_text(steps: &[Step], first: usize) -> String {
     let mut text = "month P PE CAFEC Z percent index modified settled\n".to_string();
     for (i, step) in steps.iter().enumerate() {
         let (f, w) = (&step.figures, &step.figures.water);
-        text += &format!("{} {} {} {} ", date(first + i), w.p, w.pe, w.cafec);
+        let p = rain(w.p.into(), w.kinds.p == TRACE);
+        text += &format!("{} {p} {} {} ", date(first + i), w.pe, w.cafec);
         text += &format!("{} {} {} {} {}\n", f.z, f.percent, f.index, f.modified, step.settled);
     }
     text
@@ -781,8 +812,9 @@ fn rows_text(rows: &[Shown], first: usize) -> String {
 fn water_text(rows: &[Shown], first: usize) -> String {
     let mut text = "month P PE ET R L RO surface underlying\n".to_string();
     for (i, Shown { month: m, .. }) in rows.iter().enumerate() {
+        let p = rain(m.p.into(), m.kind == TRACE.into());
         let water = match m.water {
-            HAD_WATER => format!("{} {} {} {} {} {}", m.p, m.pe, m.et, m.r, m.l, m.ro),
+            HAD_WATER => format!("{p} {} {} {} {} {}", m.pe, m.et, m.r, m.l, m.ro),
             _ => "- - - - - -".to_string(),
         };
         text += &format!("{} {water} {} {}\n", date(first + i), m.surface, m.underlying);
@@ -797,6 +829,17 @@ fn help_text() -> String {
         \n\
         Reads a station file from standard input, adds its months to a run and prints what the card shows.\n\
         MONTHS, 1 to {MOST_MONTHS}: adds so many months in a call, as a card that was offline; else one by one.\n\
+        \n\
+        Printed are three tables; water, Z, X and both indexes in thousandths:\n\
+        \x20 month P PE CAFEC Z percent index modified settled   each month as it was added, and how many that\n\
+        \x20                                                     settled; with MONTHS each call, as\n\
+        \x20                                                     season added settled index modified\n\
+        \x20 month X1 X2 X3 index modified mark                  each month as it stands in the end, S settled\n\
+        \x20                                                     or O open\n\
+        \x20 month P PE ET R L RO surface underlying             its water, and the soil at its end\n\
+        \n\
+        T for a month's precipitation, in the file and as P, is a trace: rain too little to measure, which\n\
+        counts as 0. PE is always a number. With MONTHS a trace is printed 0: such a call cannot tell it.\n\
         \n\
         Status: 0 done; 1 the file or a month in it is refused; 2 wrong arguments, or input that cannot be\n\
         read; 3 output that cannot be written. What is wrong is said on standard error, in one line.\n\

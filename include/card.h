@@ -374,12 +374,12 @@ typedef struct card_record {
  *
  * A card may hold records of 52 bytes, from before the kind of the precipitation was kept: the first thirteen
  * numbers of a record as it is now. Copy each into the beginning of a longer one and put 0 (CARD_NONE) for
- * kind, or anything: no call asks for it, and a row shows it as it stands. The run and the other six lists stay
- * as they are. Whether a p of 0 was a trace is had only by adding all months again, from their readings.
+ * kind: no call asks for it, and a row shows it as it stands. The run and the other six lists stay as they are.
+ * Whether a p of 0 was a trace is had only by adding all months again, from their readings.
  *
  * A card may hold records of 48 bytes, from before the modified index was kept: the first twelve numbers of a
- * record as it is now. They are copied in the same way, with 0 for modified too, or anything. The modified
- * indexes of these months, too, are had only by adding all months again.
+ * record as it is now. They are copied in the same way, with 0 for modified too. The modified indexes of these
+ * months, too, are had only by adding all months again.
  *
  * What a call answers and writes hangs on that length only where the months do not fit in (7) or fill it
  * (10). So columns made for 2,400, which was the most once, stay usable and give the same answers. And a

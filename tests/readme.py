@@ -1,10 +1,10 @@
 #!/usr/bin/env python3
 """Holds README.md to what it says and shows: its commands print what it shows of them, its C compiles without a warning
-and prints what it says, its way from a CSV comes to the sample's own figures, its table of refusals has the words of
-the header and of the programs. And docs/MIRROR.md: every command of it prints what stands below it. And docs/RULES.md:
-every definition that it names is in the file that it names, with the number that it says. And the two groups of each
-crate's specs/Lib.antt: nothing that must be believed uses what only a proof wants. CC and RUN, from the environment,
-are how C is compiled and run (host/setup.sh).
+and prints what it says, its way from a CSV comes to the sample's own figures, a trace is printed as it shows, its table
+of refusals has the words of the header and of the programs. And docs/MIRROR.md: every command of it prints what stands
+below it. And docs/RULES.md: every definition that it names is in the file that it names, with the number that it says.
+And the two groups of each crate's specs/Lib.antt: nothing that must be believed uses what only a proof wants. CC and
+RUN, from the environment, are how C is compiled and run (host/setup.sh).
 """
 import glob
 import os
@@ -140,7 +140,8 @@ def c_program():
 
 
 def station():
-    """From a CSV to an index, in a folder with nothing but links; and the line that is told of a comma."""
+    """From a CSV to an index, in a folder with nothing but links; the line that is told of a comma; and the two rows of a
+    trace."""
     with tempfile.TemporaryDirectory() as folder:
         for name in ('host', 'samples', 'include', 'crates', 'target', 'crates.txt'):
             os.symlink(os.path.join(TOP, name), os.path.join(folder, name))
@@ -152,6 +153,12 @@ def station():
             f.write(text('samples', 'western-kansas-station.txt').replace(' 1.53 ', ' 1,53 '))
         if printed('host/station comma.txt', cwd=folder, status=1) != ('', told):
             sys.exit('readme: of a comma the station program says %r' % printed('host/station comma.txt', cwd=folder, status=1)[1])
+        traced = os.path.join(folder, 'trace.txt')
+        with open(traced, 'w') as f:
+            f.write(text('samples', 'western-kansas-station.txt').replace('1933-01 0.02 ', '1933-01 T '))
+        rows = [body for language, body in BLOCKS if body.startswith('1933-01 T ')][0].strip().split('\n')
+        if [row for row in printed('host/station ' + traced)[0].split('\n') if row.startswith('1933-01 T ')] != rows:
+            sys.exit('readme: a trace is not printed as README.md shows')
 
 
 def refusals():

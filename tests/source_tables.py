@@ -6,12 +6,15 @@
   source_tables.py --scan FILE  says whether the tables are what FILE has, the scan of the paper as text
 
 It shares nothing with the Rattle code and with the other programs of these tests but document 01, with document 02's thin
-soils and modified index, and the tables: one month of water, one month of spells and hindsight are written here from the
-documents' words, over whole numbers. tests/station.py holds months of thin soils, and both indexes, to the same reckoning.
+soils, modified index and trace rain, and the tables: a reading, one month of water, one month of spells and hindsight are
+written here from the documents' words, over whole numbers and fractions. tests/station.py holds readings and their kinds,
+months of thin soils, and both indexes, to the same reckoning.
 """
+import functools
 import os
 import re
 import sys
+from fractions import Fraction
 
 import stored
 
@@ -87,6 +90,30 @@ def nearest(n, d):
     """The nearest whole number to n / d, halves away from zero."""
     q = (2 * abs(n) + d) // (2 * d)
     return q if n >= 0 else -q
+
+
+def binary32(decimal):
+    """The binary32 number nearest to a decimal that is not negative, of two as near the even one."""
+    x = Fraction(decimal)
+    # what its last binary digit counts: of 24, or of less where it is small
+    place = Fraction(2) ** max(-149, x.numerator.bit_length() - x.denominator.bit_length() - 24)
+    if x >= place * 2 ** 24:
+        place *= 2
+    return round(x / place) * place
+
+
+NONE, TRACE, MEASURED = range(3)
+
+
+@functools.lru_cache(None)
+def reading(word, unit):
+    """What a station file has for a reading, in thousandths of an inch, and its kind: T is a trace, and so is a number
+    above zero whose nearest thousandth is 0."""
+    if word == 'T':
+        return 0, TRACE
+    x = binary32(word) * {'inches': 1000, 'millimetres': Fraction(5000, 127)}[unit]
+    n = nearest(x.numerator, x.denominator)
+    return n, MEASURED if n > 0 else TRACE if x > 0 else NONE
 
 
 def water(capacity, surface, underlying, p, pe, alpha, beta, gamma, delta, k):

@@ -1,7 +1,8 @@
 #!/usr/bin/env python3
 """Runs the two station programs, host/station.c and host/station.rs, on good, bad and damaged station files.
 
-Both must print the same on standard output and on standard error and end with the same status. Of a bad file it is
+Both must print the same on standard output and on standard error and end with the same status. Of a good file it is
+asked that every month is as tests/source_tables.py reckons it, T where its precipitation was a trace. Of a bad file it is
 asked that the status is 1, that standard output is empty, and that standard error is one closed line with the line and
 the column of the fault and the words that tell it from the others. It prints how many cases were run.
 
@@ -56,16 +57,34 @@ MOST = 12000
 # how the months are added: one by one, and in seasons
 WAYS = [(), ('1',), ('6',), (str(MOST),)]
 
-# A word that is no reading: where in it the fault is told, and the words.
+# How a reading is written, precipitation and PE; and what is said of a T where it is none.
+FORMS = (b'expected: digits, perhaps with a point, T for a trace, or - for a missing reading', b'expected: digits, perhaps with a point, or - for a missing reading')
+NO_TRACES = (b'a trace of rain is written T, a missing reading -', b'a trace is of rain; PE is worked out and not observed: write 0, or - where it is missing')
+
+
+def no_number(word, words):
+    """What is said of a word in the place of precipitation, and of PE."""
+    return [b'"' + word + b'" is no number; ' + one for one in words]
+
+
+# A word that is no reading: where in it the fault is told, and the words, or those of precipitation and those of PE.
 NO_READINGS = [
     (b'5.56,4.80', 4, b'a comma in "5.56,4.80"; words are parted by spaces, and decimals begin with a point'),
     (b'1,53', 1, b'a comma in "1,53"; words are parted by spaces, and decimals begin with a point'),
     (b'1;53', 1, b'a semicolon in "1;53"; words are parted by spaces'),
     (b',', 0, b'a comma in ","'),
-    (b'abc', 0, b'"abc" is no number; expected: digits, perhaps with a point, or - for a missing reading'),
-    (b'T', 0, b'"T" is no number; a trace of rain is written 0, a missing reading -'),
-    (b't', 0, b'"t" is no number; a trace of rain is written 0, a missing reading -'),
-    (b'M', 0, b'"M" is no number; expected: digits, perhaps with a point, or - for a missing reading'),
+    (b'abc', 0, no_number(b'abc', FORMS)),
+    (b't', 0, no_number(b't', NO_TRACES)),
+    (b'M', 0, no_number(b'M', FORMS)),
+    (b'TR', 0, no_number(b'TR', FORMS)),
+    (b'Trace', 0, no_number(b'Trace', FORMS)),
+    (b'T.', 0, no_number(b'T.', FORMS)),
+    (b'T0', 0, no_number(b'T0', FORMS)),
+    (b'-T', 0, no_number(b'-T', FORMS)),
+    (b'"T"', 0, no_number(b'"T"', FORMS)),
+    (b'T,4.80', 1, b'a comma in "T,4.80"; words are parted by spaces, and decimals begin with a point'),
+    (b'+T', 0, b'a plus in "+T"'),
+    (b'0T', 1, b'something after the number in "0T"'),
     (b'nan', 0, b'"nan" is no number'),
     (b'inf', 0, b'"inf" is no number'),
     (b'-inf', 0, b'"-inf" is no number'),
@@ -146,7 +165,7 @@ NO_BYTES = [
 ]
 
 # words that are no month, in the place of 1935-05, the last, and of 1932-06, the first
-NO_DATES = [b'1935-5', b'1935-00', b'1935-13', b'1935-99', b'1935/05', b'1935.05', b'193505', b'1935-05-01', b'935-05', b'01935-05', b'-935-05',
+NO_DATES = [b'T', b'1935-5', b'1935-00', b'1935-13', b'1935-99', b'1935/05', b'1935.05', b'193505', b'1935-05-01', b'935-05', b'01935-05', b'-935-05',
             b'05-1935', b'1935-', b'1935', b'5', b'May', b'May-35', b'1935-O5', b'1935-0x', b'1935-+5', b'+935-05', b'1935--5', b'END', b'End', b'ende', b'-', b'x' * 90]
 
 
@@ -186,7 +205,12 @@ def number_cases():
         for number in (FIRST, LAST):
             for place, name in ((1, 'precipitation'), (2, 'PE')):
                 data, column = worded(number, place, word)
-                yield 'line %d, %s %r' % (number, name, word[:50]), data, number, column + at, words
+                told = words if isinstance(words, bytes) else words[place - 1]
+                yield 'line %d, %s %r' % (number, name, word[:50]), data, number, column + at, told
+    for number in (FIRST, LAST):
+        data, column = worded(number, 2, b'T')
+        yield 'line %d, PE T' % number, data, number, column, no_number(b'T', NO_TRACES)[1]
+        yield 'line %d, T twice' % number, changed(number, LINES[number - 1][:8] + b'T T'), number, 11, no_number(b'T', NO_TRACES)[1]
     for word, at, words in NO_WHOLES:
         for number, place in ((1, 1), (2, 1), (3, 1), (JANUARY, 1), (JANUARY, 5), (JANUARY + 5, 3), (DECEMBER, 5)):
             data, column = worded(number, place, word)
@@ -279,7 +303,7 @@ def order_cases():
     yield 'a capacity twice', inserted(2, LINES[0]), 2, 1, b'"capacity" is not known here; expected: surface THOUSANDTHS'
     yield 'constants in another order', changed(CONSTANTS, b'constants alpha gamma beta delta K'), CONSTANTS, 17, b'"gamma" is not known here; expected: constants alpha beta gamma delta K'
     yield 'a small k', changed(CONSTANTS, b'constants alpha beta gamma delta k'), CONSTANTS, 34, b'"k" is not known here'
-    for unit in (b'mm', b'inch', b'in', b'Inches', b'millimeters', b'millimetre', b'cm', b'hundredths', b'1932-06', b'"'):
+    for unit in (b'mm', b'inch', b'in', b'Inches', b'millimeters', b'millimetre', b'cm', b'hundredths', b'1932-06', b'T', b'"'):
         yield 'months %s' % unit.decode(), changed(MONTHS, b'months ' + unit), MONTHS, 8, b'"' + unit + b'" is no unit; expected: months inches, or months millimetres'
     yield 'two units', changed(MONTHS, b'months inches millimetres'), MONTHS, 15, b'a third word, "millimetres"; expected: months inches, or months millimetres'
     for word in NO_DATES:
@@ -384,7 +408,7 @@ def library_cases():
         for place, name in ((1, b'precipitation'), (2, b'PE')):
             data, column = worded(number, place, b'-')
             yield 'line %d, %s missing' % (number, name.decode()), data, number, column, name + missing
-            for word in (b'100.5', b'-0.01', b'-9.99', b'100.00001', b'9' * 39, b'1' + b'0' * 60):
+            for word in (b'100.5', b'-0.01', b'-0.0003', b'-9.99', b'100.00001', b'9' * 39, b'1' + b'0' * 60):
                 data, column = worded(number, place, word)
                 shown = word if len(word) < 41 else word[:40] + b'..'
                 yield 'line %d, %s %s' % (number, name.decode(), shown.decode()), data, number, column, name + b' ' + shown + bad
@@ -432,15 +456,17 @@ def reckoned(data):
     lines = data.split(b'\n')
     capacity, surface, underlying = [int(text.split(b' ')[1]) for text in lines[:3]]
     constants = [[int(word) for word in text.split(b' ')[1:]] for text in lines[JANUARY - 1:DECEMBER]]
+    unit = lines[MONTHS - 1].split(b' ')[1].decode()
     added, water, anomalies = [], [], []
     for text in lines[FIRST - 1:lines.index(b'end')]:
         when, *readings = text.split(b' ')
         month, fell, z = b'0 0 0', b'- - - - - -', 0
         if readings != [b'-', b'-']:
-            p, pe = [10 * int(word.replace(b'.', b'')) for word in readings]
+            (p, kind), (pe, _) = [source_tables.reading(word.decode(), unit) for word in readings]
             m = source_tables.water(capacity, surface, underlying, p, pe, *constants[int(when[5:]) - 1])
-            month, z = b'%d %d %d' % (p, pe, m['CAFEC']), m['Z']
-            fell = b'%d %d %d %d %d %d' % (p, pe, m['ET'], m['R'], m['Ls'] + m['Lu'], m['RO'])
+            rain = b'T' if kind == source_tables.TRACE else b'%d' % p
+            month, z = b'%s %d %d' % (rain, pe, m['CAFEC']), m['Z']
+            fell = b'%s %d %d %d %d %d' % (rain, pe, m['ET'], m['R'], m['Ls'] + m['Lu'], m['RO'])
             surface, underlying = m['Ss'], m['Su']
         added.append((when, month))
         anomalies.append(z)
@@ -471,19 +497,87 @@ def thin_files(count):
         count['good'] += 1
 
 
+# A word for precipitation, by unit, and what is printed of it: at the ends of what is a trace, and where binary32 ends.
+TRACES = [
+    (b'inches', [(b'T', b'T'), (b'0', b'0'), (b'0.000000', b'0'), (b'-0', b'0'), (b'-0.0', b'0'), (b'0.0001', b'T'), (b'0.0003', b'T'),
+                 (b'0.0004', b'T'), (b'0.0004999', b'T'), (b'0.00049999997', b'T'), (b'0.00049999999', b'T'), (b'0.000499999996', b'1'),
+                 (b'0.0005', b'1'), (b'0.00050', b'1'), (b'0.001', b'1'), (b'0.01', b'10')]),
+    (b'millimetres', [(b'T', b'T'), (b'0', b'0'), (b'-0.0', b'0'), (b'0.0005', b'T'), (b'0.001', b'T'), (b'0.01', b'T'), (b'0.0126', b'T'),
+                      (b'0.0126999998', b'T'), (b'0.0127', b'T'), (b'0.0127003', b'1'), (b'0.0128', b'1'), (b'0.013', b'1'), (b'0.1', b'4')]),
+]
+SMALLEST = [(b'0.' + b'0' * 37 + b'1', b'T'), (b'0.' + b'0' * 44 + b'1', b'T'), (b'0.' + b'0' * 45 + b'8', b'T'), (b'0.' + b'0' * 45 + b'7', b'0'),
+            (b'0.' + b'0' * 60 + b'1', b'0'), (b'-0.' + b'0' * 60 + b'1', b'0'), (b'0.' + b'0' * 2000, b'0')]
+
+
+def without_traces(out):
+    """What is printed, with 0 for each T of precipitation."""
+    return b'\n'.join(line[:8] + b'0' + line[9:] if line[7:10] == b' T ' else line for line in out.split(b'\n'))
+
+
+def rained(unit, words):
+    """The good file with these for the precipitation of its first months, in a unit; their PE is a trace, none and some in turn."""
+    lines = [date(12 * 1932 + 5 + i) + b' ' + word + (b' 0.0003', b' 0', b' 2.52')[i % 3] for i, word in enumerate(words)]
+    return b'\n'.join(LINES[:MONTHS - 1] + [b'months ' + unit] + lines + LINES[FIRST - 1 + len(words):])
+
+
+def traced(places):
+    """The good file with T for the precipitation of these lines."""
+    words = [text.split(b' ') for text in LINES]
+    lines = [b' '.join([one[0], b'T', one[2]]) if number in places else b' '.join(one) for number, one in enumerate(words, 1)]
+    return b''.join(line + b'\n' for line in lines)
+
+
+def trace_files(count):
+    """T, and decimals beside the largest trace and the smallest number, in both units. In a season each is what 0 is."""
+    for unit, words in TRACES:
+        for table in (words, SMALLEST, words[::-1], SMALLEST[::-1]):
+            given, wanted = [list(part) for part in zip(*table)]
+            name, data = 'traces in %s' % unit.decode(), rained(unit, given)
+            out = good(name, (), data)
+            check_months(name, data, out)
+            lines = out.split(b'\n')
+            for at in (1, 1 + 2 * (END - FIRST + 1)):
+                got = [line.split(b' ')[1] for line in lines[at:at + len(wanted)]]
+                if got != wanted:
+                    sys.exit('station: %s: P is %r, and should be %r' % (name, got, wanted))
+            # all but the T is as with 0; in seasons the T too
+            dry = rained(unit, [b'0' if word == b'T' else text for text, word in table])
+            for arguments in WAYS:
+                out = good(name, arguments, data)
+                if arguments == ():
+                    out = without_traces(out)
+                if out != good(name, arguments, dry):
+                    sys.exit('station: %s, arguments %r: a trace comes to something else than 0' % (name, arguments))
+                count['good'] += 1
+    for places in ((FIRST,), (LAST,), (FIRST + 3, FIRST + 4, FIRST + 30), range(FIRST, END), range(FIRST, END, 2), range(FIRST + 1, END, 2)):
+        data = traced(places)
+        name = 'T in lines %r' % (list(places),)
+        out = good(name, (), data)
+        check_months(name, data, out)
+        if out.count(b' T ') != 2 * len(places):
+            sys.exit('station: %s: %d of them are printed' % (name, out.count(b' T ')))
+        for arguments in WAYS[1:]:
+            if rows(good(name, arguments, data)) != without_traces(rows(out)):
+                sys.exit('station: %s, arguments %r: the rows are not those of single months' % (name, arguments))
+            count['good'] += 1
+
+
 def z_files(count):
-    """Months that had no water, among others, first and last; and with these programs, too, the good file."""
+    """Months that had no water, among others, first and last, and traces among them; and with these programs, too, the good
+    file."""
     if not all(WITH_Z):
         return
     dashes = [text.split(b' ')[0] + b' - -' for text in LINES]
     for places in ((), (FIRST,), (LAST,), (FIRST + 1, FIRST + 2, FIRST + 8), range(FIRST, END), range(FIRST, END, 2), range(FIRST + 1, END, 2)):
-        data = b''.join((dashes if number in places else LINES)[number - 1] + b'\n' for number in range(1, END + 1))
-        name = 'a Z of 0 in lines %r' % (list(places),)
-        out, err, status = agree(name, (), data, programs=WITH_Z)
-        if err or status:
-            sys.exit('station: %s: status %d, %r' % (name, status, err))
-        check_months(name, data, out)
-        count['good'] += 1
+        for traces in ((), range(FIRST, END, 3)):
+            lines = traced(traces).split(b'\n')
+            data = b''.join((dashes if number in places else lines)[number - 1] + b'\n' for number in range(1, END + 1))
+            name = 'a Z of 0 in lines %r, T in lines %r' % (list(places), list(traces))
+            out, err, status = agree(name, (), data, programs=WITH_Z)
+            if err or status:
+                sys.exit('station: %s: status %d, %r' % (name, status, err))
+            check_months(name, data, out)
+            count['good'] += 1
 
 
 def same_cases():
@@ -573,6 +667,7 @@ def good_files(count):
                 sys.exit('station: %s, arguments %r: the rows are not those of single months' % (name, arguments))
             count['good'] += 1
     thin_files(count)
+    trace_files(count)
     z_files(count)
     for pieces in (7, 200):
         if good('the sample in pieces', (), SAMPLE, pieces) != singly[()]:
@@ -611,7 +706,8 @@ def arguments_cases(count):
             count['arguments'] += 1
     for data in (b'', GOOD):
         out, err, status = agree('help', ('--help',), data)
-        if err or status or not all(words in out for words in (b'[MONTHS] <FILE', b'samples/western-kansas-station.txt', b'README.md', b'1 to %d' % MOST, b'Status: 0 ')):
+        tables = (SINGLY[0], ROWS[0], WATER[0], SEASONS[0])
+        if err or status or not all(words in out for words in (b'[MONTHS] <FILE', b'samples/western-kansas-station.txt', b'README.md', b'1 to %d' % MOST, b'Status: 0 ', b'T for a month', *tables)):
             sys.exit('station: --help: status %d, %r, %r' % (status, out, err))
         count['arguments'] += 1
 

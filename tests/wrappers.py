@@ -43,7 +43,8 @@ def with_line(number, text):
 STORY = [
     (b'5.56,4.80', b'1932-06 5.56,4.80', FIRST, b'column 13: a comma in "5.56,4.80"', b'column 2: a point'),
     (b'abc', b'1932-06 abc 4.80', FIRST, b'column 9: "abc" is no number', b'column 1: a letter'),
-    (b'T', b'1932-06 T 4.80', FIRST, b'column 9: "T" is no number; a trace of rain is written 0', b'column 1: a letter'),
+    (b't', b'1932-06 t 4.80', FIRST, b'column 9: "t" is no number; a trace of rain is written T', b'column 1: a letter'),
+    (b'T', b'1932-06 5.56 T', FIRST, b'column 14: "T" is no number; a trace is of rain; PE is worked out and not observed: write 0', b'column 1: a letter'),
     (b'1,53', b'1932-06 1,53 4.80', FIRST, b'column 10: a comma in "1,53"', b'column 2: a comma'),
     (b'62mm', b'1932-06 62mm 4.80', FIRST, b'column 11: something after the number in "62mm"', b'column 3: a letter'),
     (b'4.65', b'1935-05 4.65', LAST, b'column 13: the line ends after 2 words; expected: 1935-05 PRECIPITATION PE', b'column 2: a point'),
@@ -148,7 +149,8 @@ CSVS = [
 THEN = [
     (b'1932-06,,4.80', b'column 9: precipitation is missing (8: reading missing)'),
     (b'1932-06,5.56,', b'column 14: PE is missing (8: reading missing)'),
-    (b'1932-06,T,4.80', b'column 9: "T" is no number; a trace of rain is written 0'),
+    (b'1932-06,t,4.80', b'column 9: "t" is no number; a trace of rain is written T'),
+    (b'1932-06,5.56,T', b'column 14: "T" is no number; a trace is of rain'),
     (b'1932-06,abc,4.80', b'column 9: "abc" is no number'),
     (b'1932-06,62mm,4.80', b'column 11: something after the number in "62mm"'),
     (b'06/1932,5.56,4.80', b'column 1: "06/1932" is no month'),
@@ -194,6 +196,26 @@ def from_csv(singly):
             sys.exit('wrappers: csv leaves %r' % left())
 
 
+def traces():
+    """A T for rain, from a CSV to the sheet: T as P of its month, in both tables, and 0 in seasons, with which host/run agrees."""
+    with tempfile.TemporaryDirectory() as folder:
+        for name, cell in (('rain.csv', b'T'), ('none.csv', b'0')):
+            with open(os.path.join(folder, name), 'wb') as f:
+                f.write(CSV.replace(b'1932-07,1.78,', b'1932-07,' + cell + b','))
+            asked('csv of %s' % name, ran(['csv', os.path.join(TOP, 'samples', 'western-kansas-station.txt'), name, name + '.txt'], cwd=folder), 0, b'', None)
+        with open(os.path.join(folder, 'rain.csv.txt'), 'rb') as f:
+            if b'\n1932-07 T 7.04\n' not in f.read():
+                sys.exit('wrappers: csv does not write a T as it stands')
+        dry = ran(['station', 'none.csv.txt'], cwd=folder)[1]
+        told = dry.replace(b'\n1932-07 0 7040 ', b'\n1932-07 T 7040 ')
+        if dry.count(b'\n1932-07 0 7040 ') != 2:
+            sys.exit('wrappers: station: no rain is not printed 0 in two tables')
+        asked('station, a trace', ran(['station', 'rain.csv.txt'], cwd=folder), 0, told, None)
+        seasons = ran(['station', '--season', '6', 'none.csv.txt'], cwd=folder)[1]
+        asked('station, a trace in a season', ran(['station', '--season', '6', 'rain.csv.txt'], cwd=folder), 0, seasons, None)
+        asked('run, a trace', ran(['run', 'rain.csv.txt'], cwd=folder), 0, told + seasons.split(b'month X1 ')[0], None)
+
+
 HELP = [['palmer'], ['division'], ['station'], ['run'], ['start'], ['csv']]
 WRONG = [
     (['palmer', '-x'], b'there is no option -x'),
@@ -230,8 +252,12 @@ def arguments():
             status, out, err = ran(words + [option])
             if status != 0 or words[0].encode() not in out.split(b'\n')[0] or err:
                 sys.exit('wrappers: %s %s: %r' % (words[0], option, (status, out, err)))
-    if b'MONTHS at a time (1 to 12000)' not in ran(['station', '--help'])[1]:
+    help_text = ran(['station', '--help'])[1]
+    if b'MONTHS at a time (1 to 12000)' not in help_text:
         sys.exit('wrappers: station --help does not say how many months a call takes')
+    for heading in (b'month P PE CAFEC Z percent index modified settled', b'season added settled index modified', b'month X1 X2 X3 index modified mark', b'month P PE ET R L RO surface underlying', b"T for a month's precipitation"):
+        if heading not in help_text:
+            sys.exit('wrappers: station --help does not have %r' % heading)
     for words, said in WRONG:
         asked(' '.join(words), ran(words), 2, b'', said)
     with open(os.path.join(TOP, 'samples', 'western-kansas-station.txt'), 'rb') as f:
@@ -288,6 +314,7 @@ def main():
     singly = good()
     folders(singly)
     from_csv(singly)
+    traces()
     stories()
     arguments()
     unreadable()

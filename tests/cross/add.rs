@@ -50,7 +50,7 @@ impl Add {
     }
 
     /// Its binary32 numbers' bits, which tell NaNs apart.
-    fn measures(&self) -> Vec<String> {
+    pub fn measures(&self) -> Vec<String> {
         let measures = match self {
             Add::Water(p, pe) => vec![p.measure, pe.measure],
             Add::Inches(month) => vec![month.p, month.pe],
@@ -66,7 +66,7 @@ impl Check {
         let reference = what.reference(run, &mut lists.reference.lend());
         if reference.number == 0 {
             lists.expect_months(run, 1, reference.settled);
-            self.account(what.call(), run, &reference);
+            self.account(&what, run, &reference);
         }
         let refused_changed = reference.number != 0 && reference.run != *run;
         if library != reference || refused_changed || !lists.agree_after(run) {

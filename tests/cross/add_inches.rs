@@ -7,11 +7,15 @@ use crate::lists::{Fill, Lists};
 use crate::random::Random;
 use crate::read::edge_patterns;
 use crate::runs::any_good_run;
+use crate::trace::no_inches;
 
-/// Two numbers in whole thousandths of an inch, up to the ends given.
+/// Two numbers in whole thousandths of an inch, up to the ends given; now and then one of no water.
 pub fn pick_inches(random: &mut Random, most_p: i64, most_pe: i64) -> MonthInches {
-    let (p, pe) = (random.within(0, most_p), random.within(0, most_pe));
-    MonthInches { p: p as f32 / 1000.0, pe: pe as f32 / 1000.0 }
+    let [p, pe] = [most_p, most_pe].map(|most| match random.below(12) {
+        0 => no_inches(random),
+        _ => random.within(0, most) as f32 / 1000.0,
+    });
+    MonthInches { p, pe }
 }
 
 /// Every pair of edges, and each edge beside any good number.

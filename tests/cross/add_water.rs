@@ -8,9 +8,13 @@ use crate::random::Random;
 use crate::read::edge_readings;
 use crate::reference::layers;
 use crate::runs::{any_good_run, MOST};
+use crate::trace::no_water;
 
-/// A reading of a month's water, in one of the three units.
+/// A reading of a month's water, in one of the three units; now and then one of no water.
 pub fn pick_reading(random: &mut Random, most: i64) -> Reading {
+    if random.one_in(12) {
+        return no_water(random);
+    }
     let whole = random.within(0, most) as i32;
     let inches = whole as f32 / 1000.0;
     match random.below(3) {

@@ -1,10 +1,12 @@
 //! The comparison: what was tried, how often each answer was given, and what is printed of a difference.
 
+use crate::add::Add;
 use crate::card::{Added, Run, Values};
 use crate::mirror::Turned;
 use crate::modified::{self, Mixed};
 use crate::random::Random;
 use crate::reference::{self, Decides};
+use crate::trace::{self, Told};
 use crate::water::Kept;
 use std::fmt::Debug;
 
@@ -65,6 +67,7 @@ pub struct Check {
     pub turned: Turned,
     pub kept: Kept,
     pub mixed: Mixed,
+    pub told: Told,
 }
 
 impl Check {
@@ -79,6 +82,7 @@ impl Check {
             turned: Turned::default(),
             kept: Kept::default(),
             mixed: Mixed::default(),
+            told: Told::default(),
         }
     }
 
@@ -95,8 +99,9 @@ impl Check {
         self.kinds[self.kind].1 += 1;
     }
 
-    pub fn account(&mut self, call: Call, run: &Run, added: &Added) {
-        modified::hold(&mut self.mixed, call, run, added);
+    pub fn account(&mut self, what: &Add, run: &Run, added: &Added) {
+        modified::hold(&mut self.mixed, what.call(), run, added);
+        trace::hold(&mut self.told, what, run, added);
         let step = reference::spell_month(&run.values, added.figures.z);
         let b = &mut self.branches;
         b.courses[step.course as usize] += 1;
@@ -149,10 +154,11 @@ impl Check {
         );
         let k = &self.kept;
         println!(
-            "records of {} months of water, drying {}, filling {}, running off {}, and of {} Z; with a V {}",
-            k.water, k.dried, k.filled, k.ran_off, k.z, k.v
+            "records of {} months of water, drying {}, filling {}, running off {}, of a trace {}, and of {} Z; with a V {}",
+            k.water, k.dried, k.filled, k.ran_off, k.traces, k.z, k.v
         );
         self.mixed.print();
+        self.told.print();
         println!();
         let cases: u64 = self.kinds.iter().map(|kind| kind.1).sum();
         println!("cross-check: {cases} cases, no difference");

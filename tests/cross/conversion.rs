@@ -3,7 +3,8 @@
 //!     (2 n - 1) of <= 2 per x < (2 n + 1) of,
 //! the whole number nearest to x per / of, a half going up. In f64 nothing of this is rounded: an f32 is an f64 as
 //! it stands, its 24 binary digits times the 14 of 2 per are at most 38 of 53, the other side is a whole number
-//! below 2^40 for any n of 32 binary digits, and 2 per x is 0 or far above the least f64.
+//! below 2^40 for any n of 32 binary digits, and 2 per x is 0 or far above the least f64. Of an x above zero an answer of 0
+//! is a trace.
 #![allow(dead_code)]
 
 use crate::card::{self, Answer, Reading};
@@ -12,7 +13,7 @@ use crate::card::{self, Answer, Reading};
 pub const MOST_WATER: u32 = 100_000;
 
 /// "NaN, infinities, negatives and anything above the range are refused."
-const REFUSED: Answer = Answer { number: 9, water: 0 };
+const REFUSED: Answer = Answer { number: 9, kind: card::NONE, water: 0 };
 
 /// A unit of readings: x of it are x per / of thousandths of an inch.
 pub struct Unit {
@@ -27,6 +28,15 @@ pub const UNITS: [Unit; 2] = [
     Unit { name: "inches", kind: card::INCHES, top: 100.0, per: 1000.0, of: 1 },
     Unit { name: "millimetres", kind: card::MILLIMETRES, top: 2540.0, per: 5000.0, of: 127 },
 ];
+
+/// What a reading is told as where it is not refused. "A whole-number reading of 0 is none."
+pub fn told(reading: &Reading) -> u8 {
+    match UNITS.iter().find(|unit| unit.kind == reading.kind) {
+        Some(unit) => unit.told(reading.measure),
+        None if reading.whole == 0 => card::NONE,
+        None => card::MEASURED,
+    }
+}
 
 impl Unit {
     pub fn reading(&self, x: f32) -> Reading {
@@ -44,10 +54,23 @@ impl Unit {
         halfway <= 2.0 * self.per * f64::from(x)
     }
 
+    /// "None, trace (above zero, nearest thousandth 0), and measured", of an x in the range. -0 equals 0, and neither is
+    /// above it.
+    pub fn told(&self, x: f32) -> u8 {
+        if self.reaches(x, 1) {
+            card::MEASURED
+        } else if f64::from(x) > 0.0 {
+            card::TRACE
+        } else {
+            card::NONE
+        }
+    }
+
     /// Whether this is the right answer to x.
     pub fn allows(&self, x: f32, answer: Answer) -> bool {
         if self.holds(x) {
-            answer.number == 0 && self.reaches(x, answer.water) && !self.reaches(x, answer.water + 1)
+            let nearest = self.reaches(x, answer.water) && !self.reaches(x, answer.water + 1);
+            answer.number == 0 && nearest && answer.kind == self.told(x)
         } else {
             answer == REFUSED
         }
@@ -57,7 +80,7 @@ impl Unit {
     pub fn answer(&self, x: f32) -> Answer {
         if self.holds(x) {
             let water = (1..=MOST_WATER).rev().find(|&n| self.reaches(x, n)).unwrap_or(0);
-            Answer { number: 0, water }
+            Answer { number: 0, kind: self.told(x), water }
         } else {
             REFUSED
         }

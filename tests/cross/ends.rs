@@ -21,7 +21,7 @@ pub fn ends(c: &mut Check) {
 }
 
 /// A good run of so many months, and columns of any content in which it stands where the last record ends.
-fn standing(c: &mut Check, months: usize, length: usize) -> (Run, Lists) {
+pub fn standing(c: &mut Check, months: usize, length: usize) -> (Run, Lists) {
     let mut run = any_good_run(&mut c.random, 0);
     (run.months, run.opens) = (months as u32, c.random.below(months as u64 + 1) as u32);
     let mut lists = Lists::new(&mut c.random, [length; 7], Fill::AnyBits);
@@ -30,7 +30,7 @@ fn standing(c: &mut Check, months: usize, length: usize) -> (Run, Lists) {
 }
 
 /// The months and the length of columns that are tried: the first, the second and the last place.
-const PLACES: [(usize, usize); 9] = [
+pub const PLACES: [(usize, usize); 9] = [
     (1, 1),
     (1, 2),
     (1, 9),
@@ -43,7 +43,7 @@ const PLACES: [(usize, usize); 9] = [
 ];
 
 /// Every call on a run that is good but for its last record, or altogether.
-fn each_call(c: &mut Check, run: &Run, lists: &mut Lists, refused: bool) {
+pub fn each_call(c: &mut Check, run: &Run, lists: &mut Lists, refused: bool) {
     let months = run.months as usize;
     let or_seven = |number| if refused { 7 } else { number };
     let added = or_seven(if months == lists.lengths()[0] { 10 } else { 0 });

@@ -1,6 +1,7 @@
-//! Calls the library on every binary32 pattern, as inches and as millimetres, and holds each answer to the exact
-//! computation: the range from 0 up, then all other patterns. Each answer from 0 to 100,000 must occur. All
-//! processors are used. The first difference, by unit and pattern, is printed, and the status is then 1.
+//! Calls the library on every binary32 pattern, as inches and as millimetres, and holds each answer and its kind to the
+//! exact computation: the range from 0 up, then all other patterns. Each answer from 0 to 100,000 must occur. It prints how
+//! many patterns are none, a trace and measured, and how many are refused. All processors are used. The first difference,
+//! by unit and pattern, is printed, and the status is then 1.
 
 #[path = "../../host/card.rs"]
 mod card;
@@ -28,20 +29,22 @@ fn main() {
     if let Some(wrong) = wrong.min_by_key(|wrong| (wrong.unit, wrong.bits)) {
         differ(wrong);
     }
-    println!("{:<14}{:>12}{:>12}{:>12}", "unit", "in range", "beyond it", "answers");
+    let heads = ["in range", "none", "trace", "measured", "refused", "answers"];
+    println!("{:<14}{}", "unit", heads.map(|head| format!("{head:>12}")).concat());
     let mut cases = 0;
     for (place, unit) in UNITS.iter().enumerate() {
         let tallies: Vec<&Tally> = shares.iter().map(|share| &share.tallies[place]).collect();
         cases += print(unit, &tallies);
     }
-    println!("-0 is counted as in range");
+    println!("-0 is counted as in range, as none");
     println!("every reading: {cases} cases on {threads} threads, no difference");
 }
 
 /// What a unit's answers came to.
 struct Tally {
-    in_range: u64,
-    beyond: u64,
+    /// Those in the range, by their kind.
+    kinds: [u64; 3],
+    refused: u64,
     /// Whether each answer occurred.
     seen: Vec<bool>,
 }
@@ -62,7 +65,7 @@ struct Share {
 /// Takes pieces until none are left, or one has a difference. They are taken in order, and each is tried to its
 /// end or its first difference, so the least difference of all threads is the first there is.
 fn share(next: &AtomicU64) -> Share {
-    let none = |_| Tally { in_range: 0, beyond: 0, seen: vec![false; MOST_WATER as usize + 1] };
+    let none = |_| Tally { kinds: [0; 3], refused: 0, seen: vec![false; MOST_WATER as usize + 1] };
     let mut share = Share { tallies: [0; UNITS.len()].map(none), wrong: None };
     while share.wrong.is_none() {
         let piece = next.fetch_add(1, Ordering::Relaxed);
@@ -86,10 +89,10 @@ fn try_piece(unit: usize, patterns: Range<u64>, tally: &mut Tally) -> Result<(),
             return Err(Wrong { unit, bits, answer });
         }
         if answer.number == 0 {
-            tally.in_range += 1;
+            tally.kinds[answer.kind as usize] += 1;
             tally.seen[answer.water as usize] = true;
         } else {
-            tally.beyond += 1;
+            tally.refused += 1;
         }
     }
     Ok(())
@@ -107,14 +110,16 @@ fn differ(wrong: &Wrong) -> ! {
 
 /// Prints a unit's line, and hands back how many of its patterns were tried.
 fn print(unit: &Unit, tallies: &[&Tally]) -> u64 {
-    let in_range: u64 = tallies.iter().map(|tally| tally.in_range).sum();
-    let beyond: u64 = tallies.iter().map(|tally| tally.beyond).sum();
+    let [none, trace, measured] = [0, 1, 2].map(|kind| tallies.iter().map(|tally| tally.kinds[kind]).sum::<u64>());
+    let refused: u64 = tallies.iter().map(|tally| tally.refused).sum();
+    let in_range = none + trace + measured;
     let occurs = |&n: &u32| tallies.iter().any(|tally| tally.seen[n as usize]);
     let answers = (0..=MOST_WATER).filter(occurs).count();
-    println!("{:<14}{in_range:>12}{beyond:>12}{answers:>12}", unit.name);
+    let counts = [in_range, none, trace, measured, refused, answers as u64];
+    println!("{:<14}{}", unit.name, counts.map(|count| format!("{count:>12}")).concat());
     if let Some(n) = (0..=MOST_WATER).find(|n| !occurs(n)) {
         println!("difference at {}: {n} is never answered", unit.name);
         std::process::exit(1);
     }
-    in_range + beyond
+    in_range + refused
 }

@@ -1,12 +1,13 @@
-"""Faults put into the reference or the exact computations, one at a time; the cross-check must end with a difference.
-Run by tests/cross/faults. With --fit it only sees that each fault can still be put in, which tests/cross/run asks for."""
+"""Faults put into the reference, what its refusals come to or the exact computations, one at a time; the cross-check must end
+with a difference. Run by tests/cross/faults. With --fit it only sees that each fault can still be put in, which tests/cross/run
+asks for."""
 import os
 import shutil
 import subprocess
 import sys
 
 ROOM = 'target/host/faults'
-FILES = ['tests/cross/reference.rs', 'tests/cross/conversion.rs', 'tests/cross/modified.rs']
+FILES = ['tests/cross/' + name for name in ('reference.rs', 'read.rs', 'add.rs', 'conversion.rs', 'modified.rs')]
 
 # a name, and what is changed to what, and maybe a second change, in the file that has it
 FAULTS = [
@@ -49,7 +50,7 @@ FAULTS = [
     ('the calendar stands still', '    run.calendar = run.calendar % 12 + 1;\n', ''),
     ('a whole series settled to the end', 'mark[first..].fill(OPEN);', 'mark[first..].fill(SETTLED);'),
     ('a season goes on after a refused month', '        let p = listed(p)?;\n', '        let Ok(p) = listed(p) else { continue };\n'),
-    ('a season stops one month late', '        let pe = listed(pe)?;\n        let month = add_amounts(run, p, pe, k)?;\n', '        let month = add_amounts(run, p, listed(pe).unwrap_or(0), k)?;\n        listed(pe)?;\n'),
+    ('a season stops one month late', '        let pe = listed(pe)?;\n        let month = add_amounts(run, p, pe, k)?;\n', '        let month = add_amounts(run, p, listed(pe).unwrap_or(whole(0)), k)?;\n        listed(pe)?;\n'),
     ('a refused season hands back the run given', '    season.refused = add_months(run, p, pe, k, &mut season).err();\n', '    let given = *run;\n    season.refused = add_months(run, p, pe, k, &mut season).err();\n    if season.refused.is_some() {\n        *run = given;\n    }\n'),
     ('a refused season has no figures', 'add_months(run, p, pe, k, &mut season).err();\n', 'add_months(run, p, pe, k, &mut season).err();\n    if season.refused.is_some() {\n        season.figures = Figures::default();\n    }\n'),
     ("a season's first figures kept", '        season.figures = month.figures;\n', '        if season.added == 1 {\n            season.figures = month.figures;\n        }\n'),
@@ -90,7 +91,7 @@ FAULTS = [
     ("V left as it was", '    k.v[month] = v;\n', ''),
     ('V cut to 32 binary digits', 'k.v[month] = v;', 'k.v[month] = i64::from(v as i32);'),
     ('V written a place too far', 'k.v[month] = v;', 'k.v[(month + 1).min(k.x1.len() - 1)] = v;'),
-    ('a refused month of water writes its record', '    if run.months as usize == k.x1.len() {\n        return Err(Refusal::Full);\n    }\n    let first', '    if run.months as usize == k.x1.len() {\n        k.records[run.months as usize - 1].p = p as i32;\n        return Err(Refusal::Full);\n    }\n    let first'),
+    ('a refused month of water writes its record', '    if run.months as usize == k.x1.len() {\n        return Err(Refusal::Full);\n    }\n    let first', '    if run.months as usize == k.x1.len() {\n        k.records[run.months as usize - 1].p = p.water as i32;\n        return Err(Refusal::Full);\n    }\n    let first'),
     ('a refused Z writes its record', '        return Err(Refusal::BadZ);\n    }\n    if run.months as usize == length', '        if let Some(record) = k.records.get_mut(run.months as usize) {\n            record.z = z;\n        }\n        return Err(Refusal::BadZ);\n    }\n    if run.months as usize == length'),
     ("a settled month's record written again", '    k.mark[first..month].fill(SETTLED);\n', '    k.mark[first..month].fill(SETTLED);\n    k.records[first..month].iter_mut().for_each(|record| record.water = NO_WATER);\n'),
     ("a season's months without their records", '    for (&p, &pe) in p.iter().zip(pe) {\n', '    for (&p, &pe) in p.iter().zip(pe) {\n        let kept = k.records.to_vec();\n', '        season.figures = month.figures;\n', '        season.figures = month.figures;\n        k.records.copy_from_slice(&kept);\n'),
@@ -150,12 +151,63 @@ FAULTS = [
     ('an added Z without its modified index', '&run.soil, NO_WATER);\n    Ok(add(run, water, z, k))\n', '&run.soil, NO_WATER);\n    let added = add(run, water, z, k);\n    k.records[run.months as usize - 1].modified = 0;\n    Ok(added)\n'),
     ("a season's months without their modified indexes", '        season.figures = month.figures;\n', '        season.figures = month.figures;\n        k.records[run.months as usize - 1].modified = 0;\n'),
     ("a row with Palmer's index twice", 'month: k.records[row],', 'month: Record { modified: k.index[row], ..k.records[row] },'),
+    ('a trace told as none', '(0, _) => card::TRACE,', '(0, _) => card::NONE,'),
+    ('a trace told as measured', '(0, _) => card::TRACE,', '(0, _) => card::MEASURED,'),
+    ('measured rain told as a trace', '        _ => card::MEASURED,\n', '        _ => card::TRACE,\n'),
+    ('zero told as a trace', '(0, 0) => card::NONE,', '(0, 0) => card::TRACE,'),
+    ('negative zero told as a trace', 'return Ok((0, 149));', 'return Ok((1, 149));'),
+    ('positive zero told as a trace', '0 => Ok((fraction, 149)),', '0 => Ok((fraction.max(1), 149)),'),
+    ('subnormal numbers told as none', '0 => Ok((fraction, 149)),', '0 => Ok((0, 149)),'),
+    ('subnormal numbers refused', '0 => Ok((fraction, 149)),', '0 if fraction > 0 => Err(Refusal::NotAcceptable),\n        0 => Ok((fraction, 149)),'),
+    ('the smallest inches told as none', '2^34, so with more halvings than 35 the answer is 0.\n    if halvings > 35 {\n        return Ok(converted(0, fraction));', '2^34, so with more halvings than 35 the answer is 0.\n    if halvings > 35 {\n        return Ok(converted(0, 0));'),
+    ('the smallest millimetres told as none', '2^37, so with more halvings than 35 the answer is 0.\n    if halvings > 35 {\n        return Ok(converted(0, fraction));', '2^37, so with more halvings than 35 the answer is 0.\n    if halvings > 35 {\n        return Ok(converted(0, 0));'),
+    ('the largest trace in inches told as none', '>> halvings;\n    Ok(converted(water as u32, fraction))', '>> halvings;\n    Ok(converted(water as u32, if x.to_bits() == 0x3a03_126e { 0 } else { fraction }))'),
+    ('the least measured inches told as a trace', '>> halvings;\n    Ok(converted(water as u32, fraction))', '>> halvings;\n    Ok(Amount { kind: if x.to_bits() <= 0x3a03_126f { card::TRACE } else { card::MEASURED }, water: water as u32 })'),
+    ('the largest trace in millimetres told as none', '/ divisor;\n    Ok(converted(water as u32, fraction))', '/ divisor;\n    Ok(converted(water as u32, if x.to_bits() == 0x3c50_13a9 { 0 } else { fraction }))'),
+    ('the least measured millimetres told as a trace', '/ divisor;\n    Ok(converted(water as u32, fraction))', '/ divisor;\n    Ok(Amount { kind: if x.to_bits() <= 0x3c50_13aa { card::TRACE } else { card::MEASURED }, water: water as u32 })'),
+    ('a trace in inches told as none', 'card::INCHES => inches(reading.measure),', 'card::INCHES => inches(reading.measure).map(|told| whole(told.water as i32)),'),
+    ('a trace in millimetres told as none', 'card::MILLIMETRES => millimetres(reading.measure),', 'card::MILLIMETRES => millimetres(reading.measure).map(|told| whole(told.water as i32)),'),
+    ('a whole 0 told as a trace', 'if thousandths == 0 { card::NONE }', 'if thousandths == 0 { card::TRACE }'),
+    ('a whole 0 told as measured', 'kind: if thousandths == 0 { card::NONE } else { card::MEASURED }', 'kind: card::MEASURED'),
+    ('a whole 1 told as none', 'if thousandths == 0 { card::NONE }', 'if thousandths <= 1 { card::NONE }'),
+    ('a refused reading told as a trace', 'Answer { number: refusal as u8, kind: card::NONE, water: 0 }', 'Answer { number: refusal as u8, kind: card::TRACE, water: 0 }'),
+    ('a refused month with a kind', 'settled: 0, figures: Figures::default(), run }', 'settled: 0, figures: Figures { water: Water { kinds: MonthKinds { p: card::TRACE, pe: 0 }, ..Water::default() }, ..Figures::default() }, run }', 'use crate::card::{self, Added, Columns, Figures, MonthInches, Reading, Run, Values};', 'use crate::card::{self, Added, Columns, Figures, MonthInches, MonthKinds, Reading, Run, Values, Water};'),
+    ('a trace that adds a thousandth', '    Amount { water, kind }\n', '    Amount { water: water.max(u32::from(kind == card::TRACE)), kind }\n'),
+    ('a trace of PE that takes a thousandth', '(p.water, pe.water);', '(p.water, pe.water.max(u32::from(pe.kind == card::TRACE)));'),
+    ("PE's kind for precipitation's", '{ p: p.kind, pe: pe.kind }', '{ p: pe.kind, pe: pe.kind }'),
+    ("precipitation's kind for PE's", '{ p: p.kind, pe: pe.kind }', '{ p: p.kind, pe: p.kind }'),
+    ('a PE that is never a trace', '{ p: p.kind, pe: pe.kind }', '{ p: p.kind, pe: if pe.kind == card::TRACE { card::NONE } else { pe.kind } }'),
+    ('figures without the kinds', 'kinds, ..Water::default() };', '..Water::default() };'),
+    ("a trace told as none in the first of two inches", '    let p = inches(month.p)?;\n', '    let p = whole(inches(month.p)?.water as i32);\n'),
+    ("a trace told as none in the second of two inches", '    let pe = inches(month.pe)?;\n', '    let pe = whole(inches(month.pe)?.water as i32);\n'),
+    ("PE's kind kept for precipitation's", 'kind: i32::from(w.kinds.p),', 'kind: i32::from(w.kinds.pe),'),
+    ('a record without its kind', 'kind: i32::from(w.kinds.p),', 'kind: 0,'),
+    ('a record whose kind goes by its P', 'kind: i32::from(w.kinds.p),', 'kind: 2 * i32::from(w.p > 0),'),
+    ('the kind written a place too far', '    k.records[run.months as usize] = record_of(&water, z, start, &run.soil, WATER);\n', '    k.records[run.months as usize] = record_of(&water, z, start, &run.soil, WATER);\n    let next = (run.months as usize + 1).min(k.x1.len() - 1);\n    k.records[next].kind = i32::from(water.kinds.p);\n'),
+    ('an added Z told as measured', '(Water::default(), [run.soil', '(Water { kinds: MonthKinds { p: card::MEASURED, pe: card::MEASURED }, ..Water::default() }, [run.soil'),
+    ('an added Z told as a trace', '(Water::default(), [run.soil', '(Water { kinds: MonthKinds { p: card::TRACE, pe: card::NONE }, ..Water::default() }, [run.soil'),
+    ('an added Z with the kind of the month before', 'record_of(&water, z, carried, &run.soil, NO_WATER);', 'Record { kind: k.records[(run.months as usize).saturating_sub(1)].kind, ..record_of(&water, z, carried, &run.soil, NO_WATER) };'),
+    ('an added Z leaves the kind that stood there', 'record_of(&water, z, carried, &run.soil, NO_WATER);', 'Record { kind: k.records[run.months as usize].kind, ..record_of(&water, z, carried, &run.soil, NO_WATER) };'),
+    ("a season's 0 told as a trace", '        0..=100_000 => Ok(whole(reading)),\n', '        0 => Ok(Amount { water: 0, kind: card::TRACE }),\n        0..=100_000 => Ok(whole(reading)),\n'),
+    ("a season's figures without their kinds", '        season.figures = month.figures;\n', '        season.figures = month.figures;\n        season.figures.water.kinds = MonthKinds::default();\n'),
+    ("a season's figures with its first month's kinds", '        season.figures = month.figures;\n', '        let kinds = if season.added > 1 { season.figures } else { month.figures }.water.kinds;\n        season.figures = month.figures;\n        season.figures.water.kinds = kinds;\n'),
+    ("a season's months without their kinds", '        season.figures = month.figures;\n', '        season.figures = month.figures;\n        k.records[run.months as usize - 1].kind = 0;\n'),
+    ("a settled month's kind written again", '    k.mark[first..month].fill(SETTLED);\n', '    k.mark[first..month].fill(SETTLED);\n    k.records[first..month].iter_mut().for_each(|record| record.kind = 2 * i32::from(record.p > 0));\n'),
+    ('the kind of the last record asked', 'last.surface as u32 == run.soil.surface && last.underlying', '(0..=2).contains(&last.kind) && last.surface as u32 == run.soil.surface && last.underlying'),
+    ('a row without its kind', 'month: k.records[row],', 'month: Record { kind: 0, ..k.records[row] },'),
+    ('a row whose kind goes by its P', 'month: k.records[row],', 'month: Record { kind: 2 * i32::from(k.records[row].p > 0), ..k.records[row] },'),
+    ('a row whose kind is cut to 8 binary digits', 'month: k.records[row],', 'month: Record { kind: i32::from(k.records[row].kind as u8), ..k.records[row] },'),
     ('a half of the mixture in 128 bits toward zero', '((2 * n.abs() + d) / (2 * d))', '((2 * n.abs() + d - 1) / (2 * d))'),
     ('the mixture in 128 bits by the V before', '((q - 1000 * v) * x3 + 1000 * v * x1, q)', '((q - 1000 * last_v) * x3 + 1000 * last_v * x1, q)'),
     ('a tie by X1 in 128 bits', 'new.x1.abs() > new.x2.abs()', 'new.x1.abs() >= new.x2.abs()'),
     ('exact halves down', 'halfway <= 2.0', 'halfway < 2.0'),
     ('an exact 126 for 127', 'of: 127 }', 'of: 126 }'),
     ("the range's top left out of the exact one", '(0.0..=self.top)', '(0.0..self.top)'),
+    ('an exact zero told as a trace', 'f64::from(x) > 0.0', 'f64::from(x) >= 0.0'),
+    ('exact subnormal numbers told as none', 'f64::from(x) > 0.0', 'x >= f32::MIN_POSITIVE'),
+    ('an exact thousandth told as a trace', 'self.reaches(x, 1)', 'self.reaches(x, 2)'),
+    ('an exact whole 0 told as measured', '        None if reading.whole == 0 => card::NONE,\n', ''),
+    ('an exact refusal told as a trace', 'number: 9, kind: card::NONE', 'number: 9, kind: card::TRACE'),
 ]
 
 

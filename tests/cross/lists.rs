@@ -52,17 +52,17 @@ fn wide(random: &mut Random, length: usize, fill: Fill) -> Vec<i64> {
 }
 
 /// The numbers of a record.
-pub const NUMBERS: usize = 13;
+pub const NUMBERS: usize = 14;
 
 /// The record of these numbers, in their order.
 pub fn record(numbers: [i32; NUMBERS]) -> Record {
-    let [z, p, pe, et, r, l, ro, ss, su, surface, underlying, water, modified] = numbers;
-    Record { z, p, pe, et, r, l, ro, ss, su, surface, underlying, water, modified }
+    let [z, p, pe, et, r, l, ro, ss, su, surface, underlying, water, modified, kind] = numbers;
+    Record { z, p, pe, et, r, l, ro, ss, su, surface, underlying, water, modified, kind }
 }
 
 /// All numbers of these records in a row, as they lie in memory: to be compared at one go.
 fn in_a_row(records: &[Record]) -> &[i32] {
-    // A record is thirteen i32 and nothing between them.
+    // A record is fourteen i32 and nothing between them.
     unsafe { std::slice::from_raw_parts(records.as_ptr().cast(), NUMBERS * records.len()) }
 }
 

@@ -1,9 +1,9 @@
 //! Calls the library and the reference on the same inputs and compares everything: every field of the answer, the
 //! run handed back, and every place of every list lent, with some places before and after it that nobody lent; the
 //! records and V of long columns not all of them each time (`Lists::agree_after`). A season is compared with the
-//! library's single adds of its months as well, readings are held to the exact computation, and modified indexes to
-//! one in 128 bits. At the first difference it prints the call, its inputs and the outcomes, and ends with status 1.
-//! An argument multiplies the random cases.
+//! library's single adds of its months as well, readings are held to the exact computation, and so are the kinds of
+//! those that are added, and modified indexes to one in 128 bits. At the first difference it prints the call, its inputs
+//! and the outcomes, and ends with status 1. An argument multiplies the random cases.
 
 mod add;
 mod add_inches;
@@ -28,6 +28,7 @@ mod season;
 mod series;
 mod start;
 mod thin;
+mod trace;
 mod water;
 mod whole_series;
 mod worked;
@@ -49,6 +50,7 @@ fn main() {
     ends::ends(&mut check);
     water::records(&mut check, times);
     modified::modified_indexes(&mut check, times);
+    trace::traces(&mut check, times);
     read::readings(&mut check, times);
     read::readings_exactly(&mut check);
     start::starts(&mut check, times);

@@ -3,24 +3,26 @@
 use crate::card::{self, Answer, Reading};
 use crate::check::{differ, Call, Check};
 use crate::conversion::{Unit, MOST_WATER, UNITS};
-use crate::reference;
+use crate::reference::{self, Amount};
 
 impl Check {
-    pub fn read(&mut self, reading: Reading) {
+    pub fn read(&mut self, reading: Reading) -> Answer {
         let library = card::read(reading);
         let reference = match reference::read(&reading) {
-            Ok(water) => Answer { number: 0, water },
-            Err(refusal) => Answer { number: refusal as u8, water: 0 },
+            Ok(Amount { water, kind }) => Answer { number: 0, kind, water },
+            Err(refusal) => Answer { number: refusal as u8, kind: card::NONE, water: 0 },
         };
         if library != reference {
             let inputs = (reading, format!("{:#010x}", reading.measure.to_bits()));
             differ(Call::Read, &inputs, &library, &reference);
         }
         self.count(Call::Read, reference.number);
+        self.told.alone(&reference);
+        reference
     }
 
     /// A reading of this pattern, held to the exact computation.
-    fn read_exactly(&mut self, unit: &Unit, bits: u32) {
+    pub fn read_exactly(&mut self, unit: &Unit, bits: u32) {
         let x = f32::from_bits(bits);
         let library = card::read(unit.reading(x));
         if !unit.allows(x, library) {
@@ -28,6 +30,7 @@ impl Check {
             differ(Call::Read, &inputs, &library, &unit.answer(x));
         }
         self.count(Call::Read, library.number);
+        self.told.alone(&library);
     }
 }
 

@@ -1,11 +1,13 @@
 //! Document 01 in plain Rust and in its order, with document 02's season in one call (E2), modified index (E4), thin soils
-//! (E5), rows that show the water (E6), longer lists (E9) and refused zero K (E11), written from these two alone, for the
-//! library to be compared with and measured against. The sentences quoted in the comments are the documents'. It shares
-//! the library's data types and nothing else. A call borrows the run and changes it only where it does what it was asked,
-//! a season month by month.
+//! (E5), rows that show the water (E6), trace rain (E7), longer lists (E9) and refused zero K (E11), written from these two
+//! alone, for the library to be compared with and measured against. The sentences quoted in the comments are the documents'.
+//! It shares the library's data types and nothing else. A call borrows the run and changes it only where it does what it was
+//! asked, a season month by month.
 #![allow(dead_code)]
 
-use crate::card::{self, Columns, Figures, MonthInches, Reading, Record, Run, Shown, Soil, Values, Water};
+use crate::card::{
+    self, Columns, Figures, MonthInches, MonthKinds, Reading, Record, Run, Shown, Soil, Values, Water,
+};
 use std::ops::RangeInclusive;
 
 // ---- Quantities --------------------------------------------------------------------------------------------
@@ -59,6 +61,31 @@ pub enum Refusal {
 
 // ---- Readings at the door ----------------------------------------------------------------------------------
 
+/// What a reading says, in thousandths of an inch, and its kind: "none, trace (above zero, nearest thousandth 0), and
+/// measured."
+#[derive(Clone, Copy, Debug, PartialEq, Eq)]
+pub struct Amount {
+    pub water: u32,
+    pub kind: u8,
+}
+
+/// "A whole-number reading of 0 is none."
+#[inline]
+fn whole(thousandths: i32) -> Amount {
+    Amount { water: thousandths as u32, kind: if thousandths == 0 { card::NONE } else { card::MEASURED } }
+}
+
+/// The nearest thousandth of a number with this fraction, which is 0 of no number but 0. "A trace counts as no water."
+#[inline]
+fn converted(water: u32, fraction: u64) -> Amount {
+    let kind = match (water, fraction) {
+        (0, 0) => card::NONE,
+        (0, _) => card::TRACE,
+        _ => card::MEASURED,
+    };
+    Amount { water, kind }
+}
+
 /// A number from 0 to `most` as fraction / 2^halvings. "Negative zero is 0. NaN, infinities, negatives and
 /// anything above the range are refused."
 #[inline]
@@ -81,34 +108,36 @@ fn parts(x: f32, most: f32) -> Result<(u64, u32), Refusal> {
 /// "Inches as an IEEE 754 binary32 number (0 to 100)": "the nearest thousandth of an inch to the exact value of
 /// the number".
 #[inline]
-pub fn inches(x: f32) -> Result<u32, Refusal> {
+pub fn inches(x: f32) -> Result<Amount, Refusal> {
     let (fraction, halvings) = parts(x, 100.0)?;
     // Here 1000 x fraction is below 2^34, so with more halvings than 35 the answer is 0.
     if halvings > 35 {
-        return Ok(0);
+        return Ok(converted(0, fraction));
     }
-    Ok(((1000 * fraction + (1 << (halvings - 1))) >> halvings) as u32)
+    let water = (1000 * fraction + (1 << (halvings - 1))) >> halvings;
+    Ok(converted(water as u32, fraction))
 }
 
 /// "Millimetres as binary32 (0 to 2,540)": "for millimetres that is value x 5000/127".
 #[inline]
-pub fn millimetres(x: f32) -> Result<u32, Refusal> {
+pub fn millimetres(x: f32) -> Result<Amount, Refusal> {
     let (fraction, halvings) = parts(x, 2540.0)?;
     // Here 5000 x fraction is below 2^37, so with more halvings than 35 the answer is 0.
     if halvings > 35 {
-        return Ok(0);
+        return Ok(converted(0, fraction));
     }
     let divisor = 127u64 << halvings;
-    Ok(((5000 * fraction + divisor / 2) / divisor) as u32)
+    let water = (5000 * fraction + divisor / 2) / divisor;
+    Ok(converted(water as u32, fraction))
 }
 
 /// "A reading is one of four: whole thousandths (0 to 100,000)", inches, millimetres, "or missing". Any other
 /// kind is not acceptable.
 #[inline]
-pub fn read(reading: &Reading) -> Result<u32, Refusal> {
+pub fn read(reading: &Reading) -> Result<Amount, Refusal> {
     match reading.kind {
         card::MISSING => Err(Refusal::Missing),
-        card::WHOLE if (0..=100_000).contains(&reading.whole) => Ok(reading.whole as u32),
+        card::WHOLE if (0..=100_000).contains(&reading.whole) => Ok(whole(reading.whole)),
         card::INCHES => inches(reading.measure),
         card::MILLIMETRES => millimetres(reading.measure),
         _ => Err(Refusal::NotAcceptable),
@@ -125,8 +154,11 @@ fn underlying_loss(amount: u32, soil: &Soil) -> u32 {
 
 /// A month of water from the start storages, with the month's five constants: its water figures and its Z. The
 /// storages become those at its end.
-fn water_month(soil: &mut Soil, constants: &[i32], p: u32, pe: u32) -> (Water, i32) {
-    let mut w = Water { p, pe, ..Water::default() };
+fn water_month(soil: &mut Soil, constants: &[i32], p: Amount, pe: Amount) -> (Water, i32) {
+    // "Reading, month, list and row answers all carry it": of both readings.
+    let kinds = MonthKinds { p: p.kind, pe: pe.kind };
+    let (p, pe) = (p.water, pe.water);
+    let mut w = Water { p, pe, kinds, ..Water::default() };
 
     // "Potentials, from the start storages."
     w.pro = soil.surface + soil.underlying;
@@ -438,7 +470,7 @@ const NO_WATER: i32 = 0;
 const WATER: i32 = 1;
 
 /// "Each month's record keeps Z, .. P, PE, ET, R, L, RO and both storages at its start and end". L is what both layers lose.
-/// The modified index is put in when it is known.
+/// The modified index is put in when it is known. "One more column keeps precipitation's" kind.
 #[inline]
 fn record_of(w: &Water, z: i32, start: [u32; 2], end: &Soil, water: i32) -> Record {
     Record {
@@ -455,6 +487,7 @@ fn record_of(w: &Water, z: i32, start: [u32; 2], end: &Soil, water: i32) -> Reco
         underlying: end.underlying as i32,
         water,
         modified: 0,
+        kind: i32::from(w.kinds.p),
     }
 }
 
@@ -489,8 +522,10 @@ fn add(run: &mut Run, water: Water, z: i32, k: &mut Columns) -> Added {
     Added { figures: Figures { water, z, percent, x1, x2, x3, index, mark, modified }, settled }
 }
 
-/// An add of water whose readings are known. Refusal 10 is the last.
-fn add_amounts(run: &mut Run, p: u32, pe: u32, k: &mut Columns) -> Result<Added, Refusal> {
+/// An add of water whose readings are known. Refusal 10 is the last. It is compiled in place: there are more arguments than
+/// go in registers.
+#[inline(always)]
+fn add_amounts(run: &mut Run, p: Amount, pe: Amount, k: &mut Columns) -> Result<Added, Refusal> {
     if run.months as usize == k.x1.len() {
         return Err(Refusal::Full);
     }
@@ -527,7 +562,7 @@ pub fn add_z(run: &mut Run, z: i32, k: &mut Columns) -> Result<Added, Refusal> {
         return Err(Refusal::Full);
     }
     // "For an added Z all those before Z are 0." "A Z-only month records its Z .., zeros for the six water figures and the
-    // carried storages, with a mark that it had no water."
+    // carried storages, with a mark that it had no water." "A whole-number reading of 0 is none, as is a Z-only month."
     let (water, carried) = (Water::default(), [run.soil.surface, run.soil.underlying]);
     k.records[run.months as usize] = record_of(&water, z, carried, &run.soil, NO_WATER);
     Ok(add(run, water, z, k))
@@ -544,9 +579,9 @@ pub struct Season {
 
 /// A reading in a season's lists: "in whole thousandths", "with -1 for missing".
 #[inline]
-fn listed(reading: i32) -> Result<u32, Refusal> {
+fn listed(reading: i32) -> Result<Amount, Refusal> {
     match reading {
-        0..=100_000 => Ok(reading as u32),
+        0..=100_000 => Ok(whole(reading)),
         -1 => Err(Refusal::Missing),
         _ => Err(Refusal::NotAcceptable),
     }

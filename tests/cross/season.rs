@@ -1,6 +1,6 @@
 //! card_add_season: against the reference, and against the library's own single adds.
 
-use crate::add::{pick_add, Way};
+use crate::add::{pick_add, Add, Way};
 use crate::add_z::{pick_z, Style, STYLES};
 use crate::card::{self, Columns, Figures, Reading, Run, Season, Values};
 use crate::check::{differ, Call, Check};
@@ -73,10 +73,11 @@ impl Check {
             if season.number != 0 {
                 break;
             }
-            let added = card::add_water(season.run, listed(p), listed(pe), k);
+            let what = Add::Water(listed(p), listed(pe));
+            let added = what.library(&season.run, k);
             season.number = added.number;
             if added.number == 0 {
-                self.account(Call::AddWater, &season.run, &added);
+                self.account(&what, &season.run, &added);
                 season.added += 1;
                 season.settled += added.settled;
                 season.figures = added.figures;

@@ -1,7 +1,7 @@
 //! Rows that show the water: over months of all sorts from a fresh run, each record is what the month's answer and the runs
 //! before and after it say, the storages at its start are those at the end of the month before, precipitation is ET, RO and
-//! what the soil gained, V is the run's, the modified index is as the request has it, a row shows all of it, and no later
-//! call changes any of it.
+//! what the soil gained, V is the run's, the modified index is as the request has it, the kind of its precipitation goes
+//! with P, a row shows all of it, and no later call changes any of it.
 
 use crate::add::{odd_add, pick_add, Add, Way};
 use crate::add_z::STYLES;
@@ -23,6 +23,8 @@ pub struct Kept {
     pub filled: u64,
     pub ran_off: u64,
     pub z: u64,
+    /// Months of water whose precipitation was a trace.
+    pub traces: u64,
     /// Months that left a V other than 0.
     pub v: u64,
 }
@@ -44,21 +46,23 @@ fn told(figures: &Figures, before: &Run, after: &Run, water: bool) -> Record {
     let [p, pe, et, r, l, ro] = [w.p, w.pe, w.et, w.r, w.ls + w.lu, w.ro].map(|amount| amount as i32);
     let (ss, su) = storages(&before.soil);
     let (surface, underlying) = storages(&after.soil);
-    let (z, water, modified) = (figures.z, i32::from(water), figures.modified);
-    Record { z, p, pe, et, r, l, ro, ss, su, surface, underlying, water, modified }
+    let (z, water, modified, kind) = (figures.z, i32::from(water), figures.modified, i32::from(w.kinds.p));
+    Record { z, p, pe, et, r, l, ro, ss, su, surface, underlying, water, modified, kind }
 }
 
-/// Whether a record is one by itself: of a month of water the balance, of a Z no water, and no storage or amount below 0.
+/// Whether a record is one by itself: of a month of water the balance, of a Z no water, no storage or amount below 0, and
+/// precipitation measured exactly where there is some.
 fn balances(record: &Record) -> bool {
-    let Record { z: _, p, pe, et, r, l, ro, ss, su, surface, underlying, water, modified: _ } = *record;
+    let Record { z: _, p, pe, et, r, l, ro, ss, su, surface, underlying, water, modified: _, kind } = *record;
     let gain = surface + underlying - ss - su;
     let amounts = [p, pe, et, r, l, ro, ss, su, surface, underlying];
-    let dry = amounts[..6] == [0; 6] && (ss, su) == (surface, underlying);
+    let dry = amounts[..6] == [0; 6] && (ss, su) == (surface, underlying) && kind == 0;
     amounts.iter().all(|amount| *amount >= 0)
         && p == et + ro + gain
         && gain == r - l
         && et <= pe
         && (r == 0 || l == 0)
+        && (p > 0 && kind == 2 || p == 0 && (0..2).contains(&kind))
         && (water == 1 || water == 0 && dry)
 }
 
@@ -118,6 +122,7 @@ fn count(kept: &mut Kept, record: &Record, v: i64) {
     kept.filled += u64::from(record.r > 0);
     kept.ran_off += u64::from(record.ro > 0);
     kept.z += u64::from(record.water == 0);
+    kept.traces += u64::from(record.kind == 1);
     kept.v += u64::from(v != 0);
 }
 

@@ -11,6 +11,7 @@ pub fn worked_months(c: &mut Check) {
     c.kind("worked months");
     let readings = [Reading::inches(0.0625), Reading::inches(1.0 / 2048.0), Reading::millimetres(7.9375)];
     assert_eq!(readings.map(|reading| card::read(reading).water), [63, 0, 313]);
+    assert_eq!(readings.map(|reading| card::read(reading).kind), [card::MEASURED, card::TRACE, card::MEASURED]);
     let constants: Vec<i32> = [8000, 1000, 500, 2000, 15000].repeat(12);
     let mut lists = Lists::new(&mut c.random, [8; 7], Fill::AnyBits);
 
@@ -19,7 +20,7 @@ pub fn worked_months(c: &mut Check) {
     let w = w1.figures.water;
     assert_eq!((w.ls, w.lu, w.et, w.pl, w.cafec, w1.figures.z), (500, 500, 2000, 1500, 2125, -1688));
     assert_eq!((w1.run.soil.surface, w1.run.soil.underlying, w1.run.calendar), (0, 2500, 2));
-    let kept = [-1688, 1000, 2500, 2000, 0, 1000, 0, 500, 3000, 0, 2500, 1, -563];
+    let kept = [-1688, 1000, 2500, 2000, 0, 1000, 0, 500, 3000, 0, 2500, 1, -563, 2];
     assert_eq!(lists.library.lend().records[0], record(kept));
     let months = Months { p: vec![1000, 700, 700], pe: vec![2500, -1, 700] };
     let w1_alone = Season { number: 8, added: 1, settled: w1.settled, figures: w1.figures, run: w1.run };
@@ -28,7 +29,7 @@ pub fn worked_months(c: &mut Check) {
     let run = c.start(&constants, [6000, 500, 4900, 12]).run;
     let w2 = c.add(Add::Inches(MonthInches { p: 2.0, pe: 0.4 }), &run, &mut lists);
     assert_eq!((w2.figures.water.r, w2.figures.water.ro, w2.run.calendar), (600, 1000, 1));
-    let kept = [w2.figures.z, 2000, 400, 400, 600, 0, 1000, 500, 4900, 1000, 5000, 1, 715];
+    let kept = [w2.figures.z, 2000, 400, 400, 600, 0, 1000, 500, 4900, 1000, 5000, 1, 715, 2];
     assert_eq!(lists.library.lend().records[0], record(kept));
 
     // S4, then S5 and S6.
@@ -44,7 +45,7 @@ pub fn worked_months(c: &mut Check) {
     // V is the sum of Z + 150 since the drought abates; a Z has no water, and the storages stay.
     assert_eq!(lists.library.lend().v[..3], [3740, 2430, 980]);
     let months = [[3590, -1009], [-1460, -1788], [-1600, -2591]];
-    let kept = months.map(|[z, modified]| record([z, 0, 0, 0, 0, 0, 0, 0, 0, 0, 0, 0, modified]));
+    let kept = months.map(|[z, modified]| record([z, 0, 0, 0, 0, 0, 0, 0, 0, 0, 0, 0, modified, 0]));
     assert_eq!(lists.library.lend().records[..3], kept);
     let s5 = c.add(Add::Z(-1130), &run, &mut lists);
     assert_eq!((s5.settled, s5.figures.index), (4, -3017));

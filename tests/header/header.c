@@ -1,7 +1,7 @@
 /* Tries what include/card.h adds to the library for C: NULL beside the length 0, the columns as one struct, the
- * meanings of the numbers, and what it says of records, of the modified index, of runs and columns that do not
- * belong together, and of missing months. The library's own functions, asked with valid pointers, are what the
- * header's are held to. It is linked so that every call of the library is watched for NULL: see
+ * meanings of the numbers, and what it says of records, of the modified index, of traces, of runs and columns that
+ * do not belong together, and of missing months. The library's own functions, asked with valid pointers, are what
+ * the header's are held to. It is linked so that every call of the library is watched for NULL: see
  * tests/header/run. */
 #include "card.h"
 
@@ -139,9 +139,9 @@ static lists fresh_lists(void) {
         made.x3[i] = 3000 + i;
         made.index[i] = 4000 + i;
         made.mark[i] = (uint8_t)(100 + i);
-        int32_t n = 100000 + 13 * i;
-        card_record r = {n,     n + 1, n + 2, n + 3,  n + 4,  n + 5, n + 6,
-                         n + 7, n + 8, n + 9, n + 10, n + 11, n + 12};
+        int32_t n = 100000 + 14 * i;
+        card_record r = {n,     n + 1, n + 2, n + 3,  n + 4,  n + 5,  n + 6,
+                         n + 7, n + 8, n + 9, n + 10, n + 11, n + 12, n + 13};
         made.records[i] = r;
         made.v[i] = 5000000000 + i;
     }
@@ -248,9 +248,14 @@ static int same_run(const card_run *a, const card_run *b) {
            memcmp(a->constants, b->constants, sizeof a->constants) == 0;
 }
 
+/* The numbers up to the kinds are without gaps; after the kinds is one. */
+static int same_water(const card_water *a, const card_water *b) {
+    return memcmp(a, b, offsetof(card_water, kinds)) == 0 && a->kinds.p == b->kinds.p && a->kinds.pe == b->kinds.pe;
+}
+
 static int same_figures(const card_figures *a, const card_figures *b) {
-    return memcmp(&a->water, &b->water, sizeof a->water) == 0 && a->z == b->z && a->percent == b->percent &&
-           a->x1 == b->x1 && a->x2 == b->x2 && a->x3 == b->x3 && a->index == b->index && a->mark == b->mark &&
+    return same_water(&a->water, &b->water) && a->z == b->z && a->percent == b->percent && a->x1 == b->x1 &&
+           a->x2 == b->x2 && a->x3 == b->x3 && a->index == b->index && a->mark == b->mark &&
            a->modified == b->modified;
 }
 
@@ -306,14 +311,15 @@ static int32_t drawn(int32_t low, int32_t high) {
 static const int32_t SEASON_P[3] = {1780, 1530, 1280};
 static const int32_t SEASON_PE[3] = {7040, 5970, 3410};
 
-/* A call of this kind that a run of some months accepts. */
+/* A call of this kind that a run of some months accepts. One in four of its readings is a trace. */
 static call good_call(int kind) {
     call c = {0};
     c.kind = kind;
-    c.p = card_whole(drawn(0, 6000));
+    c.p = drawn(0, 3) ? card_whole(drawn(0, 6000)) : card_inches((float)drawn(1, 49) / 100000.0f);
     c.pe = drawn(0, 1) ? card_inches((float)drawn(0, 8)) : card_millimetres((float)drawn(0, 200));
-    c.inches.p = (float)drawn(0, 60) / 10.0f;
-    c.inches.pe = (float)drawn(0, 80) / 10.0f;
+    if (drawn(0, 3) == 0) c.pe = card_millimetres((float)drawn(1, 12) / 1000.0f);
+    c.inches.p = (float)drawn(0, 60) / (drawn(0, 3) ? 10.0f : 150000.0f);
+    c.inches.pe = (float)drawn(0, 80) / (drawn(0, 3) ? 10.0f : 200000.0f);
     c.z = drawn(-6000, 6000);
     c.list_p = SEASON_P;
     c.list_p_length = 3;
@@ -343,35 +349,40 @@ static void try_sizes(void) {
     check("sizes", sizeof(card_run) == 288, "a run is not 288 bytes");
     check("sizes", sizeof(card_started) == 296, "card_started is not 296 bytes");
     check("sizes", sizeof(card_added) == 376, "card_added is not 376 bytes");
-    check("sizes", sizeof(card_season) == 376, "card_season is not 376 bytes");
+    check("sizes", sizeof(card_season) == 384, "card_season is not 384 bytes");
     check("sizes", sizeof(card_shown) == 88, "card_shown is not 88 bytes");
-    check("sizes", sizeof(card_record) == 52, "a record is not 52 bytes");
-    check("sizes", sizeof(lists) == 77 * MONTHS, "a month is not 77 bytes in the columns");
-    check("sizes", CARD_MOST_MONTHS == 12000 && 77 * CARD_MOST_MONTHS == 924000, "the longest columns");
+    check("sizes", sizeof(card_record) == 56, "a record is not 56 bytes");
+    check("sizes", sizeof(lists) == 81 * MONTHS, "a month is not 81 bytes in the columns");
+    check("sizes", CARD_MOST_MONTHS == 12000 && 81 * CARD_MOST_MONTHS == 972000, "the longest columns");
 }
 
-/* Where the fields of a record, of the columns, of a row and of the figures stand. */
+/* Where the fields of a record, of the columns, of an answer, of a row and of the figures stand. */
 static void try_offsets(void) {
-    static const size_t of_record[13] = {
+    static const size_t of_record[14] = {
         offsetof(card_record, z), offsetof(card_record, p), offsetof(card_record, pe), offsetof(card_record, et),
         offsetof(card_record, r), offsetof(card_record, l), offsetof(card_record, ro),
         offsetof(card_record, ss), offsetof(card_record, su),
         offsetof(card_record, surface), offsetof(card_record, underlying), offsetof(card_record, water),
-        offsetof(card_record, modified)};
+        offsetof(card_record, modified), offsetof(card_record, kind)};
     static const size_t of_columns[14] = {
         offsetof(card_columns, x1), offsetof(card_columns, x1_length), offsetof(card_columns, x2),
         offsetof(card_columns, x2_length), offsetof(card_columns, x3), offsetof(card_columns, x3_length),
         offsetof(card_columns, index), offsetof(card_columns, index_length), offsetof(card_columns, mark),
         offsetof(card_columns, mark_length), offsetof(card_columns, records),
         offsetof(card_columns, records_length), offsetof(card_columns, v), offsetof(card_columns, v_length)};
-    for (size_t i = 0; i < 13; i++) check("offsets", of_record[i] == 4 * i, "a record's numbers have gaps");
+    for (size_t i = 0; i < 14; i++) check("offsets", of_record[i] == 4 * i, "a record's numbers have gaps");
     for (size_t i = 0; i < 14; i++) check("offsets", of_columns[i] == 8 * i, "the columns in another order");
     check("offsets", sizeof(card_columns) == 112, "the columns are not 112 bytes");
+    check("offsets", offsetof(card_answer, number) == 0 && offsetof(card_answer, kind) == 1 &&
+          offsetof(card_answer, water) == 4 && sizeof(card_answer) == 8, "an answer in another order");
+    check("offsets", offsetof(card_water, cafec) == 40 && offsetof(card_water, kinds) == 44 &&
+          offsetof(card_month_kinds, pe) == 1 && sizeof(card_month_kinds) == 2 && sizeof(card_water) == 48,
+          "the water in another order");
     check("offsets", offsetof(card_shown, x1) == 4 && offsetof(card_shown, index) == 16 &&
           offsetof(card_shown, mark) == 20 && offsetof(card_shown, month) == 24 &&
           offsetof(card_shown, v) == 80, "a row in another order");
-    check("offsets", offsetof(card_figures, z) == 44 && offsetof(card_figures, mark) == 68 &&
-          offsetof(card_figures, modified) == 72 && sizeof(card_figures) == 76, "the figures in another order");
+    check("offsets", offsetof(card_figures, z) == 48 && offsetof(card_figures, mark) == 72 &&
+          offsetof(card_figures, modified) == 76 && sizeof(card_figures) == 80, "the figures in another order");
 }
 
 /* The columns with length 0 for each in the set, at the address that they have, or at NULL. */
@@ -619,7 +630,7 @@ static card_record record_of(const answer *a, card_run before, int water) {
     card_record made = {
         a->figures.z, (int32_t)w->p, (int32_t)w->pe, (int32_t)w->et, (int32_t)w->r, (int32_t)(w->ls + w->lu),
         (int32_t)w->ro, (int32_t)before.soil.surface, (int32_t)before.soil.underlying,
-        (int32_t)a->run.soil.surface, (int32_t)a->run.soil.underlying, water, a->figures.modified};
+        (int32_t)a->run.soil.surface, (int32_t)a->run.soil.underlying, water, a->figures.modified, w->kinds.p};
     return made;
 }
 
@@ -638,9 +649,11 @@ static void check_balance(const card_record *r, const card_record *before) {
     check("a balance", r->p == r->et + r->ro + gain && gain == r->r - r->l, "it does not come out");
     check("a balance", r->p >= 0 && r->pe >= 0 && r->et >= 0 && r->r >= 0 && r->l >= 0 && r->ro >= 0 &&
           r->surface >= 0 && r->underlying >= 0, "a number below 0");
+    check("a balance", r->p > 0 ? r->kind == CARD_MEASURED : r->kind == CARD_NONE || r->kind == CARD_TRACE,
+          "the kind of another precipitation");
     if (r->water == 0)
-        check("a balance", gain == 0 && r->p == 0 && r->pe == 0 && r->et == 0 && r->r == 0 && r->ro == 0,
-              "an added Z has water");
+        check("a balance", gain == 0 && r->p == 0 && r->pe == 0 && r->et == 0 && r->r == 0 && r->ro == 0 &&
+              r->kind == CARD_NONE, "an added Z has water");
     if (before == NULL)
         check("a balance", r->ss == 0 && r->su == 1330, "not the storages of the start");
     else
@@ -795,7 +808,7 @@ static void try_five_columns(void) {
             card_shown shown = card_row_in(lent(&held, MONTHS), run, row);
             check_number("no records", shown.number, CARD_DONE);
             check("no records", shown.index == straight.index[row] && shown.month.z == 0 &&
-                  shown.month.water == 0 && shown.month.modified == 0 && shown.v == 0,
+                  shown.month.water == 0 && shown.month.modified == 0 && shown.month.kind == 0 && shown.v == 0,
                   "a row shows what nobody knows");
         }
         while (run.months + 3 < MONTHS) {
@@ -812,32 +825,36 @@ static void try_five_columns(void) {
     }
 }
 
-/* ---- Records of before there was a modified index ------------------------------------------------- */
+/* ---- Records of before there was a modified index, or a kind -------------------------------------- */
 
-/* A record of that time. */
-typedef struct short_record {
+/* A record of before the modified index, and one of before the kind of the precipitation. */
+typedef struct record_48 {
     int32_t numbers[12];
-} short_record;
+} record_48;
+typedef struct record_52 {
+    int32_t numbers[13];
+} record_52;
 
-/* Copied into longer ones, with anything for the modified index, they show what they held, and the run goes on as
- * if they had been long from the first month on. */
-static void try_short_records(void) {
-    check("short records", sizeof(short_record) == 48, "not 48 bytes");
+/* Of such a size, copied into longer ones, with 0 or anything for what they have not, they show what they held, and
+ * the run goes on as if they had been long from the first month on. */
+static void try_short_records(size_t size) {
     for (uint32_t months = 0; months + 3 < MONTHS; months++) {
         lists straight, held;
-        short_record saved[MONTHS];
+        char saved[MONTHS][sizeof(card_record)];
         card_run run = run_of(&straight, months);
-        for (int i = 0; i < MONTHS; i++) memcpy(&saved[i], &straight.records[i], sizeof *saved);
+        for (int i = 0; i < MONTHS; i++) memcpy(saved[i], &straight.records[i], size);
         held = straight;
         memset(held.records, 0x4d, sizeof held.records);
         for (uint32_t i = 0; i < months; i++) {
-            memcpy(&held.records[i], &saved[i], sizeof *saved);
-            held.records[i].modified = months % 2 ? 0 : drawn(-9000, 9000);
+            if (size == sizeof(record_48)) held.records[i].modified = months % 2 ? 0 : drawn(-9000, 9000);
+            held.records[i].kind = months % 2 ? CARD_NONE : drawn(-9000, 9000);
+            memcpy(&held.records[i], saved[i], size);
         }
         for (size_t row = 0; row < months; row++) {
             card_shown shown = card_row_in(lent(&held, MONTHS), run, row);
             card_record expected = straight.records[row];
-            expected.modified = held.records[row].modified;
+            if (size == sizeof(record_48)) expected.modified = held.records[row].modified;
+            expected.kind = held.records[row].kind;
             check_number("short records", shown.number, CARD_DONE);
             check("short records", same_record(&shown.month, &expected), "a row does not show what was copied");
         }
@@ -850,6 +867,240 @@ static void try_short_records(void) {
         }
         for (size_t i = months; i < run.months; i++)
             check("short records", same_record(&held.records[i], &straight.records[i]), "a later month differs");
+    }
+}
+
+static void try_records_of_before(void) {
+    check("short records", sizeof(record_48) == 48 && sizeof(record_52) == 52, "not 48 and 52 bytes");
+    try_short_records(sizeof(record_48));
+    try_short_records(sizeof(record_52));
+}
+
+/* ---- Kinds ---------------------------------------------------------------------------------------- */
+
+static float of_bits(uint32_t bits) {
+    float made;
+    memcpy(&made, &bits, sizeof made);
+    return made;
+}
+
+/* The patterns of the largest trace of each unit, as the header has them: the next one up is measured. */
+enum { MOST_TRACE_INCHES = 0x3a03126e, MOST_TRACE_MILLIMETRES = 0x3c5013a9 };
+
+static void check_read(const char *where, card_reading reading, uint8_t number, uint8_t kind, uint32_t water) {
+    card_answer a = card_read(reading);
+    check_number(where, a.number, number);
+    check(where, a.kind == kind, "another kind");
+    check(where, a.water == water, "other water");
+}
+
+/* What the header says of a binary32 number that is in range: by exact arithmetic, since a float has 24 binary
+ * digits and a double 53. */
+static void check_float(float x) {
+    double inches = 1000.0 * (double)x, millimetres = 5000.0 * (double)x;
+    card_answer a = card_read(card_inches(x)), b = card_read(card_millimetres(x));
+    uint8_t kind_a = x > 0 ? inches < 0.5 ? CARD_TRACE : CARD_MEASURED : CARD_NONE;
+    uint8_t kind_b = x > 0 ? millimetres < 63.5 ? CARD_TRACE : CARD_MEASURED : CARD_NONE;
+    check("a kind", a.number == CARD_DONE && b.number == CARD_DONE, "a good reading is refused");
+    check("a kind, inches", a.kind == kind_a && (a.water > 0) == (kind_a == CARD_MEASURED), "another");
+    check("a kind, millimetres", b.kind == kind_b && (b.water > 0) == (kind_b == CARD_MEASURED), "another");
+}
+
+/* card_read: both ends of what is a trace in each unit, zero of both signs, whole numbers, every refusal. */
+static void try_kinds(void) {
+    check("kinds", CARD_NONE == 0 && CARD_TRACE == 1 && CARD_MEASURED == 2, "other numbers");
+    check("kinds", of_bits(MOST_TRACE_INCHES) == 0.00049999997f, "another largest trace, inches");
+    check("kinds", of_bits(MOST_TRACE_MILLIMETRES) == 0.0126999998f, "another largest trace, millimetres");
+    check("kinds", of_bits(MOST_TRACE_INCHES + 1) == 0.0005f, "0.0005f is not the next one");
+    check("kinds", of_bits(MOST_TRACE_MILLIMETRES) == 0.0127f && (double)0.0127f < 0.0127, "0.0127f is not less");
+    check_read("the smallest trace, inches", card_inches(of_bits(1)), CARD_DONE, CARD_TRACE, 0);
+    check_read("the smallest trace, millimetres", card_millimetres(of_bits(1)), CARD_DONE, CARD_TRACE, 0);
+    check_read("the largest trace, inches", card_inches(0.00049999997f), CARD_DONE, CARD_TRACE, 0);
+    check_read("the largest trace, millimetres", card_millimetres(0.0126999998f), CARD_DONE, CARD_TRACE, 0);
+    check_read("0.0001 inch", card_inches(0.0001f), CARD_DONE, CARD_TRACE, 0);
+    check_read("0.0127 mm", card_millimetres(0.0127f), CARD_DONE, CARD_TRACE, 0);
+    check_read("0.0005 inch", card_inches(0.0005f), CARD_DONE, CARD_MEASURED, 1);
+    check_read("measured, millimetres", card_millimetres(of_bits(MOST_TRACE_MILLIMETRES + 1)), CARD_DONE,
+               CARD_MEASURED, 1);
+    check_read("0.0625 inch", card_inches(0.0625f), CARD_DONE, CARD_MEASURED, 63);
+    check_read("2540 mm", card_millimetres(2540.0f), CARD_DONE, CARD_MEASURED, 100000);
+    check_read("zero inches", card_inches(0.0f), CARD_DONE, CARD_NONE, 0);
+    check_read("zero millimetres", card_millimetres(0.0f), CARD_DONE, CARD_NONE, 0);
+    check_read("negative zero, inches", card_inches(of_bits(0x80000000)), CARD_DONE, CARD_NONE, 0);
+    check_read("negative zero, millimetres", card_millimetres(of_bits(0x80000000)), CARD_DONE, CARD_NONE, 0);
+    check_read("a whole 0", card_whole(0), CARD_DONE, CARD_NONE, 0);
+    check_read("a whole 1", card_whole(1), CARD_DONE, CARD_MEASURED, 1);
+    check_read("a whole 100,000", card_whole(100000), CARD_DONE, CARD_MEASURED, 100000);
+    check_read("missing", card_missing(), CARD_MISSING_READING, CARD_NONE, 0);
+    card_reading other = {4, 0, 0.0001f};
+    check_read("another kind of reading", other, CARD_BAD_READING, CARD_NONE, 0);
+    static const int32_t no_wholes[] = {-1, 100001, INT32_MIN, INT32_MAX};
+    for (size_t i = 0; i < 4; i++)
+        check_read("a bad whole", card_whole(no_wholes[i]), CARD_BAD_READING, CARD_NONE, 0);
+    /* below zero by the least, infinities, and a NaN of each sign; above the range */
+    static const uint32_t no_floats[] = {0x80000001, 0x7f800000, 0xff800000, 0x7fc00000, 0xffc00000, 0x451ec001};
+    for (size_t i = 0; i < 6; i++) {
+        check_read("bad inches", card_inches(of_bits(no_floats[i])), CARD_BAD_READING, CARD_NONE, 0);
+        check_read("bad millimetres", card_millimetres(of_bits(no_floats[i])), CARD_BAD_READING, CARD_NONE, 0);
+    }
+    /* from 0 to 100, at steps; and every number near the largest traces */
+    for (uint32_t bits = 0; bits <= 0x42c80000; bits += 40009) check_float(of_bits(bits));
+    for (uint32_t i = 0; i < 2000; i++) {
+        check_float(of_bits(MOST_TRACE_INCHES - 1000 + i));
+        check_float(of_bits(MOST_TRACE_MILLIMETRES - 1000 + i));
+        check_float(of_bits(i));
+    }
+}
+
+/* Readings of each kind, and what their kinds are. */
+enum { READINGS = 9 };
+
+static card_reading reading_of(size_t i) {
+    const card_reading all[READINGS] = {
+        card_whole(0), card_inches(0.0f), card_millimetres(of_bits(0x80000000)),
+        card_inches(of_bits(1)), card_inches(0.00049999997f), card_millimetres(0.0127f),
+        card_whole(1), card_inches(5.56f), card_millimetres(100.0f)};
+    return all[i];
+}
+
+static uint8_t kind_of(size_t i) { return (uint8_t)(i / 3); }
+
+/* The same, with 0 for a trace. */
+static card_reading dry_of(size_t i) { return kind_of(i) == CARD_TRACE ? card_whole(0) : reading_of(i); }
+
+/* An add's figures have the kinds of both readings, the record and the row that of the precipitation. In all else, and
+ * in the months after it, a trace comes to what 0 comes to. */
+static void try_kinds_of_month(size_t p, size_t pe) {
+    lists held = fresh_lists(), dry = held;
+    card_columns k = lent(&held, MONTHS);
+    answer a = of_added(card_add_water_in(k, station(), reading_of(p), reading_of(pe)));
+    answer b = of_added(card_add_water_in(lent(&dry, MONTHS), station(), dry_of(p), dry_of(pe)));
+    card_month_kinds kinds = a.figures.water.kinds;
+    check_number("kinds of a month", a.number, CARD_DONE);
+    check("kinds of a month", kinds.p == kind_of(p) && kinds.pe == kind_of(pe), "others");
+    check("kinds of a month", held.records[0].kind == kind_of(p), "another in the record");
+    check("kinds of a month", card_row_in(k, a.run, 0).month.kind == kind_of(p), "another in the row");
+    a.figures.water.kinds = b.figures.water.kinds;
+    check_same("a trace", &a, &b);
+    for (int i = 0; i < 5; i++) {
+        call c = good_call(drawn(WATER, SEASON));
+        a = by_columns(c, a.run, k);
+        b = by_columns(c, b.run, lent(&dry, MONTHS));
+        check_same("months after a trace", &a, &b);
+    }
+    check("kinds of a month", held.records[0].kind == kind_of(p), "it does not stay");
+    dry.records[0].kind = kind_of(p);
+    check("a trace", same_lists(&held, &dry), "other columns than of 0");
+}
+
+static void try_kinds_of_months(void) {
+    for (size_t p = 0; p < READINGS; p++)
+        for (size_t pe = 0; pe < READINGS; pe++) try_kinds_of_month(p, pe);
+}
+
+/* The same of two floats that arrive together. */
+static void try_kinds_of_inches(void) {
+    static const uint32_t bits[] = {0, 0x80000000, 1, MOST_TRACE_INCHES, MOST_TRACE_INCHES + 1, 0x42c80000};
+    static const uint8_t kinds[] = {CARD_NONE,  CARD_NONE,     CARD_TRACE,
+                                    CARD_TRACE, CARD_MEASURED, CARD_MEASURED};
+    for (size_t i = 0; i < 6; i++)
+        for (size_t j = 0; j < 6; j++) {
+            lists held = fresh_lists(), apart = held;
+            card_month_inches month = {of_bits(bits[i]), of_bits(bits[j])};
+            answer a = of_added(card_add_inches_in(lent(&held, MONTHS), station(), month));
+            answer b = of_added(card_add_water_in(lent(&apart, MONTHS), station(), card_inches(month.p),
+                                                  card_inches(month.pe)));
+            check_same("kinds of inches", &a, &b);
+            check("kinds of inches", same_lists(&held, &apart), "other columns");
+            check("kinds of inches", a.figures.water.kinds.p == kinds[i] && a.figures.water.kinds.pe == kinds[j] &&
+                  held.records[0].kind == kinds[i], "others");
+        }
+}
+
+/* A season of so many months, after which one is refused with this number, or none with 0. Its months are none or
+ * measured, and its figures have the kinds of the last one added. */
+static void try_kinds_of_season(card_run run, lists *held, size_t months, uint8_t number) {
+    static const int32_t p[4] = {0, 1, 0, 700}, pe[4] = {1, 0, 0, 900};
+    int32_t list[5] = {0}, list_pe[5] = {0};
+    memcpy(list, p, sizeof p);
+    memcpy(list_pe, pe, sizeof pe);
+    list[months] = number == CARD_BAD_READING ? 100001 : CARD_NO_READING;
+    size_t length = number == CARD_DONE ? months : months + 1;
+    card_season s = card_add_season_in(lent(held, MONTHS), run, list, length, list_pe, length);
+    check_number("kinds of a season", s.number, number);
+    check("kinds of a season", s.added == months, "not the months before the refused one");
+    int rain = months > 0 && p[months - 1] > 0, asked = months > 0 && pe[months - 1] > 0;
+    card_month_kinds kinds = s.figures.water.kinds;
+    check("kinds of a season", kinds.p == (rain ? CARD_MEASURED : CARD_NONE) &&
+          kinds.pe == (asked ? CARD_MEASURED : CARD_NONE), "not those of the last month added");
+    for (size_t i = 0; i < months; i++)
+        check("kinds of a season", held->records[run.months + i].kind == (p[i] > 0 ? CARD_MEASURED : CARD_NONE),
+              "another in a record");
+}
+
+/* After a month that was a trace: seasons, an added Z, and refused adds, whose kinds are 0 whatever was read. */
+static void try_kinds_after_a_trace(void) {
+    lists held = fresh_lists();
+    card_columns k = lent(&held, MONTHS);
+    card_run run = card_add_water_in(k, station(), card_inches(0.0001f), card_inches(0.0001f)).run;
+    for (size_t months = 0; months <= 4; months++) {
+        try_kinds_of_season(run, &held, months, CARD_DONE);
+        try_kinds_of_season(run, &held, months, CARD_MISSING_READING);
+        try_kinds_of_season(run, &held, months, CARD_BAD_READING);
+    }
+    int32_t list[1] = {(int32_t)card_read(card_inches(0.0001f)).water}, list_pe[1] = {0};
+    card_season s = card_add_season_in(k, run, list, 1, list_pe, 1);
+    check("a trace in a season", s.number == CARD_DONE && s.figures.water.kinds.p == CARD_NONE &&
+          held.records[1].kind == CARD_NONE, "it is not none");
+    card_added z = card_add_z_in(k, run, -1234);
+    check("kinds of a Z", z.number == CARD_DONE && z.figures.water.kinds.p == CARD_NONE &&
+          z.figures.water.kinds.pe == CARD_NONE && held.records[1].kind == CARD_NONE &&
+          card_row_in(k, z.run, 1).month.kind == CARD_NONE, "not none");
+    check("a trace before", card_row_in(k, z.run, 0).month.kind == CARD_TRACE, "it is lost");
+    answer a = of_added(card_add_water_in(k, run, card_inches(0.0001f), card_missing()));
+    check_refused("a trace and a missing PE", &a, CARD_MISSING_READING, run);
+    card_month_inches month = {0.0001f, 101.0f};
+    a = of_added(card_add_inches_in(k, run, month));
+    check_refused("a trace and a bad PE", &a, CARD_BAD_READING, run);
+}
+
+/* The kind in a record is what its add answered, and stays; whatever stands there is asked by no call. */
+static void try_kinds_stay(void) {
+    unsigned seen[3] = {0, 0, 0};
+    for (int n = 0; n < 100; n++) {
+        lists held = fresh_lists();
+        card_run run = station();
+        uint8_t told[MONTHS];
+        while (run.months < MONTHS) {
+            answer a = by_columns(good_call(drawn(WATER, Z)), run, lent(&held, MONTHS));
+            told[run.months] = a.figures.water.kinds.p;
+            run = a.run;
+        }
+        for (size_t row = 0; row < MONTHS; row++) {
+            check("kinds of rows", card_row_in(lent(&held, MONTHS), run, row).month.kind == told[row], "another");
+            seen[told[row]]++;
+        }
+    }
+    check("kinds of rows", seen[CARD_NONE] > 0 && seen[CARD_TRACE] > 0 && seen[CARD_MEASURED] > 0, "not all three");
+    for (uint32_t months = 1; months + 3 < MONTHS; months++) {
+        lists right, odd;
+        card_run run = run_of(&right, months);
+        odd = right;
+        for (uint32_t i = 0; i < months; i++) odd.records[i].kind = i % 2 ? INT32_MIN + drawn(0, 9) : drawn(3, 9000);
+        for (int kind = WATER; kind <= ROW; kind++) {
+            lists a_lists = right, b_lists = odd;
+            call c = good_call(kind);
+            c.row = months - 1;
+            answer a = by_columns(c, run, lent(&a_lists, MONTHS)), b = by_columns(c, run, lent(&b_lists, MONTHS));
+            check_number("an odd kind", b.number, CARD_DONE);
+            if (kind == ROW) {
+                check("an odd kind", b.shown.month.kind == odd.records[months - 1].kind, "a row does not show it");
+                b.shown.month.kind = a.shown.month.kind;
+            }
+            check_same("an odd kind", &b, &a);
+            for (uint32_t i = 0; i < months; i++)
+                check("an odd kind", b_lists.records[i].kind == odd.records[i].kind, "an add writes it");
+        }
     }
 }
 
@@ -1281,7 +1532,12 @@ int main(void) {
     try_last_record();
     try_others();
     try_five_columns();
-    try_short_records();
+    try_records_of_before();
+    try_kinds();
+    try_kinds_of_months();
+    try_kinds_of_inches();
+    try_kinds_after_a_trace();
+    try_kinds_stay();
     try_modified();
     try_worked_modified();
     try_not_together();
