@@ -4,14 +4,15 @@
 // so is each promise.
 use adding::Added;
 use door::MonthInches;
+use door::Told;
 use drought::Shown;
-use kinds::CAnswer;
 use kinds::CReading;
 use records::RecordNumbers;
 use runs::Run;
 use season::Season;
 use starts::Started;
 ghost use mathlib.Core.Path.{_≡_};
+ghost use Rattle.door.specs.Outcome.{toldAs};
 ghost use Rattle.door.specs.Readings.{reading};
 ghost use Rattle.starts.specs.Start.{startOf};
 ghost use Rattle.series.specs.Series.{filled, wholeSeries};
@@ -19,19 +20,14 @@ ghost use Rattle.refusals.specs.Book.{book};
 ghost use Rattle.drought.specs.Calls.{addWater, addInches, addZ, rowOfRun};
 ghost use Rattle.adding.specs.Taken.{result};
 ghost use Rattle.season.specs.Season.{seasonResult, addSeason};
-ghost use Rattle.kinds.specs.FromC.{readingOfC, answered};
+ghost use Rattle.kinds.specs.FromC.{readingOfC};
 
 // Reads a reading: 8 or 9.
 #[no_mangle]
-pub extern "C" fn card_read(g: CReading) -> CAnswer
-    ensures { λ a. ⌜ answered a ≡ reading (readingOfC g) ⌝ }
+pub extern "C" fn card_read(g: CReading) -> Told
+    ensures { λ t. ⌜ toldAs t ≡ reading (readingOfC g) ⌝ }
 {
-    let a = drought::read(kinds::reading_of(g));
-    CAnswer {
-        number: door::number(a),
-        kind: door::kind(a),
-        water: door::water(a),
-    }
+    door::tell(drought::read(kinds::reading_of(g)))
 }
 
 // Starts a run: 2, 3, 21, 4, 5, 6.

@@ -7,36 +7,33 @@ use native.Mathlib.Nat.{lt-of-le-of-lt}
 use lib.IntN.{ℤ, pos, negsuc, natAbs}
 use lib.Signed.{leZ, nonNeg}
 use lib.Dec.{T, eqb, lit<}
-use lib.Ieee.{Float, binary32, lt, le, ofBits}
+use lib.Ieee.{Float, binary32, le, ofBits}
 use mir.Syntax.{w32}
 use mir.Val.{Fits}
 use borrow.Author.Tests.{leb-true, le-leb, eq-eqb, ne-eqb}
 use Rattle.door.specs.Exact.{within, aboveZero, nearestTo}
 use Rattle.door.specs.Outcome.{Outcome, accepted, traced, refused}
 use Rattle.outline.specs.Refusals.{notAcceptable}
-use Rattle.door.proofs.Range.{at, inside, over, under, widened, above-is}
+use Rattle.door.proofs.Range.{at, inside, over, under, widened}
 use Rattle.door.specs.Readings.{fallen, converted, whole, mostReading}
 
--- the two tests `n == 0` and `x > 0.0`: both pass, the second fails, or the first
+-- the two tests `n != 0` and `above_zero(x)`: the first passes, only the second, or neither
 module _ (x : Float) (n : ℕ) where
   abbrev told : Bool → Bool → Outcome
   told above dry = cond (above && dry) traced (accepted n)
 
-  by-tests : (b : Bool) → lt (ofBits binary32 0) x ≡ b → (t : Bool) → eqb n 0 ≡ t → told b t ≡ fallen (aboveZero x) n
-  by-tests b p t q = sym (ap₂ told (above-is x ∙ p) q)
+  pub is-trace : n ≡ 0 → aboveZero x ≡ true → traced ≡ fallen (aboveZero x) n
+  is-trace e p = sym (ap₂ told p (eq-eqb n 0 e))
 
-  pub is-trace : n ≡ 0 → lt (ofBits binary32 0) x ≡ true → traced ≡ fallen (aboveZero x) n
-  is-trace e p = by-tests true p true (eq-eqb n 0 e)
-
-  pub not-above : lt (ofBits binary32 0) x ≡ false → accepted n ≡ fallen (aboveZero x) n
-  not-above p = by-tests false p (eqb n 0) refl
+  pub not-above : aboveZero x ≡ false → accepted n ≡ fallen (aboveZero x) n
+  not-above p = sym (ap (λ (b : Bool). told b (eqb n 0)) p)
 
   pub not-dry : (n ≡ 0 → ⊥) → accepted n ≡ fallen (aboveZero x) n
-  not-dry h = go (lt (ofBits binary32 0) x) refl
+  not-dry h = sym (ap (told (aboveZero x)) (ne-eqb n 0 h) ∙ neither (aboveZero x))
     where
-      go : (b : Bool) → lt (ofBits binary32 0) x ≡ b → accepted n ≡ fallen (aboveZero x) n
-      go true p = by-tests true p false (ne-eqb n 0 h)
-      go false p = not-above p
+      neither : (b : Bool) → told b false ≡ accepted n
+      neither true = refl
+      neither false = refl
 
 -- the two tests `x >= 0.0` and `x <= MOST`, of which MOST is n * 2 ^ d and has the pattern b
 module _ (n d b : ℕ) (N : 0 < n * 2 ^ d) (is : ofBits binary32 b ≡ at n d) (per of : ℕ) (x : Float) where

@@ -1,9 +1,9 @@
--- The sizes about the one division, of a number below 2 ^ 37 by k * 2 ^ s. Assumes nothing.
-use mathlib.Core.Path.{_≡_, subst}
-use Prim.Native.Nat.{ℕ, _+_, _*_, _%_, _^_, _≤_, _<_}
-use native.Mathlib.Nat.{mul-pos, mul-le-mul, one-mul}
+-- The sizes about the one division, of a number below 2 ^ 37 by k * 2 ^ s, and that division by one shift. Assumes nothing.
+use mathlib.Core.Path.{_≡_, sym, ap, subst, _∙_}
+use Prim.Native.Nat.{ℕ, _+_, _*_, _/_, _%_, _^_, _≤_, _<_}
+use native.Mathlib.Nat.{mul-pos, mul-le-mul, one-mul, mul-assoc, mul-comm, lt-of-lt-of-le, div-div-eq-div-mul, add-mul-div-right}
 use native.Mathlib.Omega.{arith}
-use lib.Pow.{pow-pos, pow-mono}
+use lib.Pow.{pow-pos, pow-mono, shr-lt}
 use Rattle.exact.specs.Nearest.{nearestℕ}
 use Rattle.exact.proofs.Nearest.{near-within}
 
@@ -19,16 +19,6 @@ nearer-zero n k s N K S = none (near-within n (k * 2 ^ s) 0 (mul-pos K (pow-pos 
 
     none : {m : ℕ} → m ≤ 0 → m ≡ 0
     none h = omega arith
-
--- with 12 or more the answer has at most 32 digits
-pub small-part : (n k s : ℕ) → n < 2 ^ 37 → 0 < k → 12 ≤ s → nearestℕ n (k * 2 ^ s) < 2 ^ 32
-small-part n k s N K S = few (near-within n (k * 2 ^ s) (2 ^ 26) (mul-pos K (pow-pos s)) (room (k * 2 ^ s) (at-least k s 12 K S)))
-  where
-    room : (d : ℕ) → 2 ^ 12 ≤ d → 2 * n < 2 * (2 ^ 26 * d) + d
-    room d h = omega arith
-
-    few : {m : ℕ} → m ≤ 2 ^ 26 → m < 2 ^ 32
-    few h = omega arith
 
 -- 24 digits times a number up to 5000
 product : (q per : ℕ) → q < 2 ^ 24 → per ≤ 5000 → q * per < 2 ^ 37
@@ -52,3 +42,18 @@ all-digits b per P = product (b % 8388608 + 8388608) per (go b) P
   where
     go : (b : ℕ) → b % 8388608 + 8388608 < 2 ^ 24
     go b = omega arith
+
+-- nearest to a / (of * 2 ^ k), with one shift: twice a, cut to whole numbers, and of more, over twice of
+pub by-halves : (a of k : ℕ) → nearestℕ a (of * 2 ^ k) ≡ (2 * a / 2 ^ k + of) / (2 * of)
+unfolding nearestℕ
+by-halves a of k =
+    let n = 2 * a + of * 2 ^ k in
+    let e : 2 * (of * 2 ^ k) ≡ 2 ^ k * (2 * of) = simp (mul-assoc, mul-comm) in
+    ap (λ (d : ℕ). n / d) e ∙ sym (div-div-eq-div-mul n (2 ^ k) (2 * of)) ∙ ap (λ (q : ℕ). q / (2 * of)) (add-mul-div-right (2 * a) of (pow-pos k))
+
+-- what is shifted is small
+pub shifted-lt : (a k : ℕ) → a < 2 ^ 37 → 12 ≤ k → 2 * a / 2 ^ k < 2 ^ 26
+shifted-lt a k h l = shr-lt 26 k (lt-of-lt-of-le (double a h) (pow-mono {i = 38} {j = 26 + k} (omega arith)))
+  where
+    double : (a : ℕ) → a < 2 ^ 37 → 2 * a < 2 ^ 38
+    double a h = omega arith

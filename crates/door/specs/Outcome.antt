@@ -5,7 +5,8 @@ use Prim.Native.Nat.{ℕ, zero, suc}
 use Rattle.outline.specs.Refusals.{missing, notAcceptable}
 use Rattle.door.specs.declared.Answer.{Answer}
 use Rattle.door.specs.declared.Answer.the-variants.{Water, Trace, NoReading, NotAcceptable}
-use Rattle.door.specs.declared.MonthAnswers.{MonthAnswers}
+use Rattle.door.specs.declared.Told.{Told}
+use Rattle.door.specs.declared.MonthTold.{MonthTold}
 use Rattle.door.specs.declared.MonthKinds.{MonthKinds}
 
 -- ---- the kinds
@@ -47,13 +48,17 @@ outcome Trace = traced
 outcome NoReading = refused missing
 outcome NotAcceptable = refused notAcceptable
 
+-- an answer as its three numbers
+abbrev pub toldAs : Told → Outcome
+toldAs t = record { number = t .number; water = t .water; kind = t .kind }
+
 -- of one month's two readings
 pub record MonthOutcomes : Type 0 where
   pub p : Outcome
   pub pe : Outcome
 
-abbrev pub outcomes : MonthAnswers → MonthOutcomes
-outcomes a = record { p = outcome (a .p); pe = outcome (a .pe) }
+abbrev pub toldMonth : MonthTold → MonthOutcomes
+toldMonth t = record { p = toldAs (t .p); pe = toldAs (t .pe) }
 
 abbrev pub kindsOf : Outcome → Outcome → MonthKinds
 kindsOf p pe = record { p = p .kind; pe = pe .kind }

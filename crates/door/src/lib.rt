@@ -8,8 +8,8 @@ ghost use mathlib.Core.Path.{_≡_};
 ghost use Prim.Native.Nat.{_<_, _≤_};
 ghost use lib.Dec.{T};
 ghost use Rattle.door.specs.Exact.{within, aboveZero, nearestTo};
-ghost use Rattle.door.specs.Readings.{fallen, whole, inches, millimetres, reading, month};
-ghost use Rattle.door.specs.Outcome.{outcome, outcomes, kindOfWater, kindsOf};
+ghost use Rattle.door.specs.Readings.{whole, inches, millimetres, reading, month};
+ghost use Rattle.door.specs.Outcome.{outcome, kindOfWater, toldAs, toldMonth};
 
 // A reading is one of four.
 pub enum Reading {
@@ -34,23 +34,12 @@ pub enum Answer {
     NotAcceptable,
 }
 
-// One month's precipitation and PE, in inches.
+// An answer as its three numbers: 0, 8 or 9; its kind; and its thousandths of an inch.
 #[repr(C)]
-pub struct MonthInches {
-    pub p: f32,
-    pub pe: f32,
-}
-
-pub struct MonthAnswers {
-    pub p: Answer,
-    pub pe: Answer,
-}
-
-// The kinds of a month's two readings.
-#[repr(C)]
-pub struct MonthKinds {
-    pub p: u8,
-    pub pe: u8,
+pub struct Told {
+    pub number: u8,
+    pub kind: u8,
+    pub water: u32,
 }
 
 // The kinds of an answer; a refused reading's is 0.
@@ -60,6 +49,25 @@ const TRACE: u8 = 1;
 
 const MEASURED: u8 = 2;
 
+// One month's precipitation and PE, in inches.
+#[repr(C)]
+pub struct MonthInches {
+    pub p: f32,
+    pub pe: f32,
+}
+
+pub struct MonthTold {
+    pub p: Told,
+    pub pe: Told,
+}
+
+// The kinds of a month's two readings.
+#[repr(C)]
+pub struct MonthKinds {
+    pub p: u8,
+    pub pe: u8,
+}
+
 // The ends of the three ranges.
 const MOST_WHOLE: i32 = 100_000;
 
@@ -68,9 +76,10 @@ const MOST_INCHES: f32 = 100.0;
 const MOST_MILLIMETRES: f32 = 2540.0;
 
 // The whole number nearest to x * per / of. x is its fraction times 2 ^ (exponent - 150), so that is
-// fraction * per over of * 2 ^ (150 - exponent). Below exponent 100, x is less than 2 ^ -27, and 5,000
-// times that is less than a half: the answer is 0.
-fn nearest_to(x: f32, per: u64, of: u64) -> u32
+// fraction * per over of * 2 ^ (150 - exponent), and nearest to a / (of * 2 ^ k) is (2 a / 2 ^ k + of) / (2 of), each
+// quotient cut to a whole number. Below exponent 100, x is less than 2 ^ -27, and 5,000 times that is less than a half: the
+// answer is 0.
+fn nearest_to(x: f32, per: u64, of: u32) -> u32
     requires { ⌜ T (within 2540 x) × (per ≤ 5000) × (0 < of) × (of ≤ 5000) ⌝ }
     ensures { λ r. ⌜ r ≡ nearestTo per of x ⌝ }
 {
@@ -81,25 +90,31 @@ fn nearest_to(x: f32, per: u64, of: u64) -> u32
     }
     // The pattern leaves out the fraction's first binary digit, which is 1.
     let fraction: u32 = bits % 0x80_0000 + 0x80_0000;
-    exact::nearest_unsigned((fraction as u64) * per, of << (150 - exponent)) as u32
+    let doubled: u64 = (fraction as u64) * (2 * per) >> (150 - exponent);
+    (doubled as u32 + of) / (2 * of)
 }
 
-// What was read as n thousandths of x: a trace where x is above zero and n is not. Negative zero is not above zero.
-fn fallen(x: f32, n: u32) -> Answer
-    ensures { λ r. ⌜ outcome r ≡ fallen (aboveZero x) n ⌝ }
+// Whether a number is above zero: negative zero is not.
+fn above_zero(x: f32) -> bool
+    ensures { λ r. ⌜ r ≡ aboveZero x ⌝ }
 {
-    if n == 0 && x > 0.0 {
-        return Answer::Trace;
-    }
-    Answer::Water(n)
+    x > 0.0
 }
 
-// A number of inches. A NaN passes no comparison, so both tests must pass.
+// A number of inches. A NaN passes no comparison, so both tests must pass. What is above zero and comes to no thousandth is a
+// trace.
 fn read_inches(x: f32) -> Answer
     ensures { λ r. ⌜ outcome r ≡ inches x ⌝ }
 {
     if x >= 0.0 && x <= MOST_INCHES {
-        return fallen(x, nearest_to(x, 1000, 1));
+        let n = nearest_to(x, 1000, 1);
+        if n != 0 {
+            return Answer::Water(n);
+        }
+        if above_zero(x) {
+            return Answer::Trace;
+        }
+        return Answer::Water(0);
     }
     Answer::NotAcceptable
 }
@@ -109,7 +124,14 @@ fn read_millimetres(x: f32) -> Answer
     ensures { λ r. ⌜ outcome r ≡ millimetres x ⌝ }
 {
     if x >= 0.0 && x <= MOST_MILLIMETRES {
-        return fallen(x, nearest_to(x, 5000, 127));
+        let n = nearest_to(x, 5000, 127);
+        if n != 0 {
+            return Answer::Water(n);
+        }
+        if above_zero(x) {
+            return Answer::Trace;
+        }
+        return Answer::Water(0);
     }
     Answer::NotAcceptable
 }
@@ -136,48 +158,31 @@ pub fn read(r: Reading) -> Answer
     }
 }
 
-// One month's precipitation and PE that arrive together, each by itself.
-pub fn read_month(q: MonthInches) -> MonthAnswers
-    ensures { λ r. ⌜ outcomes r ≡ month q ⌝ }
-{
-    let p = read_inches(q.p);
-    let pe = read_inches(q.pe);
-    MonthAnswers { p, pe }
-}
-
-// The paper's number of an answer: 0, 8 or 9.
-pub fn number(a: Answer) -> u8
-    ensures { λ r. ⌜ r ≡ outcome a .number ⌝ }
+// An answer as its three numbers.
+pub fn tell(a: Answer) -> Told
+    ensures { λ t. ⌜ toldAs t ≡ outcome a ⌝ }
 {
     match a {
-        Answer::Water(_) => 0,
-        Answer::Trace => 0,
-        Answer::NoReading => NO_READING,
-        Answer::NotAcceptable => BAD_READING,
-    }
-}
-
-// The thousandths of an answer, 0 where it is a trace or a refusal.
-pub fn water(a: Answer) -> u32
-    ensures { λ r. ⌜ r ≡ outcome a .water ⌝ }
-{
-    match a {
-        Answer::Water(n) => n,
-        Answer::Trace => 0,
-        Answer::NoReading => 0,
-        Answer::NotAcceptable => 0,
-    }
-}
-
-// The kind of an answer.
-pub fn kind(a: Answer) -> u8
-    ensures { λ r. ⌜ r ≡ outcome a .kind ⌝ }
-{
-    match a {
-        Answer::Water(n) => kind_of_water(n),
-        Answer::Trace => TRACE,
-        Answer::NoReading => NONE,
-        Answer::NotAcceptable => NONE,
+        Answer::Water(n) => Told {
+            number: 0,
+            kind: kind_of_water(n),
+            water: n,
+        },
+        Answer::Trace => Told {
+            number: 0,
+            kind: TRACE,
+            water: 0,
+        },
+        Answer::NoReading => Told {
+            number: NO_READING,
+            kind: NONE,
+            water: 0,
+        },
+        Answer::NotAcceptable => Told {
+            number: BAD_READING,
+            kind: NONE,
+            water: 0,
+        },
     }
 }
 
@@ -187,12 +192,11 @@ fn kind_of_water(n: u32) -> u8
     if n == 0 { NONE } else { MEASURED }
 }
 
-// The kinds of a month's two answers.
-pub fn kinds(p: Answer, pe: Answer) -> MonthKinds
-    ensures { λ r. ⌜ r ≡ kindsOf (outcome p) (outcome pe) ⌝ }
+// One month's precipitation and PE that arrive together, each by itself.
+pub fn read_month(q: MonthInches) -> MonthTold
+    ensures { λ r. ⌜ toldMonth r ≡ month q ⌝ }
 {
-    MonthKinds {
-        p: kind(p),
-        pe: kind(pe),
-    }
+    let p = tell(read_inches(q.p));
+    let pe = tell(read_inches(q.pe));
+    MonthTold { p, pe }
 }

@@ -4,9 +4,9 @@
 // letter is w (whole thousandths, the first eight digits as an i32), i (inches) or m (millimetres, the first
 // eight as a binary32 pattern), p (one month's two inches), or another (missing). The answer is the paper's
 // number, the thousandths and the kind; for p all three for precipitation and then for PE.
-use door::Answer;
 use door::MonthInches;
 use door::Reading;
+use door::Told;
 use libc::STDIN_FILENO;
 use libc::STDOUT_FILENO;
 ghost use Prim.Native.Nat.{_+_, _≤_, _<_};
@@ -60,12 +60,12 @@ fn signed(bits: u32) -> i32 {
     (bits as i64 - 0x1_0000_0000) as i32
 }
 
-fn show(a: Answer) {
-    io::print_decimal(STDOUT_FILENO, door::number(a) as u64);
+fn show(t: Told) {
+    io::print_decimal(STDOUT_FILENO, t.number as u64);
     io::write_all(STDOUT_FILENO, b" ");
-    io::print_decimal(STDOUT_FILENO, door::water(a) as u64);
+    io::print_decimal(STDOUT_FILENO, t.water as u64);
     io::write_all(STDOUT_FILENO, b" ");
-    io::print_decimal(STDOUT_FILENO, door::kind(a) as u64);
+    io::print_decimal(STDOUT_FILENO, t.kind as u64);
 }
 
 fn answer(kind: u8, first: u32, second: u32) {
@@ -81,13 +81,13 @@ fn answer(kind: u8, first: u32, second: u32) {
         io::write_all(STDOUT_FILENO, b" ");
         show(pe);
     } else if kind == b'w' {
-        show(door::read(Reading::Whole(signed(first))));
+        show(door::tell(door::read(Reading::Whole(signed(first)))));
     } else if kind == b'i' {
-        show(door::read(Reading::Inches(float(first))));
+        show(door::tell(door::read(Reading::Inches(float(first)))));
     } else if kind == b'm' {
-        show(door::read(Reading::Millimetres(float(first))));
+        show(door::tell(door::read(Reading::Millimetres(float(first)))));
     } else {
-        show(door::read(Reading::Missing));
+        show(door::tell(door::read(Reading::Missing)));
     }
     io::write_all(STDOUT_FILENO, b"\n");
 }

@@ -24,7 +24,7 @@ ghost use Rattle.door.specs.Readings.{reading, mostReading};
 ghost use Rattle.starts.specs.Start.{startOf};
 ghost use Rattle.series.specs.Series.{filled, wholeSeries};
 ghost use Rattle.refusals.specs.Book.{book};
-ghost use Rattle.refusals.specs.Lent.{lentLong};
+ghost use Rattle.refusals.specs.Lent.{lentLong, rowNumberFor};
 ghost use Rattle.runs.specs.Progress.{runOf};
 ghost use Rattle.adding.specs.Taken.{result};
 ghost use Rattle.adding.specs.Progress.{addedOf};
@@ -72,8 +72,12 @@ pub fn add_water(
 ) -> Added
     ensures { λ a. ⌜ result a (book (now (x1 .exit)) (now (x2 .exit)) (now (x3 .exit)) (now (index .exit)) (now (mark .exit)) (now (records .exit)) (now (v .exit))) ≡ addWater run p pe (book (now (x1 .entry)) (now (x2 .entry)) (now (x3 .entry)) (now (index .entry)) (now (mark .entry)) (now (records .entry)) (now (v .entry))) ⌝ }
 {
-    let a = door::read(p);
-    let b = door::read(pe);
+    let a = door::tell(door::read(p));
+    let b = door::tell(door::read(pe));
+    let kinds = MonthKinds {
+        p: a.kind,
+        pe: b.kind,
+    };
     let at = runs::progress_of(run);
     let constants = run.constants;
     let n = refusals::lent_length(
@@ -89,10 +93,10 @@ pub fn add_water(
         n,
         at,
         &constants,
-        refusals::reading_refusal(door::number(a), door::number(b)),
-        door::water(a),
-        door::water(b),
-        door::kinds(a, b),
+        refusals::reading_refusal(a.number, b.number),
+        a.water,
+        b.water,
+        kinds,
         x1,
         x2,
         x3,
@@ -121,6 +125,10 @@ pub fn add_inches(
     let both = door::read_month(q);
     let a = both.p;
     let b = both.pe;
+    let kinds = MonthKinds {
+        p: a.kind,
+        pe: b.kind,
+    };
     let at = runs::progress_of(run);
     let constants = run.constants;
     let n = refusals::lent_length(
@@ -136,10 +144,10 @@ pub fn add_inches(
         n,
         at,
         &constants,
-        refusals::reading_refusal(door::number(a), door::number(b)),
-        door::water(a),
-        door::water(b),
-        door::kinds(a, b),
+        refusals::reading_refusal(a.number, b.number),
+        a.water,
+        b.water,
+        kinds,
         x1,
         x2,
         x3,
@@ -258,7 +266,7 @@ pub fn row(
 ) -> Shown
     ensures { λ r. ⌜ r ≡ rowOfRun run i (book (now (x1 .entry)) (now (x2 .entry)) (now (x3 .entry)) (now (index .entry)) (now (mark .entry)) (now (records .entry)) (now (v .entry))) ⌝ }
 {
-    if !refusals::lengths_fit(
+    let fit = refusals::lengths_fit(
         x1.len(),
         x2.len(),
         x3.len(),
@@ -266,12 +274,8 @@ pub fn row(
         mark.len(),
         records.len(),
         v.len(),
-    ) {
-        return not_shown(BAD_LISTS);
-    }
-    let at = runs::progress_of(run);
-    let constants = run.constants;
-    let number = refusals::row_refusal(x1.len(), at, &constants, i, records);
+    );
+    let number = row_number(fit, run, i, records);
     if number != 0 {
         return not_shown(number);
     }
@@ -286,6 +290,18 @@ pub fn row(
         month: kept,
         v: v[i],
     }
+}
+
+// The number of a row, by whether its lists can be lent.
+fn row_number(fit: bool, run: Run, i: usize, records: &[RecordNumbers]) -> u8
+    ensures { λ k. ⌜ k ≡ rowNumberFor fit run i (now (records .entry)) ⌝ }
+{
+    if !fit {
+        return BAD_LISTS;
+    }
+    let at = runs::progress_of(run);
+    let constants = run.constants;
+    refusals::row_refusal(records.len(), at, &constants, i, records)
 }
 
 // A row that is refused: its number, and all else 0.

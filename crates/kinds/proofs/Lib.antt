@@ -1,4 +1,3 @@
--- That a promise allows one answer (OneAnswer), what a reading of no such kind gives (NoKind), and what each kind gives (EachKind).
-pub mod OneAnswer
+-- What a reading of no such kind gives (NoKind), and what each kind gives (EachKind).
 pub mod NoKind
 pub mod EachKind

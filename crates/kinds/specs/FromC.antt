@@ -1,14 +1,12 @@
--- A reading as C hands it in, and its answer as C gets it. Document 01: "A reading is one of four". C's struct carries a kind and both
+-- A reading as C hands it in. Document 01: "A reading is one of four". C's struct carries a kind and both
 -- numbers; its kind says which of the four it is, and a kind of no such number is not acceptable. Assumes nothing.
 use Prim.Native.Nat.{ℕ}
 use mathlib.Core.Bool.{cond}
 use lib.IntN.{negsuc}
 use lib.Dec.{eqb}
-use Rattle.door.specs.Outcome.{Outcome}
 use Rattle.door.specs.declared.Reading.{Reading}
 use Rattle.door.specs.declared.Reading.the-variants.{Whole, Inches, Millimetres, Missing}
 use Rattle.kinds.specs.declared.CReading.{CReading}
-use Rattle.kinds.specs.declared.CAnswer.{CAnswer}
 
 -- the kinds, as include/card.h numbers them
 abbrev pub missingKind : ℕ
@@ -33,7 +31,3 @@ readingOfC g =
     (cond (eqb (g .kind) wholeKind) (Whole (g .whole))
     (cond (eqb (g .kind) inchesKind) (Inches (g .measure))
     (cond (eqb (g .kind) millimetresKind) (Millimetres (g .measure)) noKind)))
-
--- an answer in the paper's terms
-abbrev pub answered : CAnswer → Outcome
-answered a = record { number = a .number; water = a .water; kind = a .kind }

@@ -1,4 +1,4 @@
--- What must be believed beside what `drought` and `season` have: what a reading says that C hands in, and its answer in the paper's terms (FromC);
+-- What must be believed beside what `drought` and `season` have: what a reading says that C hands in (FromC);
 -- and the kinds of a reading, worked out (Worked).
 pub mod FromC
 pub mod Worked

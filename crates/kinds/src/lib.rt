@@ -1,5 +1,5 @@
-// A reading as C has it, and its answer: C has no enum that carries a value, so the one comes in and the other goes out as a
-// struct. specs/FromC.antt says what they mean.
+// A reading as C has it: C has no enum that carries a value, so it comes in as a struct. specs/FromC.antt says what it means. Its
+// answer goes out as `door::Told`.
 //
 // For `card`, which has the calls.
 use door::Reading;
@@ -12,14 +12,6 @@ pub struct CReading {
     pub kind: u32,
     pub whole: i32,
     pub measure: f32,
-}
-
-// A reading's answer: 0, 8 or 9, its kind (none, trace or measured), and thousandths of an inch.
-#[repr(C)]
-pub struct CAnswer {
-    pub number: u8,
-    pub kind: u8,
-    pub water: u32,
 }
 
 // The kinds of a reading. A kind that is none of these is not acceptable.

@@ -8,12 +8,12 @@ use lib.Dec.{ltb}
 use lib.IntN.{ℤ}
 use lib.ListN.{length}
 use Rattle.outline.specs.Numbers.{zFits}
-use Rattle.outline.specs.Refusals.{notARun, noSuchRow, badZ, orElse}
+use Rattle.outline.specs.Refusals.{badLists, notARun, noSuchRow, badZ, orElse}
 use Rattle.outline.proofs.Tests.{if-so}
 use Rattle.runs.specs.declared.Run.{Run}
 use Rattle.refusals.specs.Book.{Book, long, columnsFit}
 use Rattle.refusals.specs.Refusals.{isRunFor, runRefusal, roomRefusal, waterRefusal, zRefusal, rowRefusal}
-use Rattle.refusals.specs.Lent.{lentLength, lentLong, readingRefusal, runRefusalFor, waterRefusalFor, zRefusalFor, rowRefusalFor}
+use Rattle.refusals.specs.Lent.{lentLength, lentLong, readingRefusal, runRefusalFor, waterRefusalFor, zRefusalFor, rowRefusalFor, rowNumberFor}
 use Rattle.refusals.proofs.Refused.{columns-are}
 
 -- two tests in a row, and a third: joined one way or the other
@@ -74,7 +74,7 @@ module _ (cs : Book) where
         ∙ after _ _ (λ f. ap (orElse k) (room-lent f))
 
     -- a row asks whether the lists can be lent by itself
-    pub row-lent : (i : ℕ) → columnsFit cs ≡ true → rowRefusalFor (long cs) r i (cs .records) ≡ rowRefusal r i cs
+    row-lent : (i : ℕ) → columnsFit cs ≡ true → rowRefusalFor (long cs) r i (cs .records) ≡ rowRefusal r i cs
     unfolding rowRefusalFor rowRefusal runRefusal
     row-lent i f = rw f (then (isRunFor (long cs) r (cs .records)) (cond (ltb i (r .months)) 0 noSuchRow))
       where
@@ -82,6 +82,11 @@ module _ (cs : Book) where
         then true k = refl
         then false k = refl
 
-    pub row-not-lent : (i : ℕ) → columnsFit cs ≡ false → rowRefusal r i cs ≡ 1
+    row-not-lent : (i : ℕ) → columnsFit cs ≡ false → rowRefusal r i cs ≡ badLists
     unfolding rowRefusal runRefusal
     row-not-lent i f = rw f
+
+    pub row-number : (i : ℕ) → rowNumberFor (columnsFit cs) r i (cs .records) ≡ rowRefusal r i cs
+    unfolding rowNumberFor
+    row-number i =
+        if-so (columnsFit cs) (λ f. rw (f, columns-are cs f .records-is) (row-lent i f)) (λ f. rw (f, row-not-lent i f))

@@ -1,7 +1,7 @@
 -- A proof's vocabulary, which contracts cite: what Refusals.antt says, by the length of what is lent, 0 where it cannot be, and by the records.
 -- That it is the same is in proofs/Lent.antt. Assumes nothing.
 use Prim.Native.Nat.{ℕ}
-use mathlib.Core.Bool.{cond}
+use mathlib.Core.Bool.{Bool, cond}
 use mathlib.Core.List.{List}
 use lib.IntN.{ℤ}
 use lib.Dec.{eqb, ltb}
@@ -38,3 +38,7 @@ zRefusalFor n r z records = orElse (runRefusalFor n r records) (orElse (cond (zF
 -- a row, of lists that can be lent
 unfoldable pub rowRefusalFor : ℕ → Run → ℕ → List (List ℤ) → ℕ
 rowRefusalFor n r i records = cond (isRunFor n r records) (cond (ltb i (r .months)) 0 noSuchRow) notARun
+
+-- and by whether they can
+unfoldable pub rowNumberFor : Bool → Run → ℕ → List (List ℤ) → ℕ
+rowNumberFor fit r i records = cond fit (rowRefusalFor (length records) r i records) badLists

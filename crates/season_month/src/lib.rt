@@ -3,6 +3,7 @@
 // For the crate `season`, which has asked for 1 and 7: `add_listed` has a `requires`.
 use adding::MonthAdded;
 use door::Answer;
+use door::MonthKinds;
 use door::Reading;
 use outline::MANY_CONSTANTS;
 use records::RecordNumbers;
@@ -39,17 +40,24 @@ pub fn add_listed(
 {
     let first = door::read(reading_of(p));
     let Answer::Water(measured) = first else {
-        return adding::refuse(door::number(first), at);
+        let t = door::tell(first);
+        return adding::refuse(t.number, at);
     };
     let second = door::read(reading_of(pe));
     let Answer::Water(potential) = second else {
-        return adding::refuse(door::number(second), at);
+        let t = door::tell(second);
+        return adding::refuse(t.number, at);
     };
     let full = refusals::room_refusal(x1.len(), at.months);
     if full != 0 {
         return adding::refuse(full, at);
     }
-    let kinds = door::kinds(first, second);
+    let a = door::tell(first);
+    let b = door::tell(second);
+    let kinds = MonthKinds {
+        p: a.kind,
+        pe: b.kind,
+    };
     let soil = at.soil;
     let values = at.values;
     let k = calendar::constants_at(constants, at.calendar);

@@ -1,14 +1,14 @@
--- `door::nearest_to` meets its contract: `proofs/Fields.antt` says what the exponent and the fraction of x's bit pattern are, and the shift
--- loses nothing. Assumes nothing.
-use mathlib.Core.Path.{_≡_, ap, _∙_}
+-- `door::nearest_to` meets its contract: `proofs/Fields.antt` says what the exponent and the fraction of x's bit pattern are, and
+-- `proofs/Places.antt` that one shift is enough. Assumes nothing.
+use mathlib.Core.Path.{_≡_, sym, ap, _∙_}
 use Prim.Native.Nat.{ℕ, _+_, _-_, _*_, _%_, _/_, _^_, _<_, _≤_}
+use native.Mathlib.Nat.{mul-left-comm}
 use native.Mathlib.Omega.{arith}
 use lib.Dec.{T}
-use lib.Pow.{shl-exact}
 use lib.Ieee.{binary32, fits, toBits}
 use borrow.Author.Needs.{needs}
 use Rattle.exact.specs.Nearest.{nearestℕ}
-use Rattle.door.proofs.Places.{all-digits, small-part}
+use Rattle.door.proofs.Places.{all-digits, by-halves, shifted-lt}
 use Rattle.door.proofs.Range.{is-no-nan}
 use Rattle.door.proofs.Fields.{exponent-le, normal, tiny}
 use Rattle.door.proofs.nearest_to.Statement.{statement}
@@ -29,17 +29,20 @@ returns c =
 add-fraction : tie.Need-add-fraction
 add-fraction c = search needs
 
-cast-nearest-unsigned : tie.Need-cast-nearest-unsigned
-cast-nearest-unsigned c = search needs
+cast-doubled : tie.Need-cast-doubled
+cast-doubled c = search needs
 
--- the exponent, and the fraction times per
+mul-doubled : tie.Need-mul-doubled
+mul-doubled c = search needs
+
+-- the exponent, the fraction, and the fraction times per
 abbrev exponent : tie.Else1 → ℕ
 exponent c = toBits binary32 (c .before .args .x) % 2147483648 / 8388608
 
-abbrev num : tie.Else1 → ℕ
-num c = (toBits binary32 (c .before .args .x) % 8388608 + 8388608) * c .before .args .per
+abbrev fraction : tie.Else1 → ℕ
+fraction c = toBits binary32 (c .before .args .x) % 8388608 + 8388608
 
-num-lt : (c : tie.Else1) → num c < 2 ^ 37
+num-lt : (c : tie.Else1) → fraction c * c .before .args .per < 2 ^ 37
 num-lt c = all-digits (toBits binary32 (c .before .args .x)) (c .before .args .per) (c .before .pre .1)
 
 above : (c : tie.Else1) → exponent c ≡ 0 → ⊥
@@ -51,43 +54,59 @@ above c = go (exponent c) (c .if1 .left)
 top : (c : tie.Else1) → exponent c ≤ 138
 top c = exponent-le (c .before .args .x) (held (c .before)) (c .before .pre .0) (above c)
 
-mul-nearest-unsigned : tie.Need-mul-nearest-unsigned
-mul-nearest-unsigned c = omega (arith, num-lt c)
+-- twice that, and what is left of it after the shift
+twice : (c : tie.Else1) → fraction c * (2 * c .before .args .per) ≡ 2 * (fraction c * c .before .args .per)
+twice c = mul-left-comm (fraction c) 2 (c .before .args .per)
 
-sub-nearest-unsigned : tie.Need-sub-nearest-unsigned
-sub-nearest-unsigned c = omega (arith, top c)
+mul-doubled-2 : tie.Need-mul-doubled-2
+mul-doubled-2 c = omega (arith, num-lt c, twice c)
 
-cast-nearest-unsigned-2 : tie.Need-cast-nearest-unsigned-2
-cast-nearest-unsigned-2 c = search needs
+sub-doubled : tie.Need-sub-doubled
+sub-doubled c = omega (arith, top c)
 
-shl-nearest-unsigned : tie.Need-shl-nearest-unsigned
-shl-nearest-unsigned c = search needs
+cast-doubled-2 : tie.Need-cast-doubled-2
+cast-doubled-2 c = search needs
 
-nearest-unsigned-requires : tie.Need-nearest-unsigned-requires
-nearest-unsigned-requires c κs = search needs
+shr-doubled : tie.Need-shr-doubled
+shr-doubled c = search needs
 
--- the shift, by 50 places at most, is the power of two that it stands for
-divided : (c : tie.After-nearest-unsigned) → c .nearest-unsigned .result ≡ nearestℕ (num (c .before)) (c .before .before .args .of * 2 ^ (150 - exponent (c .before)))
-divided c =
-    let e = c .before in
-    c .nearest-unsigned .ensures
-    ∙ ap (nearestℕ (num e)) (shl-exact 13 (150 - exponent e) 64 (few (e .before .args .of) (e .before .pre .3)) (room (exponent e) (e .if1 .left)))
-  where
-    few : (k : ℕ) → k ≤ 5000 → k < 2 ^ 13
-    few k h = omega arith
-
-    room : (k : ℕ) → 100 ≤ k → 13 + (150 - k) ≤ 64
-    room k h = omega arith
+few : (c : tie.Else1) → fraction c * (2 * c .before .args .per) / 2 ^ (150 - exponent c) < 2 ^ 26
+few c = rw (twice c) (shifted-lt (fraction c * c .before .args .per) (150 - exponent c) (num-lt c) (omega (arith, top c)))
 
 cast-result : tie.Need-cast-result
-cast-result c =
-    let e = c .before in
-    record { fits = rw (divided c) (small-part (num e) (e .before .args .of) (150 - exponent e) (num-lt e) (e .before .pre .2) (omega (arith, top e))) }
+cast-result c = omega (arith, few c)
+
+add-result : tie.Need-add-result
+add-result c = omega (arith, few c, c .before .pre .3)
+
+mul-result : tie.Need-mul-result
+mul-result c = search needs
+
+div-result : tie.Need-div-result
+div-result c = search needs
 
 returns-2 : tie.Need-returns-2
 returns-2 c =
-    let s = c .before .before in
-    divided c ∙ normal (s .args .x) (held s) (s .pre .0) (s .args .per) (s .args .of) (s .pre .2) (above (c .before))
+    let s = c .before in
+    ap (λ (n : ℕ). (n / 2 ^ (150 - exponent c) + s .args .of) / (2 * s .args .of)) (twice c)
+    ∙ sym (by-halves (fraction c * s .args .per) (s .args .of) (150 - exponent c))
+    ∙ normal (s .args .x) (held s) (s .pre .0) (s .args .per) (s .args .of) (s .pre .2) (above c)
 
 pub nearest-to-spec : {M : Type 1} → statement M
-nearest-to-spec = tie.close (tie.spec float-to-bits-bits returns add-fraction cast-nearest-unsigned mul-nearest-unsigned sub-nearest-unsigned cast-nearest-unsigned-2 shl-nearest-unsigned nearest-unsigned-requires cast-result returns-2)
+nearest-to-spec =
+    tie.close
+    (tie.spec
+    float-to-bits-bits
+    returns
+    add-fraction
+    cast-doubled
+    mul-doubled
+    mul-doubled-2
+    sub-doubled
+    cast-doubled-2
+    shr-doubled
+    cast-result
+    add-result
+    mul-result
+    div-result
+    returns-2)

@@ -10,6 +10,12 @@ read-inches-requires c κs = search needs
 read-inches-requires-2 : tie.Need-read-inches-requires-2
 read-inches-requires-2 c κs = search needs
 
+tell-requires : tie.Need-tell-requires
+tell-requires c κs = search needs
+
+tell-requires-2 : tie.Need-tell-requires-2
+tell-requires-2 c κs = search needs
+
 returns : tie.Need-returns
 unfolding month
 returns c = cc
@@ -17,4 +23,4 @@ returns c = cc
 pub read-month-spec : {M : Type 1} → statement M
 read-month-spec =
     tie.close
-    (tie.spec read-inches-requires read-inches-requires-2 returns)
+    (tie.spec read-inches-requires tell-requires read-inches-requires-2 tell-requires-2 returns)

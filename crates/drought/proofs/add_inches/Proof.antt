@@ -1,8 +1,8 @@
--- `drought::add_inches` meets its contract: the month's two answers, what is lent measured, and then `try_water`. Assumes nothing.
+-- `drought::add_inches` meets its contract: the month's two answers in numbers, what is lent measured, and then `try_water`. Assumes nothing.
 use mathlib.Core.Path.{_≡_, ap}
 use borrow.Author.Needs.{needs}
 use denote.Ref.{now}
-use Rattle.door.specs.Outcome.{MonthOutcomes, outcome}
+use Rattle.door.specs.Outcome.{MonthOutcomes, Outcome, toldAs}
 use Rattle.door.specs.Readings.{month}
 use Rattle.door.proofs.Bounds.{inches-most}
 use Rattle.refusals.specs.Book.{Book, book}
@@ -18,10 +18,10 @@ read-month-requires : tie.Need-read-month-requires
 read-month-requires c κs = search needs
 
 -- each of the two
-first : (c : tie.After-read-month) → outcome (c .read-month .result .p) ≡ month (c .before .before .args .q) .p
+first : (c : tie.After-read-month) → toldAs (c .read-month .result .p) ≡ month (c .before .before .args .q) .p
 first c = ap (λ (m : MonthOutcomes). m .p) (c .read-month .ensures)
 
-second : (c : tie.After-read-month) → outcome (c .read-month .result .pe) ≡ month (c .before .before .args .q) .pe
+second : (c : tie.After-read-month) → toldAs (c .read-month .result .pe) ≡ month (c .before .before .args .q) .pe
 second c = ap (λ (m : MonthOutcomes). m .pe) (c .read-month .ensures)
 
 progress-of-requires : tie.Need-progress-of-requires
@@ -30,32 +30,16 @@ progress-of-requires c κs = search needs
 lent-length-requires : tie.Need-lent-length-requires
 lent-length-requires c κs = search needs
 
-number-requires : tie.Need-number-requires
-number-requires c κs = search needs
-
-number-requires-2 : tie.Need-number-requires-2
-number-requires-2 c κs = search needs
-
 reading-refusal-requires : tie.Need-reading-refusal-requires
 reading-refusal-requires c κs = search needs
-
-water-requires : tie.Need-water-requires
-water-requires c κs = search needs
-
-water-requires-2 : tie.Need-water-requires-2
-water-requires-2 c κs = search needs
-
-kinds-requires : tie.Need-kinds-requires
-kinds-requires c κs = search needs
 
 try-water-requires : tie.Need-try-water-requires
 unfolding month
 try-water-requires c κs =
-    let w = c .before .before .before .before .before .before .before .before in
-    let n = w .before .before .before .before .before .before in
-    let d = n .before .before .before in
+    let n = c .before .before .before .before .before .before .before .before .before in
+    let d = n .before .before .before .before .before in
     let q = d .before .before .args .q in
-    (n .lent-length .ensures, (rw (w .before .water .ensures, first d) (inches-most (q .p)), rw (w .water2 .ensures, second d) (inches-most (q .pe))))
+    (n .lent-length .ensures, (rw (ap (λ (o : Outcome). o .water) (first d)) (inches-most (q .p)), rw (ap (λ (o : Outcome). o .water) (second d)) (inches-most (q .pe))))
 
 answer-of-requires : tie.Need-answer-of-requires
 answer-of-requires c κs = search needs
@@ -85,16 +69,15 @@ returns : tie.Need-returns
 unfolding addInches
 returns c =
     let t = c .before .before .before .before .before .before .before .before .before in
-    let j = t .before .before .before .before .before .before .before .before in
-    let w = j .before in
-    let k = w .before .before in
-    let n = k .before in
-    let o = n .before .before .before .before .before in
-    let d = o .before in
+    let k = t .before .before .before .before .before .before .before .before in
+    let o = k .before .before .before .before in
+    let d = o .before .before .before in
     let s = d .before .before in
-    let a = s .args in
-    rw (c .answer-of .ensures, ← joined (a .run) (month (a .q) .p) (month (a .q) .pe) (lent s))
-    (rw (j .kinds .ensures, o .progress-of .ensures, k .reading-refusal .ensures, n .before .number .ensures, n .number2 .ensures, w .before .water .ensures, w .water2 .ensures, first d, second d) at (t .try-water .ensures))
+    let g = s .args in
+    let e = first d in
+    let f = second d in
+    rw (c .answer-of .ensures, ← joined (g .run) (month (g .q) .p) (month (g .q) .pe) (lent s))
+    (rw (o .progress-of .ensures, k .reading-refusal .ensures, ap (λ (o : Outcome). o .number) e, ap (λ (o : Outcome). o .number) f, ap (λ (o : Outcome). o .water) e, ap (λ (o : Outcome). o .water) f, ap (λ (o : Outcome). o .kind) e, ap (λ (o : Outcome). o .kind) f) at (t .try-water .ensures))
 
 pub add-inches-spec : {M : Type 1} → statement M
 add-inches-spec =
@@ -103,12 +86,7 @@ add-inches-spec =
     read-month-requires
     progress-of-requires
     lent-length-requires
-    number-requires
-    number-requires-2
     reading-refusal-requires
-    water-requires
-    water-requires-2
-    kinds-requires
     try-water-requires
     answer-of-requires
     same-length

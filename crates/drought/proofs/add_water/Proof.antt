@@ -1,6 +1,8 @@
--- `drought::add_water` meets its contract: the two readings' answers, what is lent measured, and then `try_water`. Assumes nothing.
+-- `drought::add_water` meets its contract: the two readings' answers in numbers, what is lent measured, and then `try_water`. Assumes nothing.
+use mathlib.Core.Path.{_≡_, ap, _∙_}
 use borrow.Author.Needs.{needs}
 use denote.Ref.{now}
+use Rattle.door.specs.Outcome.{Outcome, toldAs}
 use Rattle.door.specs.Readings.{reading}
 use Rattle.door.proofs.Bounds.{reading-most}
 use Rattle.refusals.specs.Book.{Book, book}
@@ -15,8 +17,21 @@ lent s = let a = s .args in book (now (a .x1)) (now (a .x2)) (now (a .x3)) (now 
 read-requires : tie.Need-read-requires
 read-requires c κs = search needs
 
+tell-requires : tie.Need-tell-requires
+tell-requires c κs = search needs
+
 read-requires-2 : tie.Need-read-requires-2
 read-requires-2 c κs = search needs
+
+tell-requires-2 : tie.Need-tell-requires-2
+tell-requires-2 c κs = search needs
+
+-- each of the two
+first : (c : tie.After-tell) → toldAs (c .tell .result) ≡ reading (c .before .before .before .args .p)
+first c = c .tell .ensures ∙ c .before .read .ensures
+
+second : (c : tie.After-tell2) → toldAs (c .tell2 .result) ≡ reading (c .before .before .before .before .before .args .pe)
+second c = c .tell2 .ensures ∙ c .before .read2 .ensures
 
 progress-of-requires : tie.Need-progress-of-requires
 progress-of-requires c κs = search needs
@@ -24,31 +39,16 @@ progress-of-requires c κs = search needs
 lent-length-requires : tie.Need-lent-length-requires
 lent-length-requires c κs = search needs
 
-number-requires : tie.Need-number-requires
-number-requires c κs = search needs
-
-number-requires-2 : tie.Need-number-requires-2
-number-requires-2 c κs = search needs
-
 reading-refusal-requires : tie.Need-reading-refusal-requires
 reading-refusal-requires c κs = search needs
 
-water-requires : tie.Need-water-requires
-water-requires c κs = search needs
-
-water-requires-2 : tie.Need-water-requires-2
-water-requires-2 c κs = search needs
-
-kinds-requires : tie.Need-kinds-requires
-kinds-requires c κs = search needs
-
 try-water-requires : tie.Need-try-water-requires
 try-water-requires c κs =
-    let w = c .before .before .before .before .before .before .before .before in
-    let n = w .before .before .before .before .before .before in
-    let d = n .before .before .before in
-    let a = d .before .before .before .args in
-    (n .lent-length .ensures, (rw (w .before .water .ensures, d .before .read .ensures) (reading-most (a .p)), rw (w .water2 .ensures, d .read2 .ensures) (reading-most (a .pe))))
+    let n = c .before .before .before .before .before .before .before .before .before in
+    let b = n .before .before .before in
+    let a = b .before .before in
+    let g = a .before .before .before .args in
+    (n .lent-length .ensures, (rw (ap (λ (o : Outcome). o .water) (first a)) (reading-most (g .p)), rw (ap (λ (o : Outcome). o .water) (second b)) (reading-most (g .pe))))
 
 answer-of-requires : tie.Need-answer-of-requires
 answer-of-requires c κs = search needs
@@ -78,31 +78,28 @@ returns : tie.Need-returns
 unfolding addWater
 returns c =
     let t = c .before .before .before .before .before .before .before .before .before in
-    let j = t .before .before .before .before .before .before .before .before in
-    let w = j .before in
-    let k = w .before .before in
-    let n = k .before in
-    let o = n .before .before .before .before .before in
-    let d = o .before in
-    let s = d .before .before .before in
-    let a = s .args in
-    rw (c .answer-of .ensures, ← joined (a .run) (reading (a .p)) (reading (a .pe)) (lent s))
-    (rw (j .kinds .ensures, o .progress-of .ensures, k .reading-refusal .ensures, n .before .number .ensures, n .number2 .ensures, w .before .water .ensures, w .water2 .ensures, d .before .read .ensures, d .read2 .ensures) at (t .try-water .ensures))
+    let k = t .before .before .before .before .before .before .before .before in
+    let o = k .before .before .before .before in
+    let b = o .before in
+    let a = b .before .before in
+    let s = a .before .before .before in
+    let g = s .args in
+    let e = first a in
+    let f = second b in
+    rw (c .answer-of .ensures, ← joined (g .run) (reading (g .p)) (reading (g .pe)) (lent s))
+    (rw (o .progress-of .ensures, k .reading-refusal .ensures, ap (λ (o : Outcome). o .number) e, ap (λ (o : Outcome). o .number) f, ap (λ (o : Outcome). o .water) e, ap (λ (o : Outcome). o .water) f, ap (λ (o : Outcome). o .kind) e, ap (λ (o : Outcome). o .kind) f) at (t .try-water .ensures))
 
 pub add-water-spec : {M : Type 1} → statement M
 add-water-spec =
     tie.close
     (tie.spec
     read-requires
+    tell-requires
     read-requires-2
+    tell-requires-2
     progress-of-requires
     lent-length-requires
-    number-requires
-    number-requires-2
     reading-refusal-requires
-    water-requires
-    water-requires-2
-    kinds-requires
     try-water-requires
     answer-of-requires
     same-length

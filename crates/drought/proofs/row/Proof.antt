@@ -1,6 +1,5 @@
--- `drought::row` meets its contract: whether the lists can be lent, its number is the definition's, and then what they hold. Assumes nothing.
+-- `drought::row` meets its contract: its number is the definition's, and then it shows what the lists hold. Assumes nothing.
 use mathlib.Core.Path.{_≡_, sym, ap, _∙_}
-use mathlib.Core.Bool.{true}
 use Prim.Native.Nat.{ℕ, _<_}
 use native.Mathlib.Omega.{arith}
 use borrow.Author.Needs.{needs}
@@ -13,11 +12,10 @@ use denote.Ref.{now}
 use Rattle.outline.specs.Numbers.{mostMonths}
 use Rattle.outline.specs.Refusals.{unlessRefused}
 use Rattle.outline.proofs.Refusals.{is-refused}
-use Rattle.outline.proofs.Tests.{fails, passes}
-use Rattle.refusals.specs.Book.{Book, book, columnsFit}
+use Rattle.refusals.specs.Book.{Book, book}
 use Rattle.refusals.specs.Refusals.{rowRefusal}
 use Rattle.refusals.proofs.Refused.{row-passes, columns-are}
-use Rattle.refusals.proofs.Lent.{row-lent, row-not-lent}
+use Rattle.refusals.proofs.Lent.{row-number}
 use Rattle.adding.proofs.Readiness.{run-is}
 use Rattle.drought.specs.Calls.{rowOfRun, shown, notShown}
 use Rattle.drought.specs.declared.Shown.{Shown}
@@ -30,54 +28,31 @@ lent s = let a = s .args in book (now (a .x1)) (now (a .x2)) (now (a .x3)) (now 
 lengths-fit-requires : tie.Need-lengths-fit-requires
 lengths-fit-requires c κs = search needs
 
-not-shown-requires : tie.Need-not-shown-requires
-not-shown-requires c κs = search needs
+row-number-requires : tie.Need-row-number-requires
+row-number-requires c κs = search needs
 
 -- what is shown by a number
 abbrev by : tie.Start → ℕ → Shown
 by s k = unlessRefused k (shown (s .args .i) (lent s)) (notShown k)
 
+-- what was handed in, and the number is the definition's
+abbrev entered : tie.After-row-number → tie.Start
+entered c = c .before .before .before
+
+number-is : (c : tie.After-row-number) → c .row-number .result ≡ rowRefusal (entered c .args .run) (entered c .args .i) (lent (entered c))
+number-is c =
+    let s = entered c in
+    rw (← row-number (lent s) (s .args .run) (s .args .i)) (rw (c .before .lengths-fit .ensures) at (c .row-number .ensures))
+
+not-shown-requires : tie.Need-not-shown-requires
+not-shown-requires c κs = search needs
+
 returns : tie.Need-returns
 unfolding rowOfRun
 returns c =
-    let e = c .before in
-    let s = e .before .before .before in
-    c .not-shown .ensures ∙ ap (by s) (sym (row-not-lent (lent s) (s .args .run) (s .args .i) (fails {u = columnsFit (lent s)} (e .before .lengths-fit .ensures) (e .if1 .taken))))
-
-progress-of-requires : tie.Need-progress-of-requires
-progress-of-requires c κs = search needs
-
--- what was handed in, and the lists can be lent
-abbrev given : tie.Else1 → tie.Start
-given e = e .before .before .before
-
-fit : (e : tie.Else1) → columnsFit (lent (given e)) ≡ true
-fit e = passes (e .before .lengths-fit .ensures) (e .if1 .left)
-
-row-refusal-requires : tie.Need-row-refusal-requires
-row-refusal-requires c κs = let e = c .before .before .before in omega (arith, columns-are (lent (given e)) (fit e) .records-is)
-
--- the number is the definition's
-abbrev lends : tie.After-row-refusal → tie.Else1
-lends c = c .before .before .before .before
-
-abbrev entered : tie.After-row-refusal → tie.Start
-entered c = given (lends c)
-
-number-is : (c : tie.After-row-refusal) → c .row-refusal .result ≡ rowRefusal (entered c .args .run) (entered c .args .i) (lent (entered c))
-number-is c =
-    let s = entered c in
-    rw (← row-lent (lent s) (s .args .run) (s .args .i) (fit (lends c))) (rw (c .before .before .before .progress-of .ensures) at (c .row-refusal .ensures))
-
-not-shown-requires-2 : tie.Need-not-shown-requires-2
-not-shown-requires-2 c κs = search needs
-
-returns-2 : tie.Need-returns-2
-unfolding rowOfRun
-returns-2 c =
     let d = c .before .before in
     let s = entered d in
-    c .not-shown2 .ensures ∙ sym (is-refused (d .row-refusal .result) (shown (s .args .i) (lent s)) (notShown (d .row-refusal .result)) (c .before .if2 .taken)) ∙ ap (by s) (number-is d)
+    c .not-shown .ensures ∙ sym (is-refused (d .row-number .result) (shown (s .args .i) (lent s)) (notShown (d .row-number .result)) (c .before .if1 .taken)) ∙ ap (by s) (number-is d)
 
 -- the place is below each length, and so below the limit
 abbrev Inside : tie.Start → Type 0
@@ -91,11 +66,11 @@ Inside s =
     × (s .args .i < length (now (s .args .v)))
     × (s .args .i < mostMonths)
 
-inside : (c : tie.Else2) → Inside (entered (c .before))
+inside : (c : tie.Else1) → Inside (entered (c .before))
 inside c =
     let s = entered (c .before) in
     let cs = lent s in
-    let p = row-passes (s .args .run) cs (s .args .i) (sym (number-is (c .before)) ∙ c .if2 .left) in
+    let p = row-passes (s .args .run) cs (s .args .i) (sym (number-is (c .before)) ∙ c .if1 .left) in
     let l = columns-are cs (p .0 .fit) in
     let m = run-is (s .args .run) cs (p .0) .months in
     omega arith
@@ -103,75 +78,72 @@ inside c =
 record-at-requires : tie.Need-record-at-requires
 record-at-requires c κs = inside c .5
 
-mul-t15 : tie.Need-mul-t15
-mul-t15 c = let h = inside (c .before) in omega arith
+mul-t13 : tie.Need-mul-t13
+mul-t13 c = let h = inside (c .before) in omega arith
 
-shared-slice-copy-out-t25 : tie.Need-shared-slice-copy-out-t25
-shared-slice-copy-out-t25 c = let h = inside (c .before) in omega arith
+shared-slice-copy-out-t22 : tie.Need-shared-slice-copy-out-t22
+shared-slice-copy-out-t22 c = let h = inside (c .before) in omega arith
 
-mul-t16 : tie.Need-mul-t16
-mul-t16 c = let h = inside (c .before .before) in omega arith
+mul-t14 : tie.Need-mul-t14
+mul-t14 c = let h = inside (c .before .before) in omega arith
 
-shared-slice-copy-out-t27 : tie.Need-shared-slice-copy-out-t27
-shared-slice-copy-out-t27 c = let h = inside (c .before .before) in omega arith
-
-mul-t21 : tie.Need-mul-t21
-mul-t21 c = let h = inside (c .before .before .before) in omega arith
-
-shared-slice-copy-out-t29 : tie.Need-shared-slice-copy-out-t29
-shared-slice-copy-out-t29 c = let h = inside (c .before .before .before) in omega arith
-
-mul-t20 : tie.Need-mul-t20
-mul-t20 c = let h = inside (c .before .before .before .before) in omega arith
-
-shared-slice-copy-out-t31 : tie.Need-shared-slice-copy-out-t31
-shared-slice-copy-out-t31 c = let h = inside (c .before .before .before .before) in omega arith
-
-shared-slice-read-t33 : tie.Need-shared-slice-read-t33
-shared-slice-read-t33 c = let h = inside (c .before .before .before .before .before .before) in omega arith
+shared-slice-copy-out-t24 : tie.Need-shared-slice-copy-out-t24
+shared-slice-copy-out-t24 c = let h = inside (c .before .before) in omega arith
 
 mul-t19 : tie.Need-mul-t19
-mul-t19 c = let h = inside (c .before .before .before .before .before .before) in omega arith
+mul-t19 c = let h = inside (c .before .before .before) in omega arith
 
-shared-slice-copy-out-t35 : tie.Need-shared-slice-copy-out-t35
-shared-slice-copy-out-t35 c = let h = inside (c .before .before .before .before .before .before) in omega arith
+shared-slice-copy-out-t26 : tie.Need-shared-slice-copy-out-t26
+shared-slice-copy-out-t26 c = let h = inside (c .before .before .before) in omega arith
 
-returns-3 : tie.Need-returns-3
+mul-t18 : tie.Need-mul-t18
+mul-t18 c = let h = inside (c .before .before .before .before) in omega arith
+
+shared-slice-copy-out-t28 : tie.Need-shared-slice-copy-out-t28
+shared-slice-copy-out-t28 c = let h = inside (c .before .before .before .before) in omega arith
+
+shared-slice-read-t30 : tie.Need-shared-slice-read-t30
+shared-slice-read-t30 c = let h = inside (c .before .before .before .before .before .before) in omega arith
+
+mul-t17 : tie.Need-mul-t17
+mul-t17 c = let h = inside (c .before .before .before .before .before .before) in omega arith
+
+shared-slice-copy-out-t32 : tie.Need-shared-slice-copy-out-t32
+shared-slice-copy-out-t32 c = let h = inside (c .before .before .before .before .before .before) in omega arith
+
+returns-2 : tie.Need-returns-2
 unfolding rowOfRun
-returns-3 c =
+returns-2 c =
     let t = c .before .before in
     let k = t .before .before .before .before in
     let e = k .before in
     let s = entered (e .before) in
     let i = s .args .i in
-    let f1 : SFits w32 (getD (now (s .args .x1)) i (pos 0)) = record { sfits = t .before .before .before .t25 .given } in
-    let f2 : SFits w32 (getD (now (s .args .x2)) i (pos 0)) = record { sfits = t .before .before .t27 .given } in
-    let f3 : SFits w32 (getD (now (s .args .x3)) i (pos 0)) = record { sfits = t .before .t29 .given } in
-    let f4 : SFits w32 (getD (now (s .args .index)) i (pos 0)) = record { sfits = t .t31 .given } in
-    let f5 : SFits w64 (getD (now (s .args .v)) i (pos 0)) = record { sfits = c .t35 .given } in
-    rw (toZ-ofZ f1, toZ-ofZ f2, toZ-ofZ f3, toZ-ofZ f4, toZ-ofZ f5, k .record-at .ensures) (ap (by s) (sym (e .if2 .left) ∙ number-is (e .before)))
+    let f1 : SFits w32 (getD (now (s .args .x1)) i (pos 0)) = record { sfits = t .before .before .before .t22 .given } in
+    let f2 : SFits w32 (getD (now (s .args .x2)) i (pos 0)) = record { sfits = t .before .before .t24 .given } in
+    let f3 : SFits w32 (getD (now (s .args .x3)) i (pos 0)) = record { sfits = t .before .t26 .given } in
+    let f4 : SFits w32 (getD (now (s .args .index)) i (pos 0)) = record { sfits = t .t28 .given } in
+    let f5 : SFits w64 (getD (now (s .args .v)) i (pos 0)) = record { sfits = c .t32 .given } in
+    rw (toZ-ofZ f1, toZ-ofZ f2, toZ-ofZ f3, toZ-ofZ f4, toZ-ofZ f5, k .record-at .ensures) (ap (by s) (sym (e .if1 .left) ∙ number-is (e .before)))
 
 pub row-spec : {M : Type 1} → statement M
 row-spec =
     tie.close
     (tie.spec
     lengths-fit-requires
+    row-number-requires
     not-shown-requires
     returns
-    progress-of-requires
-    row-refusal-requires
-    not-shown-requires-2
-    returns-2
     record-at-requires
-    mul-t15
-    shared-slice-copy-out-t25
-    mul-t16
-    shared-slice-copy-out-t27
-    mul-t21
-    shared-slice-copy-out-t29
-    mul-t20
-    shared-slice-copy-out-t31
-    shared-slice-read-t33
+    mul-t13
+    shared-slice-copy-out-t22
+    mul-t14
+    shared-slice-copy-out-t24
     mul-t19
-    shared-slice-copy-out-t35
-    returns-3)
+    shared-slice-copy-out-t26
+    mul-t18
+    shared-slice-copy-out-t28
+    shared-slice-read-t30
+    mul-t17
+    shared-slice-copy-out-t32
+    returns-2)

@@ -44,11 +44,11 @@ first-is d =
     let f = d .before .before .before .fits .p in
     rw (d .before .reading-of .ensures, toZ-ofZ f) at (d .read .ensures)
 
-first-refused : (n : tie.After-number) → n .number .result ≡ reading (listed (n .before .before .before .before .before .args .p)) .number
-first-refused n = n .number .ensures ∙ ap (λ (o : Outcome). o .number) (first-is (n .before .before))
+first-refused : (n : tie.After-tell) → n .tell .result .number ≡ reading (listed (n .before .before .before .before .before .args .p)) .number
+first-refused n = ap (λ (o : Outcome). o .number) (n .tell .ensures ∙ first-is (n .before .before))
 
-first-no : (n : tie.After-number) → n .number .result ≡ 0 → ⊥
-first-no n z = let d = n .before .before in not-water (d .read .result) (d .before .before .before .args .p) (first-is d) (n .before .match .keys2) (sym (n .number .ensures) ∙ z)
+first-no : (n : tie.After-tell) → n .tell .result .number ≡ 0 → ⊥
+first-no n z = let d = n .before .before in not-water (d .read .result) (d .before .before .before .args .p) (first-is d) (n .before .match .keys2) (sym (ap (λ (o : Outcome). o .number) (n .tell .ensures)) ∙ z)
 
 first-water : (k : tie.After-first) → reading (listed (k .before .before .before .before .before .args .p)) ≡ accepted (k .first .given .0 .0)
 first-water k = sym (first-is (k .before .before)) ∙ ap outcome (k .first .given .1)
@@ -59,11 +59,11 @@ second-is d =
     let f = d .before .before .before .before .before .before .before .before .fits .pe in
     rw (d .before .reading-of2 .ensures, toZ-ofZ f) at (d .read2 .ensures)
 
-second-refused : (n : tie.After-number2) → n .number2 .result ≡ reading (listed (n .before .before .before .before .before .before .before .before .before .before .args .pe)) .number
-second-refused n = n .number2 .ensures ∙ ap (λ (o : Outcome). o .number) (second-is (n .before .before))
+second-refused : (n : tie.After-tell2) → n .tell2 .result .number ≡ reading (listed (n .before .before .before .before .before .before .before .before .before .before .args .pe)) .number
+second-refused n = ap (λ (o : Outcome). o .number) (n .tell2 .ensures ∙ second-is (n .before .before))
 
-second-no : (n : tie.After-number2) → n .number2 .result ≡ 0 → ⊥
-second-no n z = let d = n .before .before in not-water (d .read2 .result) (d .before .before .before .before .before .before .before .before .args .pe) (second-is d) (n .before .match2 .keys2) (sym (n .number2 .ensures) ∙ z)
+second-no : (n : tie.After-tell2) → n .tell2 .result .number ≡ 0 → ⊥
+second-no n z = let d = n .before .before in not-water (d .read2 .result) (d .before .before .before .before .before .before .before .before .args .pe) (second-is d) (n .before .match2 .keys2) (sym (ap (λ (o : Outcome). o .number) (n .tell2 .ensures)) ∙ z)
 
 second-water : (k : tie.After-second) → reading (listed (k .before .before .before .before .before .before .before .before .before .before .args .pe)) ≡ accepted (k .second .given .0 .0)
 second-water k = sym (second-is (k .before .before)) ∙ ap outcome (k .second .given .1)
@@ -86,8 +86,8 @@ read-requires c κs = search needs
 enum-known-first : tie.Need-enum-known-first
 enum-known-first c = search needs
 
-number-requires : tie.Need-number-requires
-number-requires c κs = search needs
+tell-requires : tie.Need-tell-requires
+tell-requires c κs = search needs
 
 refuse-requires : tie.Need-refuse-requires
 refuse-requires c κs = search needs
@@ -97,7 +97,7 @@ returns c =
     let n = c .before in
     let s = n .before .before .before .before .before in
     let e = first-refused n in
-    refused-as (s .args .at) (now (s .args .constants)) (listed (s .args .p)) (listed (s .args .pe)) (lent s) (s .pre) (n .number .result) (e ∙ sym (or-first _ _ (λ z. first-no n (e ∙ z)))) (first-no n) (c .refuse .result) (c .refuse .ensures)
+    refused-as (s .args .at) (now (s .args .constants)) (listed (s .args .p)) (listed (s .args .pe)) (lent s) (s .pre) (n .tell .result .number) (e ∙ sym (or-first _ _ (λ z. first-no n (e ∙ z)))) (first-no n) (c .refuse .result) (c .refuse .ensures)
 
 reading-of-requires-2 : tie.Need-reading-of-requires-2
 reading-of-requires-2 c κs = search needs
@@ -108,8 +108,8 @@ read-requires-2 c κs = search needs
 enum-known-second : tie.Need-enum-known-second
 enum-known-second c = search needs
 
-number-requires-2 : tie.Need-number-requires-2
-number-requires-2 c κs = search needs
+tell-requires-2 : tie.Need-tell-requires-2
+tell-requires-2 c κs = search needs
 
 refuse-requires-2 : tie.Need-refuse-requires-2
 refuse-requires-2 c κs = search needs
@@ -121,7 +121,7 @@ returns-2 c =
     let s = k .before .before .before .before .before .before in
     let e = second-refused n in
     let z = ap (λ (o : Outcome). o .number) (first-water (k .before)) in
-    refused-as (s .args .at) (now (s .args .constants)) (listed (s .args .p)) (listed (s .args .pe)) (lent s) (s .pre) (n .number2 .result) (e ∙ sym (or-first _ _ (λ z. second-no n (e ∙ z))) ∙ sym (or-second _ _ z)) (second-no n) (c .refuse2 .result) (c .refuse2 .ensures)
+    refused-as (s .args .at) (now (s .args .constants)) (listed (s .args .p)) (listed (s .args .pe)) (lent s) (s .pre) (n .tell2 .result .number) (e ∙ sym (or-first _ _ (λ z. second-no n (e ∙ z))) ∙ sym (or-second _ _ z)) (second-no n) (c .refuse2 .result) (c .refuse2 .ensures)
 
 room-refusal-requires : tie.Need-room-refusal-requires
 room-refusal-requires c κs = search needs
@@ -168,32 +168,38 @@ placed-is e = let s = asked (e .before) in placed (given s) (lent s) (s .pre) (r
 watered-is : (e : tie.Else1) → Watered (given (asked (e .before)))
 watered-is e = let s = asked (e .before) in watered (given s) (lent s) (s .pre)
 
-kinds-requires : tie.Need-kinds-requires
-kinds-requires c κs = search needs
+tell-requires-3 : tie.Need-tell-requires-3
+tell-requires-3 c κs = search needs
+
+tell-requires-4 : tie.Need-tell-requires-4
+tell-requires-4 c κs = search needs
 
 constants-at-requires : tie.Need-constants-at-requires
 constants-at-requires c κs =
-    let w = watered-is (c .before .before .before) in
+    let w = watered-is (c .before .before .before .before) in
     search needs
 
 month-of-requires : tie.Need-month-of-requires
 month-of-requires c κs =
-    let e = c .before .before .before .before in
+    let e = c .before .before .before .before .before in
     let a = asked (e .before) .args in
     let w = watered-is e in
     (w .soil, (waters e, fit (a .at) (now (a .constants)) (c .constants-at .result) (c .constants-at .ensures) w))
 
 abbrev spared : tie.After-month-of → tie.Else1
-spared c = c .before .before .before .before .before
+spared c = c .before .before .before .before .before .before
 
 -- the kinds of the two readings
 abbrev kinds-of : tie.After-month-of → MonthKinds
-kinds-of c = c .before .before .before .before .kinds .result
+kinds-of c =
+    let b = c .before .before .before .before in
+    record { p = b .before .tell3 .result .kind; pe = b .tell4 .result .kind }
 
 kinds-are : (c : tie.After-month-of) → let a = asked (spared c .before) .args in kinds-of c ≡ kindsOf (reading (listed (a .p))) (reading (listed (a .pe)))
 kinds-are c =
+    let b = c .before .before .before .before in
     let e = spared c in
-    c .before .before .before .before .kinds .ensures ∙ sym (ap₂ kindsOf (first-water (first e)) (second-water (second e)))
+    ap₂ kindsOf (b .before .tell3 .ensures ∙ sym (first-water (first e))) (b .tell4 .ensures ∙ sym (second-water (second e)))
 
 -- the month of water is the run's
 month-is : (c : tie.After-month-of) → let e = spared c in let a = asked (e .before) .args in Measured (a .at) (now (a .constants)) (p-of e) (pe-of e) (c .month-of .result)
@@ -307,19 +313,20 @@ add-listed-spec =
     reading-of-requires
     read-requires
     enum-known-first
-    number-requires
+    tell-requires
     refuse-requires
     returns
     reading-of-requires-2
     read-requires-2
     enum-known-second
-    number-requires-2
+    tell-requires-2
     refuse-requires-2
     returns-2
     room-refusal-requires
     refuse-requires-3
     returns-3
-    kinds-requires
+    tell-requires-3
+    tell-requires-4
     constants-at-requires
     month-of-requires
     add-spells-requires
