@@ -78,10 +78,10 @@
  *
  *     card_read               8
  *     card_start            312
- *     card_add_water        792
- *     card_add_inches       792
+ *     card_add_water        824
+ *     card_add_inches       824
  *     card_add_z            568
- *     card_add_season      1192
+ *     card_add_season      1208
  *     card_row              376
  *     card_whole_series      88
  *
