@@ -1,24 +1,22 @@
 -- What a month is does not depend on the kind: an add of water asks and does, but for the kinds, what it would ask and do of lists without them. So adds
 -- of one number and one water come to the same. Assumes nothing.
 use mathlib.Core.Path.{_≡_, refl, sym, ap, ap₂, _∙_}
-use mathlib.Core.Bool.{Bool, cond, _&&_}
 use mathlib.Core.List.{List, [], _∷_, map}
 use Prim.Native.Nat.{ℕ, zero, suc}
 use lib.IntN.{ℤ, pos}
 use lib.Dec.{lit≤, lit<}
-use lib.ListN.{length, getD, set, take, length-map, List·getD-map}
+use lib.ListN.{getD, set, length-map, List·getD-map}
 use lib.Seq.{getD-take, take-take}
 use Rattle.door.specs.Outcome.{Outcome, kindsOf}
 use Rattle.door.specs.Readings.{reading, month}
-use Rattle.door.specs.declared.MonthKinds.{MonthKinds}
 use Rattle.water.specs.declared.Soil.{Soil}
 use Rattle.runs.specs.declared.Run.{Run}
-use Rattle.records.specs.Record.{recordAt, numbersOf}
+use Rattle.records.specs.Record.{numbersOf}
 use Rattle.records.specs.declared.Record.{Record}
-use Rattle.records.specs.Ends.{amounts, endsMeet}
-use Rattle.refusals.specs.Book.{Book, long, columnsFit}
+use Rattle.records.specs.Ends.{endsMeet}
+use Rattle.refusals.specs.Book.{Book}
 use Rattle.refusals.specs.Refusals.{isRunFor, runRefusal, waterRefusal, zRefusal}
-use Rattle.adding.specs.Taken.{Result, result, refusal, answered, taken, takenZ, takenWater}
+use Rattle.adding.specs.Taken.{Result, answered, taken, takenZ, takenWater}
 use Rattle.adding.specs.declared.WaterFigures.{WaterFigures}
 use Rattle.drought.specs.Calls.{addOutcomes, addWater, addInches, addZ}
 use Rattle.demands.specs.Months.{Ask, water, inches, anomaly, asked, State, after, afterAll}

@@ -1,6 +1,6 @@
 -- Trace rain: each kind exactly when, the kinds in every answer and in the record, and (Plain) that nothing else depends on them. Assumes nothing.
-use mathlib.Core.Path.{_≡_, refl, sym, ap, subst, _∙_}
-use mathlib.Core.Bool.{Bool, true, false, cond, not, _&&_, _||_}
+use mathlib.Core.Path.{_≡_, refl, sym, ap, _∙_}
+use mathlib.Core.Bool.{Bool, true, false, cond, not, _&&_}
 use mathlib.Core.Logic.{_↔_, inl, inr}
 use mathlib.Core.List.{List, [], _∷_, map}
 use Prim.Native.Nat.{ℕ, zero, suc, _*_, _≤_, _<_}
@@ -11,13 +11,13 @@ use lib.Dec.{leb, eqb}
 use lib.Ieee.{Float, nan, inf, fin, up, down}
 use lib.Ieee.Fits.{down-pos}
 use lib.ListN.{length, getD, take}
-use borrow.Author.Tests.{le-leb, eqb-true, eq-eqb, ne-eqb}
+use borrow.Author.Tests.{le-leb, eqb-true, ne-eqb}
 use Rattle.outline.specs.Refusals.{notAcceptable}
 use Rattle.exact.specs.Nearest.{nearestℕ}
 use Rattle.exact.proofs.Nearest.{near-only}
 use Rattle.door.specs.Exact.{within, aboveZero, nearestTo}
-use Rattle.door.specs.Outcome.{Outcome, none, trace, measured, kindOfWater, accepted, traced, refused}
-use Rattle.door.specs.Readings.{mostReading, mostInches, mostMillimetres, fallen, whole, converted, inches as inInches, millimetres, reading, month}
+use Rattle.door.specs.Outcome.{Outcome, none, trace, measured, accepted, traced, refused}
+use Rattle.door.specs.Readings.{mostReading, mostInches, mostMillimetres, whole, converted, inches as inInches, millimetres, reading, month}
 use Rattle.door.specs.declared.Reading.{Reading}
 use Rattle.door.specs.declared.Reading.the-variants.{Whole, Inches, Millimetres, Missing}
 use Rattle.door.specs.declared.MonthInches.{MonthInches}

@@ -23,7 +23,7 @@ use Rattle.adding.specs.declared.WaterFigures.{WaterFigures}
 use Rattle.adding.specs.declared.Figures.{Figures}
 use Rattle.drought.specs.Calls.{rowOfRun}
 use Rattle.season.specs.Season.{addSeason}
-use Rattle.demands.specs.Months.{Ask, water, inches, anomaly, asked, State, standing, afterAll, Accepted, kindsFor}
+use Rattle.demands.specs.Months.{Ask, water, inches, anomaly, asked, State, afterAll, Accepted, kindsFor}
 use Rattle.demands.specs.Demands.{Fresh, first, now}
 use Rattle.demands.specs.Recorded.{monthAt}
 

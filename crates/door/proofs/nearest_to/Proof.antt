@@ -7,7 +7,6 @@ use native.Mathlib.Omega.{arith}
 use lib.Dec.{T}
 use lib.Ieee.{binary32, fits, toBits}
 use borrow.Author.Needs.{needs}
-use Rattle.exact.specs.Nearest.{nearestℕ}
 use Rattle.door.proofs.Places.{all-digits, by-halves, shifted-lt}
 use Rattle.door.proofs.Range.{is-no-nan}
 use Rattle.door.proofs.Fields.{exponent-le, normal, tiny}
