@@ -24,7 +24,7 @@ use Rattle.adding.specs.declared.WaterFigures.{WaterFigures}
 use Rattle.drought.specs.Calls.{addWater, addInches, addZ, rowOfRun}
 use Rattle.drought.specs.declared.Shown.{Shown}
 use Rattle.season.specs.Season.{SeasonResult, addSeason}
-use Rattle.demands.specs.Pinned.{endingIn, lent}
+use Rattle.demands.specs.Pinned.{endingIn, lent, eachPlace}
 
 -- ---- the months
 -- a month's five: W1's (document 01) in March, and 10 more for each month later. All sixty differ
@@ -307,13 +307,6 @@ eachWater w said =
     ∷ (pos (w .kinds .p) gives pos (said .kinds .p))
     ∷ (pos (w .kinds .pe) gives pos (said .kinds .pe))
     ∷ []
-
--- lists place by place; where one is longer they do not agree
-abbrev eachPlace : List ℤ → List ℤ → List Row
-eachPlace [] [] = []
-eachPlace (a ∷ l) (b ∷ said) = (a gives b) ∷ eachPlace l said
-eachPlace [] (b ∷ said) = (pos 0 gives pos 1) ∷ []
-eachPlace (a ∷ l) [] = (pos 0 gives pos 1) ∷ []
 
 -- records place by place, and each number by number
 abbrev eachRecord : List (List ℤ) → List (List ℤ) → List Row

@@ -247,11 +247,12 @@ month p pe = addWater (run 0 0 1 (soil 6000 0 0) fresh) p pe (lent 1)
 abbrev kindsOfMonth : Result → List ℤ
 kindsOfMonth b = pos (b .answer .figures .water .kinds .p) ∷ pos (b .answer .figures .water .kinds .pe) ∷ pos (b .answer .figures .water .p) ∷ recordAt (b .columns .records) 0 .kind ∷ []
 
-abbrev eachOf : List ℤ → List ℤ → List Row
-eachOf [] [] = []
-eachOf [] (y ∷ said) = (pos 0 gives pos 1) ∷ []
-eachOf (x ∷ l) [] = (pos 0 gives pos 1) ∷ []
-eachOf (x ∷ l) (y ∷ said) = (x gives y) ∷ eachOf l said
+-- lists place by place; where one is longer they do not agree
+abbrev pub eachPlace : List ℤ → List ℤ → List Row
+eachPlace [] [] = []
+eachPlace (a ∷ l) (b ∷ said) = (a gives b) ∷ eachPlace l said
+eachPlace [] (b ∷ said) = (pos 0 gives pos 1) ∷ []
+eachPlace (a ∷ l) [] = (pos 0 gives pos 1) ∷ []
 
 -- document 02, E7: 0 none, 1 trace, 2 measured
 abbrev kindTable : List Row
@@ -278,10 +279,10 @@ kindTable =
     ∷ (kind (Millimetres (fin false 13636522 (negsuc 29))) gives pos 2)
     ∷ (mm (fin false 13636522 (negsuc 29)) gives pos 1)
     -- a month of a trace and of PE 1, and the other way round; "one more column keeps precipitation's"
-    ∷ (eachOf (kindsOfMonth (month (Inches (fin false 1 (negsuc 10))) (Whole (pos 1)))) (pos 1 ∷ pos 2 ∷ pos 0 ∷ pos 1 ∷ [])
-    ++ (eachOf (kindsOfMonth (month (Whole (pos 1)) (Inches (fin false 1 (negsuc 10))))) (pos 2 ∷ pos 1 ∷ pos 1 ∷ pos 2 ∷ [])
+    ∷ (eachPlace (kindsOfMonth (month (Inches (fin false 1 (negsuc 10))) (Whole (pos 1)))) (pos 1 ∷ pos 2 ∷ pos 0 ∷ pos 1 ∷ [])
+    ++ (eachPlace (kindsOfMonth (month (Whole (pos 1)) (Inches (fin false 1 (negsuc 10))))) (pos 2 ∷ pos 1 ∷ pos 1 ∷ pos 2 ∷ [])
     -- and of a whole 0 and a trace: none, not precipitation's
-    ++ eachOf (kindsOfMonth (month (Whole (pos 0)) (Millimetres (fin false 1 (negsuc 148))))) (pos 0 ∷ pos 1 ∷ pos 0 ∷ pos 0 ∷ [])))
+    ++ eachPlace (kindsOfMonth (month (Whole (pos 0)) (Millimetres (fin false 1 (negsuc 148))))) (pos 0 ∷ pos 1 ∷ pos 0 ∷ pos 0 ∷ [])))
 
 abbrev pub numbersTable : List Row
 numbersTable = readingTable ++ (runTable ++ (listTable ++ kindTable))
