@@ -11,9 +11,10 @@
 mod card;
 #[path = "../tests/cross/reference.rs"]
 mod reference;
+mod repaired;
 mod stack;
 
-use card::{Columns, MonthInches, Reading, Record, Run, MOST_MONTHS};
+use card::{Change, Columns, MonthInches, Reading, Record, Run, MOST_MONTHS};
 use reference::{Added, Amount, Refusal, Season};
 use std::hint::black_box;
 use std::time::{Duration, Instant};
@@ -64,13 +65,16 @@ const fn with_double(library: Round, rust: Round, double: Round) -> [(&'static s
 }
 
 #[rustfmt::skip]
-const KINDS: [Kind; 17] = [
+const KINDS: [Kind; 20] = [
     ("add-water", MONTHS, MONTHS, &both(add::water_library, add::water_rust), "add water, two readings"),
     ("add-inches", MONTHS, MONTHS, &both(add::inches_library, add::inches_rust), "add water, two binary32 inches"),
     ("add-z", MONTHS, MONTHS, &both(add::z_library, add::z_rust), "add a Z"),
     ("handed", MONTHS, MONTHS, &[("handed", handed::over)], "a run handed in and back, no more"),
     ("season-6", MONTHS, MONTHS, &both(season::six_library, season::six_rust), "a month of a season of 6"),
     ("season-2400", MONTHS, MONTHS, &both(season::all_library, season::all_rust), "a month of a season of 2,400"),
+    ("season-12000", MOST_MONTHS, MOST_MONTHS, &both(season::most_library, season::most_rust), "a month of a season of 12,000"),
+    ("repair-2400", MONTHS, MONTHS, &both(repaired::library, repaired::rust), "a month of a repair of 2,400"),
+    ("repair-12000", MOST_MONTHS, MOST_MONTHS, &both(repaired::library, repaired::rust), "a month of a repair of 12,000"),
     ("row", MONTHS, MONTHS, &both(row::library, row::rust), "show a row"),
     ("start", MONTHS, MONTHS, &both(start::library, start::rust), "start a run"),
     ("series-240", FEW_MONTHS, 1, &both(series::library, series::rust), "whole series, 240 ordinary months"),
@@ -91,12 +95,20 @@ const SAME_MONTHS: [&str; 4] = ["add-water", "add-inches", "season-6", "season-2
 fn find(kind: &str, side: &str) -> (Inputs, usize, Round) {
     let (_, months, operations, sides, _) = KINDS.iter().find(|found| found.0 == kind).unwrap_or_else(|| usage());
     let (_, round) = sides.iter().find(|found| found.0 == side).unwrap_or_else(|| usage());
-    (Inputs::new(*months), *operations, *round)
+    (inputs(kind, *months), *operations, *round)
+}
+
+/// The inputs of a kind whose columns have so many months. A repair finds them full.
+fn inputs(kind: &str, months: usize) -> Inputs {
+    match kind.starts_with("repair") {
+        true => repaired::filled(Inputs::new(months)),
+        false => Inputs::new(months),
+    }
 }
 
 fn work(round: Round, inputs: &mut Inputs, rounds: u64) -> u64 {
     let sum: u64 = (0..rounds).map(|_| u64::from(round(black_box(inputs)))).sum();
-    inputs.lists.sum().wrapping_add(sum)
+    inputs.sum().wrapping_add(sum)
 }
 
 fn list() {
@@ -109,7 +121,7 @@ fn list() {
 fn check() {
     let mut months = Vec::new();
     for (name, columns, _, sides, _) in KINDS {
-        let sums: Vec<u64> = sides.iter().map(|side| work(side.1, &mut Inputs::new(columns), 1)).collect();
+        let sums: Vec<u64> = sides.iter().map(|side| work(side.1, &mut inputs(name, columns), 1)).collect();
         agree(name, &sums);
         if SAME_MONTHS.contains(&name) {
             months.push(sums[0]);
@@ -159,6 +171,8 @@ struct Inputs {
     inches: Vec<f32>,
     mm: Vec<f32>,
     lists: Lists,
+    /// The report of a repair, as long as the columns.
+    report: Vec<Change>,
 }
 
 /// The upper half of a linear congruential generator, from `low` to `high`.
@@ -177,26 +191,39 @@ fn measures(state: &mut u64, ordinary: i32, most: f32) -> Vec<f32> {
 }
 
 impl Inputs {
-    /// Inputs for columns of so many months. Water and readings are the same for all, and so are the Z that two of them
+    /// Inputs for columns of so many months. Readings are the same for all, and so are the water and the Z that two of them
     /// both have: those above MONTHS are drawn last.
     fn new(months: usize) -> Inputs {
         let state = &mut 1;
-        // About what the months of a year would evaporate.
-        let pe = [100, 200, 800, 1_800, 3_400, 4_800, 5_700, 5_000, 3_400, 1_800, 700, 200];
-        let mut month = |month: usize| {
-            let p = random(state, 0, 2_700) + random(state, 0, 2_700);
-            (p, pe[month % 12] * random(state, 80, 120) / 100)
-        };
-        let water: Vec<(i32, i32)> = (0..MONTHS).map(&mut month).collect();
-        let season = water.iter().copied().unzip();
+        let mut water: Vec<(i32, i32)> = (0..MONTHS).map(|month| month_of_water(state, month)).collect();
         let ordinary = |state: &mut u64| random(state, -3_000, 3_000);
         let mut z: Vec<i32> = (0..MONTHS).map(|_| ordinary(state)).collect();
         let (inches, mm) = (measures(state, 12, 100.0), measures(state, 300, 2_540.0));
         z.resize_with(months, || ordinary(state));
+        water.extend((MONTHS..months).map(|month| month_of_water(state, month)));
+        let season = water.iter().copied().unzip();
         let mut open = vec![0; months];
         open[..2].copy_from_slice(&[12, -3]);
-        Inputs { run: fresh_run(), water, season, z, open, inches, mm, lists: Lists::new(months) }
+        let (run, lists, report) = (fresh_run(), Lists::new(months), vec![Change::default(); months]);
+        Inputs { run, water, season, z, open, inches, mm, lists, report }
     }
+
+    /// Of all that is lent.
+    fn sum(&self) -> u64 {
+        let numbers = self.report.iter().flat_map(|change| {
+            let Change { row, index_before, index_after, mark_before, mark_after } = *change;
+            [row, index_before, index_after, mark_before, mark_after]
+        });
+        numbers.fold(self.lists.sum(), |sum, x| sum.wrapping_mul(31).wrapping_add(x as u64))
+    }
+}
+
+/// Precipitation and PE of a month.
+fn month_of_water(state: &mut u64, month: usize) -> (i32, i32) {
+    // About what the months of a year would evaporate.
+    let pe = [100, 200, 800, 1_800, 3_400, 4_800, 5_700, 5_000, 3_400, 1_800, 700, 200];
+    let p = random(state, 0, 2_700) + random(state, 0, 2_700);
+    (p, pe[month % 12] * random(state, 80, 120) / 100)
 }
 
 fn fresh_run() -> Run {
@@ -378,6 +405,14 @@ mod season {
 
     pub fn all_rust(inputs: &mut Inputs) -> u32 {
         by_rust(inputs, MONTHS)
+    }
+
+    pub fn most_library(inputs: &mut Inputs) -> u32 {
+        by_library(inputs, MOST_MONTHS)
+    }
+
+    pub fn most_rust(inputs: &mut Inputs) -> u32 {
+        by_rust(inputs, MOST_MONTHS)
     }
 }
 

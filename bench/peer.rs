@@ -1,7 +1,7 @@
 //! The hand-written reference behind exactly include/card.h: the header's own names, extern "C", a run by value in and
 //! out, each list as pointer and length, the same refusals. It is linked in the library's place, so the program that
-//! calls the one or the other is the same. Its whole series is bench/series.rs: it has no list of its own, as the
-//! library's has none.
+//! calls the one or the other is the same. Its whole series is bench/series.rs and its repair bench/repair.rs: they have no
+//! list of their own, as the library's have none.
 //!
 //! It gets what a Rust library behind this header would have: -C opt-level=3 for plain x86-64, as the library's own
 //! compiler has it, one codegen unit, and panics that abort. A run that comes in by value is the call's own: it is
@@ -11,10 +11,12 @@
 mod card;
 #[path = "../tests/cross/reference.rs"]
 mod reference;
+mod repair;
 mod series;
 
 use card::{
-    Added, Answer, Columns, Figures, MonthInches, Reading, Record, Run, Season, Shown, Soil, Started, Values,
+    Added, Answer, Change, Columns, Figures, MonthInches, Reading, Record, Repaired, Run, Season, Shown, Soil,
+    Started, Values,
 };
 use reference::{Amount, Refusal};
 use std::slice::{from_raw_parts, from_raw_parts_mut};
@@ -100,6 +102,16 @@ pub unsafe extern "C" fn card_add_season(mut run: Run, p: *const i32, np: usize,
     let season = reference::add_season(&mut run, from_raw_parts(p, np), from_raw_parts(pe, npe), &mut k);
     let number = season.refused.map_or(card::DONE, |refusal| refusal as u8);
     Season { number, added: season.added, settled: season.settled, figures: season.figures, run }
+}
+
+#[no_mangle]
+#[rustfmt::skip]
+pub unsafe extern "C" fn card_repair(mut run: Run, row: usize, p: Reading, pe: Reading, x1: *mut i32, n1: usize, x2: *mut i32, n2: usize, x3: *mut i32, n3: usize, index: *mut i32, ni: usize, mark: *mut u8, nm: usize, records: *mut Record, nr: usize, v: *mut i64, nv: usize, report: *mut Change, nc: usize) -> Repaired {
+    let mut k = columns!(x1 n1 x2 n2 x3 n3 index ni mark nm records nr v nv);
+    match repair::repair(&mut run, row, &p, &pe, &mut k, from_raw_parts_mut(report, nc)) {
+        Ok(changed) => Repaired { number: card::DONE, changed, run },
+        Err(refusal) => Repaired { number: refusal as u8, changed: 0, run },
+    }
 }
 
 /// The columns are to const: they are lent on, and the reference only reads them.

@@ -23,6 +23,7 @@ global_asm!(
     "probe add_inches",
     "probe add_z",
     "probe add_season",
+    "probe repair",
     "probe row",
     "probe whole_series",
 );
@@ -35,6 +36,7 @@ extern "C" {
     fn probe_add_inches(run: Run, month: MonthInches, x1: *mut i32, n1: usize, x2: *mut i32, n2: usize, x3: *mut i32, n3: usize, index: *mut i32, ni: usize, mark: *mut u8, nm: usize, records: *mut card::Record, nr: usize, v: *mut i64, nv: usize) -> card::Added;
     fn probe_add_z(run: Run, z: i32, x1: *mut i32, n1: usize, x2: *mut i32, n2: usize, x3: *mut i32, n3: usize, index: *mut i32, ni: usize, mark: *mut u8, nm: usize, records: *mut card::Record, nr: usize, v: *mut i64, nv: usize) -> card::Added;
     fn probe_add_season(run: Run, p: *const i32, np: usize, pe: *const i32, npe: usize, x1: *mut i32, n1: usize, x2: *mut i32, n2: usize, x3: *mut i32, n3: usize, index: *mut i32, ni: usize, mark: *mut u8, nm: usize, records: *mut card::Record, nr: usize, v: *mut i64, nv: usize) -> card::Season;
+    fn probe_repair(run: Run, row: usize, p: Reading, pe: Reading, x1: *mut i32, n1: usize, x2: *mut i32, n2: usize, x3: *mut i32, n3: usize, index: *mut i32, ni: usize, mark: *mut u8, nm: usize, records: *mut card::Record, nr: usize, v: *mut i64, nv: usize, report: *mut Change, nc: usize) -> card::Repaired;
     fn probe_row(run: Run, row: usize, x1: *const i32, n1: usize, x2: *const i32, n2: usize, x3: *const i32, n3: usize, index: *const i32, ni: usize, mark: *const u8, nm: usize, records: *const card::Record, nr: usize, v: *const i64, nv: usize) -> card::Shown;
     fn probe_whole_series(z: *const i32, nz: usize, index: *mut i32, ni: usize, mark: *mut u8, nm: usize) -> u8;
 }
@@ -61,6 +63,7 @@ enum Call {
     Inches(f32, f32),
     Z(i32),
     Season([i32; 6], [i32; 6]),
+    Repair(usize, Reading, Reading),
     Row(usize),
 }
 
@@ -71,6 +74,8 @@ fn with_run(call: Call, run: &Run, lists: &mut Lists, marks: usize) -> (usize, R
     let k = lists.lend();
     let (x1, x2, x3, index, mark) = (k.x1.as_mut_ptr(), k.x2.as_mut_ptr(), k.x3.as_mut_ptr(), k.index.as_mut_ptr(), k.mark.as_mut_ptr());
     let (records, v) = (k.records.as_mut_ptr(), k.v.as_mut_ptr());
+    let mut report = vec![Change::default(); n];
+    let report = report.as_mut_ptr();
     let mut next = *run;
     let depth = depth(&mut || unsafe {
         match call {
@@ -78,6 +83,7 @@ fn with_run(call: Call, run: &Run, lists: &mut Lists, marks: usize) -> (usize, R
             Call::Inches(p, pe) => next = probe_add_inches(*run, MonthInches { p, pe }, x1, n, x2, n, x3, n, index, n, mark, marks, records, n, v, n).run,
             Call::Z(z) => next = probe_add_z(*run, z, x1, n, x2, n, x3, n, index, n, mark, marks, records, n, v, n).run,
             Call::Season(p, pe) => next = probe_add_season(*run, p.as_ptr(), 6, pe.as_ptr(), 6, x1, n, x2, n, x3, n, index, n, mark, marks, records, n, v, n).run,
+            Call::Repair(row, p, pe) => next = probe_repair(*run, row, p, pe, x1, n, x2, n, x3, n, index, n, mark, marks, records, n, v, n, report, n).run,
             Call::Row(row) => _ = black_box(probe_row(*run, row, x1, n, x2, n, x3, n, index, n, mark, marks, records, n, v, n)),
         }
     });
@@ -108,11 +114,17 @@ fn deepest_with_run(call: fn(&mut u64, bool) -> Call) -> usize {
 /// In inches.
 const TRACE: f32 = 0.0001;
 
-fn water(state: &mut u64, refused: bool) -> Call {
+/// Precipitation and PE.
+fn readings(state: &mut u64, refused: bool) -> (Reading, Reading) {
     let (whole, mm) = (random(state, 0, 9_000), random(state, 0, 300) as f32);
     let p = [Reading::whole(whole), Reading::millimetres(mm), Reading::inches(TRACE)];
     let pe = if refused { Reading::missing() } else { Reading::inches(random(state, 0, 9) as f32) };
-    Call::Water(p[random(state, 0, 2) as usize], pe)
+    (p[random(state, 0, 2) as usize], pe)
+}
+
+fn water(state: &mut u64, refused: bool) -> Call {
+    let (p, pe) = readings(state, refused);
+    Call::Water(p, pe)
 }
 
 fn inches(state: &mut u64, refused: bool) -> Call {
@@ -135,6 +147,32 @@ fn season(state: &mut u64, refused: bool) -> Call {
 
 fn row(state: &mut u64, refused: bool) -> Call {
     Call::Row(if refused { usize::MAX } else { random(state, 0, 299) as usize })
+}
+
+/// The deepest of a repair of any row of a run that grows until the columns are full, with months of water, of Z and left
+/// open, and of its refusals all along.
+fn deepest_repair() -> usize {
+    let (state, mut lists, mut run) = (&mut 7, Lists::new(300), fresh_run());
+    let mut deepest = 0;
+    for month in 0..300 {
+        let (z, p) = ([12, -3, 0, 0][month % 4], Reading::whole(random(state, 0, 9_000)));
+        run = match month % 20 {
+            0..=4 => card::add_z(run, z, &mut lists.lend()).run,
+            _ => card::add_water(run, p, Reading::whole(3_000), &mut lists.lend()).run,
+        };
+        let row = random(state, 0, month as i32) as usize;
+        let ((p, pe), (q, missing)) = (readings(state, false), readings(state, true));
+        let (good, not_a_run) = (Call::Repair(row, p, pe), Run { calendar: 0, ..run });
+        let refused = [
+            with_run(good, &run, &mut lists, 299).0,
+            with_run(good, &not_a_run, &mut lists, 300).0,
+            with_run(Call::Repair(usize::MAX, p, pe), &run, &mut lists, 300).0,
+            with_run(Call::Repair(row, q, missing), &run, &mut lists, 300).0,
+        ];
+        let (done, next) = with_run(good, &run, &mut lists, 300);
+        (run, deepest) = (next, refused.into_iter().fold(deepest.max(done), usize::max));
+    }
+    deepest
 }
 
 fn deepest_read() -> usize {
@@ -190,6 +228,7 @@ fn measure() {
         ("add inches", deepest_with_run(inches)),
         ("add Z", deepest_with_run(z)),
         ("season", deepest_with_run(season)),
+        ("repair", deepest_repair()),
         ("row", deepest_with_run(row)),
         ("whole series", deepest_whole_series()),
     ];

@@ -39,7 +39,7 @@ GROWN = (2400, 12000)
 MOST = Fraction(1)
 MOST_OF = dict.fromkeys(('season-6', 'start', 'division'), Fraction(102, 100))
 MOST_GROWTH = Fraction(52, 10)
-STACK_UNDER = {'add water': 1000, 'whole series': 1000}
+STACK_UNDER = {'add water': 1000, 'repair': 1000, 'whole series': 1000}
 
 WIDTHS = (-37, 10, 12, 8, 10, 8, 10, 11, 10)
 HEADS = [
@@ -204,6 +204,13 @@ def show_seasons(rows):
         show_under(rows[name].what, share(rows[name], rows['add-water']))
 
 
+def show_repairs(rows):
+    """A month of a repair, as a share of one of a season: of adding all the months afresh."""
+    for months in GROWN:
+        row = rows['repair-%d' % months]
+        show_under(row.what, share(row, rows['season-%d' % months]))
+
+
 def show_months(rows):
     """A month of a whole series."""
     for row, months in ((rows[kind % months], months) for kind in SERIES for months in GROWN):
@@ -261,6 +268,8 @@ def main():
     rows = {row.name: row for row in counted}
     show(['of a single add of water'])
     show_seasons(rows)
+    show(['of a month of a season of as many'])
+    show_repairs(rows)
     show(['instructions a month'])
     show_months(rows)
     show(['times those of {:,} months'.format(GROWN[0])])

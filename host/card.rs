@@ -16,6 +16,7 @@ pub const BAD_READING: u8 = 9;
 pub const FULL: u8 = 10;
 pub const NO_ROW: u8 = 11;
 pub const BAD_Z: u8 = 12;
+pub const WATERLESS: u8 = 17;
 pub const ZERO_K: u8 = 21;
 
 /// What a column holds at most, how many constants a station has, and the two marks of a month.
@@ -50,6 +51,7 @@ pub fn meaning(number: u8) -> &'static str {
         FULL => "months already equal the column length",
         NO_ROW => "row number not below the months added",
         BAD_Z => "Z outside its range",
+        WATERLESS => "no water in that month",
         ZERO_K => "a K of 0, by which a month counts for nothing",
         _ => "no number of this library",
     }
@@ -216,6 +218,26 @@ pub struct Record {
     pub kind: i32,
 }
 
+/// A month whose index or mark a repair changed: its row, and both as they were before the call and as they are now.
+#[repr(C)]
+#[derive(Clone, Copy, Debug, Default, PartialEq, Eq)]
+pub struct Change {
+    pub row: i32,
+    pub index_before: i32,
+    pub index_after: i32,
+    pub mark_before: i32,
+    pub mark_after: i32,
+}
+
+/// `changed` is how many months the report has.
+#[repr(C)]
+#[derive(Clone, Copy, Debug, PartialEq, Eq)]
+pub struct Repaired {
+    pub number: u8,
+    pub changed: u32,
+    pub run: Run,
+}
+
 #[repr(C)]
 #[derive(Clone, Copy, Debug, Default, PartialEq, Eq)]
 pub struct Shown {
@@ -250,6 +272,7 @@ mod c {
         pub fn card_add_inches(run: Run, month: MonthInches, x1: *mut i32, n1: usize, x2: *mut i32, n2: usize, x3: *mut i32, n3: usize, index: *mut i32, ni: usize, mark: *mut u8, nm: usize, records: *mut Record, nr: usize, v: *mut i64, nv: usize) -> Added;
         pub fn card_add_z(run: Run, z: i32, x1: *mut i32, n1: usize, x2: *mut i32, n2: usize, x3: *mut i32, n3: usize, index: *mut i32, ni: usize, mark: *mut u8, nm: usize, records: *mut Record, nr: usize, v: *mut i64, nv: usize) -> Added;
         pub fn card_add_season(run: Run, p: *const i32, np: usize, pe: *const i32, npe: usize, x1: *mut i32, n1: usize, x2: *mut i32, n2: usize, x3: *mut i32, n3: usize, index: *mut i32, ni: usize, mark: *mut u8, nm: usize, records: *mut Record, nr: usize, v: *mut i64, nv: usize) -> Season;
+        pub fn card_repair(run: Run, row: usize, p: Reading, pe: Reading, x1: *mut i32, n1: usize, x2: *mut i32, n2: usize, x3: *mut i32, n3: usize, index: *mut i32, ni: usize, mark: *mut u8, nm: usize, records: *mut Record, nr: usize, v: *mut i64, nv: usize, report: *mut Change, nc: usize) -> Repaired;
         pub fn card_row(run: Run, row: usize, x1: *const i32, n1: usize, x2: *const i32, n2: usize, x3: *const i32, n3: usize, index: *const i32, ni: usize, mark: *const u8, nm: usize, records: *const Record, nr: usize, v: *const i64, nv: usize) -> Shown;
         pub fn card_whole_series(z: *const i32, nz: usize, index: *mut i32, ni: usize, mark: *mut u8, nm: usize) -> u8;
     }
@@ -291,6 +314,14 @@ pub fn add_z(run: Run, z: i32, k: &mut Columns) -> Added {
 pub fn add_season(run: Run, p: &[i32], pe: &[i32], k: &mut Columns) -> Season {
     unsafe {
         c::card_add_season(run, p.as_ptr(), p.len(), pe.as_ptr(), pe.len(), k.x1.as_mut_ptr(), k.x1.len(), k.x2.as_mut_ptr(), k.x2.len(), k.x3.as_mut_ptr(), k.x3.len(), k.index.as_mut_ptr(), k.index.len(), k.mark.as_mut_ptr(), k.mark.len(), k.records.as_mut_ptr(), k.records.len(), k.v.as_mut_ptr(), k.v.len())
+    }
+}
+
+/// The report is to be as long as the columns, and is written whole.
+#[rustfmt::skip]
+pub fn repair(run: Run, row: usize, p: Reading, pe: Reading, k: &mut Columns, report: &mut [Change]) -> Repaired {
+    unsafe {
+        c::card_repair(run, row, p, pe, k.x1.as_mut_ptr(), k.x1.len(), k.x2.as_mut_ptr(), k.x2.len(), k.x3.as_mut_ptr(), k.x3.len(), k.index.as_mut_ptr(), k.index.len(), k.mark.as_mut_ptr(), k.mark.len(), k.records.as_mut_ptr(), k.records.len(), k.v.as_mut_ptr(), k.v.len(), report.as_mut_ptr(), report.len())
     }
 }
 

@@ -2,9 +2,11 @@
  * what the card would show. station.rs is the same program in Rust.
  *
  *   station [MONTHS] <FILE
+ *   station --repair REPAIRS <FILE
  *
  * Without MONTHS the months are added one by one; with it, 1 to 12000, so many in a call, as by a card that was
- * offline.
+ * offline. With --repair they are added one by one, and then the months of the file REPAIRS are repaired, one after
+ * another.
  *
  * The file is plain text (ASCII), at most 1048576 bytes, its lines closed by a line feed; the last line, end,
  * may also be closed by the end of the input. A line that begins with # is a comment: it may stand anywhere
@@ -24,22 +26,36 @@
  * to it, as a gauge would hand it over: 100.000001 is 100. Precipitation may also be T, as observers write a
  * trace: rain that fell, but too little to measure.
  *
+ * A file of repairs is written by the same rules, and its lines are:
+ *
+ *   repairs inches                       or: repairs millimetres; the unit is the station file's
+ *   1932-09 1.92 =                       a month of the station file, its new precipitation and PE; in place of a
+ *                                        reading that stays as the card has recorded it, =
+ *   end                                  nothing after it
+ *
+ * The months stand in order of time, each once, and there is at least one.
+ *
  * Printed are three tables, in thousandths: the months as their adds answered, or with MONTHS the calls; the rows
  * of all months as they stand in the end; and of each month its water and what the two layers of soil stored at
  * its end, with dashes for the water of a month that had none. Beside index, which is Palmer's and may change until
- * its month is settled, the first two have modified, the modified index, which does not change.
+ * its month is settled, the first two have modified, the modified index, which no later month changes.
+ *
+ * With --repair stands in place of the first table, of each repair, its month, how many months it changed, and a
+ * table of these, oldest first: index and mark before that repair, and after it. The other two are as all repairs
+ * left the months.
  *
  * P is T where precipitation was a trace: a T, or a number above zero that is nearer to 0 than to a thousandth of
  * an inch. It counts as 0. PE is always printed as a number. With MONTHS a trace is printed 0: the call that adds
  * many months takes whole thousandths, which cannot say it.
  *
- * Nothing is printed on standard output before the whole file was found good, the run was started and every
- * month was added: a card must not show figures of half a file. What is wrong is said in one line on standard
- * error, with the line and column, and the status is
+ * Nothing is printed on standard output before the whole file was found good, the run was started, every month
+ * was added and every repair was tried: a card must not show figures of half a file. What is wrong is said in one
+ * line on standard error, with the line and column, after the word repairs where it is of that file, and the status
+ * is
  *
  *   0  done
- *   1  the file is not as above, or the library refuses something in it
- *   2  wrong arguments, or standard input cannot be read
+ *   1  a file is not as above, or the library refuses something in it
+ *   2  wrong arguments, or an input that cannot be read
  *   3  standard output cannot be written
  *
  * What a number may be is the library's to say, and is not tested here: where the library refuses, the program
@@ -76,17 +92,20 @@ static void stop(int status, const char *format, ...) {
     exit(status);
 }
 
-/* A place in the file, counted from 1; column 0 where it is a line as a whole, or the end of the file. */
+/* A place in a file, counted from 1; column 0 where it is a line as a whole, or the end of the file. What stands
+ * before the line where it is told is nothing of the station file, and REPAIRS of the file of repairs. */
+#define REPAIRS "repairs, "
 typedef struct place {
+    const char *file;
     size_t line;
     size_t column;
 } place;
 
-/* Says what is wrong at a place of the file, and ends the program. */
+/* Says what is wrong at a place of a file, and ends the program. */
 static void refuse(place at, const char *format, ...) {
     va_list values;
     va_start(values, format);
-    fprintf(stderr, "station: line %zu", at.line);
+    fprintf(stderr, "station: %sline %zu", at.file, at.line);
     if (at.column > 0) fprintf(stderr, ", column %zu", at.column);
     fputs(": ", stderr);
     vfprintf(stderr, format, values);
@@ -114,8 +133,9 @@ typedef struct word {
     place at;
 } word;
 
-/* The file, and how far it was read. */
+/* A file, and how far it was read. */
 typedef struct scanner {
+    const char *file; /* as its places have it */
     const char *text;
     size_t length;
     size_t next;   /* where the next line begins */
@@ -132,17 +152,17 @@ typedef struct scanner {
 
 /* The places of a line, of a byte of it as the file counts them, and of a byte of a word. */
 static place whole_line(const scanner *s) {
-    place p = {s->line, 0};
+    place p = {s->file, s->line, 0};
     return p;
 }
 
 static place in_line(const scanner *s, size_t at) {
-    place p = {s->line, at - s->begin + 1};
+    place p = {s->file, s->line, at - s->begin + 1};
     return p;
 }
 
 static place in_word(word w, size_t i) {
-    place p = {w.at.line, w.at.column + i};
+    place p = {w.at.file, w.at.line, w.at.column + i};
     return p;
 }
 
@@ -257,25 +277,56 @@ typedef struct kind {
     const char *comma;
     const char *form;
     const char *after;
-    int takes_trace;   /* whether T is one, */
-    const char *trace; /* and what is said of a t, and of a T where it is none */
+    int takes_trace;     /* whether T is one, */
+    const char *trace;   /* and what is said of a t, and of a T where it is none */
+    int takes_kept;      /* whether = is one, the reading as it is recorded */
+    const char *missing; /* what is to be done about one that is missing, */
+    const char *refused; /* and what more is said of one that the library does not accept */
 } kind;
 
-static const kind THOUSANDTHS = {0, ", and a whole number has digits only",
-                                 "expected: a whole number of thousandths of an inch",
-                                 "expected: a whole number of thousandths of an inch", 0, NULL};
-static const kind TEN_THOUSANDTHS = {0, ", and a whole number has digits only",
-                                     "expected: a whole number of ten-thousandths",
-                                     "expected: a whole number of ten-thousandths", 0, NULL};
+static const kind THOUSANDTHS = {.comma = ", and a whole number has digits only",
+                                 .form = "expected: a whole number of thousandths of an inch",
+                                 .after = "expected: a whole number of thousandths of an inch"};
+static const kind TEN_THOUSANDTHS = {.comma = ", and a whole number has digits only",
+                                     .form = "expected: a whole number of ten-thousandths",
+                                     .after = "expected: a whole number of ten-thousandths"};
 static const kind PRECIPITATION = {
-    1, ", and decimals begin with a point",
-    "expected: digits, perhaps with a point, T for a trace, or - for a missing reading",
-    "digits and a point only, and the unit stands once, in the line months", 1,
-    "a trace of rain is written T, a missing reading -"};
+    .decimals = 1,
+    .comma = ", and decimals begin with a point",
+    .form = "expected: digits, perhaps with a point, T for a trace, or - for a missing reading",
+    .after = "digits and a point only, and the unit stands once, in the line months",
+    .takes_trace = 1,
+    .trace = "a trace of rain is written T, a missing reading -",
+    .missing = "README.md, \"Missing months\", says what to do",
+    .refused = ", and a missing reading is written -"};
 static const kind PE = {
-    1, ", and decimals begin with a point", "expected: digits, perhaps with a point, or - for a missing reading",
-    "digits and a point only, and the unit stands once, in the line months", 0,
-    "a trace is of rain; PE is worked out and not observed: write 0, or - where it is missing"};
+    .decimals = 1,
+    .comma = ", and decimals begin with a point",
+    .form = "expected: digits, perhaps with a point, or - for a missing reading",
+    .after = "digits and a point only, and the unit stands once, in the line months",
+    .trace = "a trace is of rain; PE is worked out and not observed: write 0, or - where it is missing",
+    .missing = "README.md, \"Missing months\", says what to do",
+    .refused = ", and a missing reading is written -"};
+/* The same two in a file of repairs. */
+static const kind NEW_PRECIPITATION = {
+    .decimals = 1,
+    .comma = ", and decimals begin with a point",
+    .form = "expected: digits, perhaps with a point, T for a trace, or = for the reading as recorded",
+    .after = "digits and a point only, and the unit stands once, in the line repairs",
+    .takes_trace = 1,
+    .trace = "a trace of rain is written T, the reading as recorded =",
+    .takes_kept = 1,
+    .missing = "a repair has both readings, and = is the one that is recorded",
+    .refused = ""};
+static const kind NEW_PE = {
+    .decimals = 1,
+    .comma = ", and decimals begin with a point",
+    .form = "expected: digits, perhaps with a point, or = for the reading as recorded",
+    .after = "digits and a point only, and the unit stands once, in the line repairs",
+    .trace = "a trace is of rain; PE is worked out and not observed: write 0, or = for the recorded one",
+    .takes_kept = 1,
+    .missing = "a repair has both readings, and = is the one that is recorded",
+    .refused = ""};
 
 /* The smallest binary32 number above zero, which T is handed over as: in either unit it is a trace to the library
  * and can be nothing else, and it says no more of the rain than the observer did. */
@@ -338,19 +389,20 @@ static whole take_whole(scanner *s, const kind *k) {
     return number;
 }
 
-/* A reading, and the word that it was. */
+/* A reading, the word that it was, and as what it was read. That of a = is known when its month is repaired. */
 typedef struct measure {
     card_reading reading;
     word word;
+    const kind *kind;
 } measure;
 
 /* The word is scanned here, since strtof takes much that is no reading (0x10, nan, 5mm). What is left reads to
  * its end, at a space, a line feed or the zero byte after the file; and with a point, as setlocale is never
  * called. */
 static measure take_reading(scanner *s, card_reading (*unit)(float), const kind *k) {
-    measure m = {card_missing(), take(s)};
+    measure m = {card_missing(), take(s), k};
     word w = m.word;
-    if (is(w, "-")) return m;
+    if (is(w, "-") || (k->takes_kept && is(w, "="))) return m;
     if (k->takes_trace && is(w, "T")) {
         m.reading = unit(SMALLEST);
         return m;
@@ -453,14 +505,20 @@ static long date_of(word w) {
     return n[1] < 1 || n[1] > 12 ? -1 : 12 * n[0] + n[1] - 1;
 }
 
-/* A date, where it must be the one that follows. A gap is no missing reading: the next month's rain would be
- * judged by the constants of another month. */
-static long take_date(const scanner *s, const station *st, word w) {
-    long when = date_of(w), next = st->next;
+/* A date, which the word must be. */
+static long take_date(const scanner *s, word w) {
+    long when = date_of(w);
     no_comma(w, "");
     if (when < 0)
         refuse(w.at, "\"%s\" is no month (four digits, a minus, 01 to 12); expected: %s%s", said(w), s->expected,
                s->other);
+    return when;
+}
+
+/* A date, where it must be the one that follows. A gap is no missing reading: the next month's rain would be
+ * judged by the constants of another month. */
+static long take_following(const scanner *s, const station *st, word w) {
+    long when = take_date(s, w), next = st->next;
     if (st->count == 0 || when == next) return when;
     if (next == AFTER_THE_LAST) refuse(w.at, "%s here, and no month can follow 9999-12; expected: end", said(w));
     if (when > next)
@@ -495,7 +553,7 @@ static int read_month(scanner *s, station *st) {
         close_line(s);
         return 0;
     }
-    long when = take_date(s, st, m.date);
+    long when = take_following(s, st, m.date);
     m.precipitation = take_reading(s, st->unit, &PRECIPITATION);
     m.pe = take_reading(s, st->unit, &PE);
     close_line(s);
@@ -503,6 +561,14 @@ static int read_month(scanner *s, station *st) {
     st->next = when + 1;
     if (st->count <= CARD_MOST_MONTHS) st->months[st->count++] = m;
     return 1;
+}
+
+/* Nothing may follow the last line. */
+static void close_file(scanner *s) {
+    if (!next_line(s)) return;
+    if (s->begin == s->end)
+        refuse(whole_line(s), "it is empty; end is the last line, and nothing may follow it");
+    refuse(in_line(s, s->begin), "something after the last line, end; nothing may follow it");
 }
 
 /* The whole file, line by line, before the library sees any of it. */
@@ -513,10 +579,68 @@ static void read_station(scanner *s, station *st) {
     read_constants(s, st);
     read_unit(s, st);
     while (read_month(s, st)) continue;
-    if (!next_line(s)) return;
-    if (s->begin == s->end)
-        refuse(whole_line(s), "it is empty; end is the last line, and nothing may follow it");
-    refuse(in_line(s, s->begin), "something after the last line, end; nothing may follow it");
+    close_file(s);
+}
+
+/* ---- The file of repairs ---------------------------------------------------------------------------------- */
+
+/* What it holds. Of a station file with more months than a run can hold, of which the library refuses one before
+ * any is repaired, not all need be kept. */
+typedef struct repairs {
+    size_t count;
+    month months[CARD_MOST_MONTHS];
+    long last; /* the last month's date */
+} repairs;
+
+/* The unit stands in this file too, and is the station file's. */
+static void read_same_unit(scanner *s, const station *st) {
+    const char *unit = st->unit == card_inches ? "inches" : "millimetres";
+    char expected[64];
+    snprintf(expected, sizeof expected, "repairs %s", unit);
+    open_line(s, expected, "");
+    keyword(s, "repairs");
+    word w = take(s);
+    no_comma(w, "");
+    if (!is(w, unit)) refuse(w.at, "\"%s\" is not the station file's unit; expected: %s", said(w), expected);
+    close_line(s);
+}
+
+/* A date, where it must be one of the station file and after those that were read. */
+static long take_later(const scanner *s, const station *st, const repairs *rs, word w) {
+    long when = take_date(s, w), first = st->first, end = st->next - 1;
+    if (when < first || when > end)
+        refuse(w.at, "%s is not in the station file, which has %04ld-%02ld to %04ld-%02ld", said(w), first / 12,
+               first % 12 + 1, end / 12, end % 12 + 1);
+    if (rs->count > 0 && when == rs->last) refuse(w.at, "%s here again; each month stands once", said(w));
+    if (rs->count > 0 && when < rs->last)
+        refuse(w.at, "%s here, after %04ld-%02ld; the months stand in order of time", said(w), rs->last / 12,
+               rs->last % 12 + 1);
+    return when;
+}
+
+/* The next month; 0 where the line is the end. */
+static int read_repair(scanner *s, const station *st, repairs *rs) {
+    open_line(s, "YYYY-MM PRECIPITATION PE", rs->count == 0 ? "" : ", or end");
+    month m = {.date = take(s)};
+    if (is(m.date, "end")) {
+        if (rs->count == 0) refuse(m.date.at, "end here, and no month before it; expected: %s", s->expected);
+        s->expected = "end";
+        close_line(s);
+        return 0;
+    }
+    rs->last = take_later(s, st, rs, m.date);
+    m.precipitation = take_reading(s, st->unit, &NEW_PRECIPITATION);
+    m.pe = take_reading(s, st->unit, &NEW_PE);
+    close_line(s);
+    if (rs->count < CARD_MOST_MONTHS) rs->months[rs->count++] = m;
+    return 1;
+}
+
+/* The whole file, too, before the library sees any of either. */
+static void read_repairs(scanner *s, const station *st, repairs *rs) {
+    read_same_unit(s, st);
+    while (read_repair(s, st, rs)) continue;
+    close_file(s);
 }
 
 /* ---- What the library refuses ----------------------------------------------------------------------------- */
@@ -564,16 +688,13 @@ static card_run start(const station *st) {
 static void refuse_reading(const station *st, const measure *m, const char *name, uint8_t number) {
     if (card_read(m->reading).number != number) return;
     if (number == CARD_MISSING_READING)
-        refuse(m->word.at, "%s is missing (%d: %s); README.md, \"Missing months\", says what to do", name,
-               number, card_meaning(number));
-    refuse(m->word.at, "%s %s is refused (%d: %s), %s, and a missing reading is written -", name, said(m->word),
-           number, card_meaning(number),
-           st->unit == card_inches ? "inches are 0 to 100" : "millimetres are 0 to 2540");
+        refuse(m->word.at, "%s is missing (%d: %s); %s", name, number, card_meaning(number), m->kind->missing);
+    refuse(m->word.at, "%s %s is refused (%d: %s), %s%s", name, said(m->word), number, card_meaning(number),
+           st->unit == card_inches ? "inches are 0 to 100" : "millimetres are 0 to 2540", m->kind->refused);
 }
 
-/* Refuses a month for the number that an add answered. */
-static void refuse_month(const station *st, size_t at, uint8_t number) {
-    const month *m = &st->months[at];
+/* Refuses a month for the number that an add or a repair answered. */
+static void refuse_month(const station *st, const month *m, uint8_t number) {
     if (number == CARD_MISSING_READING || number == CARD_BAD_READING) {
         refuse_reading(st, &m->precipitation, "precipitation", number);
         refuse_reading(st, &m->pe, "PE", number);
@@ -581,7 +702,7 @@ static void refuse_month(const station *st, size_t at, uint8_t number) {
     if (number == CARD_FULL)
         refuse(m->date.at, "%s is refused (%d: %s), a run holds %d", said(m->date), number, card_meaning(number),
                CARD_MOST_MONTHS);
-    place line = {m->date.at.line, 0};
+    place line = {m->date.at.file, m->date.at.line, 0};
     refuse(line, "%s is refused (%d: %s)", said(m->date), number, card_meaning(number));
 }
 
@@ -607,7 +728,7 @@ static card_run add_singly(const station *st, card_columns columns, card_run run
     for (size_t i = 0; i < st->count; i++) {
         const month *m = &st->months[i];
         card_added a = card_add_water_in(columns, run, m->precipitation.reading, m->pe.reading);
-        if (a.number != CARD_DONE) refuse_month(st, i, a.number);
+        if (a.number != CARD_DONE) refuse_month(st, m, a.number);
         step taken = {1, a.settled, a.figures};
         r->step[r->steps++] = taken;
         run = a.run;
@@ -633,7 +754,7 @@ static card_run add_seasons(const station *st, card_columns columns, card_run ru
             pe[i] = listed(st->months[first + i].pe.reading);
         }
         card_season a = card_add_season_in(columns, run, p, n, pe, n);
-        if (a.number != CARD_DONE) refuse_month(st, first + a.added, a.number);
+        if (a.number != CARD_DONE) refuse_month(st, &st->months[first + a.added], a.number);
         step taken = {a.added, a.settled, a.figures};
         r->step[r->steps++] = taken;
         run = a.run;
@@ -679,6 +800,9 @@ static const char *rain(uint32_t thousandths, uint32_t kind) {
     return held;
 }
 
+/* A mark as it is printed. */
+static char letter(int32_t mark) { return mark == CARD_SETTLED ? 'S' : 'O'; }
+
 /* A row for each month, as its own add answered. */
 static void print_singly(const page *r, long first) {
     print("month P PE CAFEC Z percent index modified settled\n");
@@ -700,6 +824,18 @@ static void print_seasons(const page *r) {
               r->step[i].figures.index, r->step[i].figures.modified);
 }
 
+/* A repair: its month, how many months it changed, and a row for each of these. */
+static void print_report(const month *m, const card_repaired *a, const card_change *report, long first) {
+    print("repair %s changed %" PRIu32 "\n", said(m->date), a->changed);
+    print("month index_before index_after mark_before mark_after\n");
+    for (uint32_t i = 0; i < a->changed; i++) {
+        const card_change *c = &report[i];
+        long when = first + c->row;
+        print("%04ld-%02ld %" PRId32 " %" PRId32 " %c %c\n", when / 12, when % 12 + 1, c->index_before,
+              c->index_after, letter(c->mark_before), letter(c->mark_after));
+    }
+}
+
 /* A row for each month, as the columns have it in the end. */
 static void print_rows(const page *r, long first) {
     print("month X1 X2 X3 index modified mark\n");
@@ -708,8 +844,7 @@ static void print_rows(const page *r, long first) {
         long when = first + (long)i;
         print("%04ld-%02ld %" PRId32 " %" PRId32 " %" PRId32 " ", when / 12, when % 12 + 1, row->x1, row->x2,
               row->x3);
-        print("%" PRId32 " %" PRId32 " %c\n", row->index, row->month.modified,
-              row->mark == CARD_SETTLED ? 'S' : 'O');
+        print("%" PRId32 " %" PRId32 " %c\n", row->index, row->month.modified, letter(row->mark));
     }
 }
 
@@ -733,9 +868,11 @@ static void print_water(const page *r, long first) {
 /* The head of this file has it at more length. */
 static void print_help(void) {
     print("station [MONTHS] <FILE\n"
+          "station --repair REPAIRS <FILE\n"
           "\n"
           "Reads a station file from standard input, adds its months to a run and prints what the card shows.\n"
           "MONTHS, 1 to %d: adds so many months in a call, as a card that was offline; else one by one.\n"
+          "With --repair it then repairs the months of the file REPAIRS, one after another.\n"
           "\n"
           "Printed are three tables; water, Z, X and both indexes in thousandths:\n"
           "  month P PE CAFEC Z percent index modified settled   each month as it was added, and how many that\n"
@@ -744,20 +881,24 @@ static void print_help(void) {
           "  month X1 X2 X3 index modified mark                  each month as it stands in the end, S settled\n"
           "                                                      or O open\n"
           "  month P PE ET R L RO surface underlying             its water, and the soil at its end\n"
+          "With --repair stands in place of the first, for each repair, its month, how many months it changed, as\n"
+          "repair YYYY-MM changed COUNT, and a table of these:\n"
+          "  month index_before index_after mark_before mark_after\n"
           "\n"
           "T for a month's precipitation, in the file and as P, is a trace: rain too little to measure, which\n"
           "counts as 0. PE is always a number. With MONTHS a trace is printed 0: such a call cannot tell it.\n"
           "\n"
-          "Status: 0 done; 1 the file or a month in it is refused; 2 wrong arguments, or input that cannot be\n"
+          "Status: 0 done; 1 a file or a month in it is refused; 2 wrong arguments, or input that cannot be\n"
           "read; 3 output that cannot be written. What is wrong is said on standard error, in one line.\n"
           "\n"
-          "The format of the file stands in the head of samples/western-kansas-station.txt and in README.md.\n",
+          "The format of the file stands in the head of samples/western-kansas-station.txt and in README.md, that of\n"
+          "a file of repairs in the head of samples/western-kansas-repairs.txt.\n",
           CARD_MOST_MONTHS);
 }
 
 /* How many months are added in a call, by the program's argument. */
 static size_t months_in_a_call(const char *argument) {
-    word w = {argument, strlen(argument), {0, 0}};
+    word w = {argument, strlen(argument), {"", 0, 0}};
     size_t n = 0;
     for (size_t i = 0; is_digit(w, i); i++)
         if (n <= CARD_MOST_MONTHS) n = 10 * n + (size_t)(w.text[i] - '0');
@@ -767,28 +908,78 @@ static size_t months_in_a_call(const char *argument) {
     return n;
 }
 
-/* The whole of standard input, with a zero byte after it. */
-static scanner read_input(void) {
-    static char text[MOST_BYTES + 1];
-    size_t length = fread(text, 1, sizeof text, stdin);
-    if (ferror(stdin)) stop(NOT_READ, "standard input cannot be read");
-    if (length > MOST_BYTES) stop(REFUSED, "the file is larger than %d bytes", MOST_BYTES);
+/* The whole of an input, of which the text is to have a byte more than may be in it: a zero byte comes after it. */
+static scanner read_input(FILE *from, char *text, const char *input, const char *file) {
+    size_t length = from == NULL ? 0 : fread(text, 1, MOST_BYTES + 1, from);
+    if (from == NULL || ferror(from)) stop(NOT_READ, "%s cannot be read", input);
+    if (length > MOST_BYTES) stop(REFUSED, "%s is larger than %d bytes", file, MOST_BYTES);
     text[length] = 0;
-    scanner s = {.text = text, .length = length};
+    scanner s = {.file = "", .text = text, .length = length};
     return s;
+}
+
+static scanner read_standard_input(void) {
+    static char text[MOST_BYTES + 1];
+    return read_input(stdin, text, "standard input", "the file");
+}
+
+static scanner read_file_of_repairs(const char *name) {
+    static char text[MOST_BYTES + 1];
+    FILE *from = fopen(name, "rb");
+    scanner s = read_input(from, text, "the file of repairs", "the file of repairs");
+    s.file = REPAIRS;
+    fclose(from);
+    return s;
+}
+
+/* ---- Repairs ---------------------------------------------------------------------------------------------- */
+
+/* A reading of a repair: for a = the recorded one, as its kind is. */
+static card_reading new_reading(const station *st, const measure *m, int32_t recorded, int32_t kind) {
+    if (!is(m->word, "=")) return m->reading;
+    return kind == CARD_TRACE ? st->unit(SMALLEST) : card_whole(recorded);
+}
+
+/* Repairs the months one after another. */
+static card_run repair_months(const station *st, const repairs *rs, card_columns columns, card_run run,
+                              int printing) {
+    static card_change report[CARD_MOST_MONTHS];
+    for (size_t i = 0; i < rs->count; i++) {
+        month m = rs->months[i];
+        size_t row = (size_t)(date_of(m.date) - st->first);
+        card_record recorded = card_row_in(columns, run, row).month;
+        m.precipitation.reading = new_reading(st, &m.precipitation, recorded.p, recorded.kind);
+        m.pe.reading = new_reading(st, &m.pe, recorded.pe, CARD_NONE);
+        card_repaired a = card_repair_in(columns, run, row, m.precipitation.reading, m.pe.reading, report);
+        if (a.number != CARD_DONE) refuse_month(st, &m, a.number);
+        if (printing) print_report(&m, &a, report, st->first);
+        run = a.run;
+    }
+    return run;
+}
+
+/* Once every repair was found good: all from the start again, and each report is printed as it comes. There may be
+ * too many to hold back. */
+static void print_reports(const station *st, const repairs *rs, card_columns columns, page *r) {
+    r->steps = 0;
+    repair_months(st, rs, columns, add_singly(st, columns, start(st), r), 1);
 }
 
 int main(int argc, char **argv) {
     static station st;
+    static repairs rs;
     static page r;
     static int32_t x1[CARD_MOST_MONTHS], x2[CARD_MOST_MONTHS], x3[CARD_MOST_MONTHS], index[CARD_MOST_MONTHS];
     static uint8_t mark[CARD_MOST_MONTHS];
     static card_record records[CARD_MOST_MONTHS];
     static int64_t v[CARD_MOST_MONTHS];
     card_columns columns = card_columns_of(x1, x2, x3, index, mark, records, v, CARD_MOST_MONTHS);
+    int repairing = argc >= 2 && strcmp(argv[1], "--repair") == 0;
     /* a pipe that nobody reads is then a write that fails, and is said */
     signal(SIGPIPE, SIG_IGN);
-    if (argc > 2)
+    if (repairing && argc != 3)
+        stop(NOT_READ, "--repair and %d arguments more; expected: --repair and the name of a file", argc - 2);
+    if (!repairing && argc > 2)
         stop(NOT_READ, "%d arguments; expected: none, or how many months are added in a call", argc - 1);
     if (argc == 2 && strcmp(argv[1], "--help") == 0) {
         print_help();
@@ -796,12 +987,17 @@ int main(int argc, char **argv) {
         return 0;
     }
     size_t most = argc == 2 ? months_in_a_call(argv[1]) : 0;
-    scanner s = read_input();
+    scanner s = read_standard_input(), of_repairs = {0};
+    if (repairing) of_repairs = read_file_of_repairs(argv[2]);
     read_station(&s, &st);
+    if (repairing) read_repairs(&of_repairs, &st, &rs);
     card_run run = start(&st);
     run = most == 0 ? add_singly(&st, columns, run, &r) : add_seasons(&st, columns, run, &r, most);
+    run = repair_months(&st, &rs, columns, run, 0);
     look_back(columns, run, &r);
-    if (most == 0)
+    if (repairing)
+        print_reports(&st, &rs, columns, &r);
+    else if (most == 0)
         print_singly(&r, st.first);
     else
         print_seasons(&r);

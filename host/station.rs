@@ -1,5 +1,5 @@
-//! A station's card from end to end, in Rust: the same program as station.c, which says what the station file
-//! holds, what the argument is and what the statuses mean. Function by function it does what that one does, and
+//! A station's card from end to end, in Rust: the same program as station.c, which says what the station file and a
+//! file of repairs hold, what the arguments are and what the statuses mean. Function by function it does what that one does, and
 //! it prints and says the same, byte for byte.
 //!
 //! It is started as a C program is. Rust's own start would put /dev/null in the place of a standard output that
@@ -9,9 +9,10 @@
 mod card;
 
 use card::{
-    meaning, Columns, Figures, Reading, Record, Run, Shown, BAD_READING, CAPACITY_OUT, CONSTANTS, CONSTANT_OUT,
-    DONE, FULL, HAD_WATER, MISSING_READING, MOST_MONTHS, SETTLED, STORAGE_OUT, TRACE, ZERO_K,
+    meaning, Change, Columns, Figures, Reading, Record, Run, Shown, BAD_READING, CAPACITY_OUT, CONSTANTS,
+    CONSTANT_OUT, DONE, FULL, HAD_WATER, MISSING_READING, MOST_MONTHS, NONE, SETTLED, STORAGE_OUT, TRACE, ZERO_K,
 };
+use std::ffi::{OsStr, OsString};
 use std::fs::File;
 use std::io::{Read, Write};
 use std::mem::ManuallyDrop;
@@ -44,18 +45,21 @@ fn stop<T>(status: i32, what: String) -> Result<T, Stop> {
     Err(Stop { status, line: format!("station: {what}\n") })
 }
 
-/// A place in the file, counted from 1; column 0 where it is a line as a whole, or the end of the file.
+/// A place in a file, counted from 1; column 0 where it is a line as a whole, or the end of the file. What stands
+/// before the line where it is told is nothing of the station file, and REPAIRS of the file of repairs.
+const REPAIRS: &str = "repairs, ";
 #[derive(Clone, Copy)]
 struct Place {
+    file: &'static str,
     line: usize,
     column: usize,
 }
 
-/// What is wrong at a place of the file.
+/// What is wrong at a place of a file.
 fn refuse<T>(at: Place, what: String) -> Result<T, Stop> {
     match at.column {
-        0 => stop(REFUSED, format!("line {}: {what}", at.line)),
-        column => stop(REFUSED, format!("line {}, column {column}: {what}", at.line)),
+        0 => stop(REFUSED, format!("{}line {}: {what}", at.file, at.line)),
+        column => stop(REFUSED, format!("{}line {}, column {column}: {what}", at.file, at.line)),
     }
 }
 
@@ -88,7 +92,7 @@ impl Word<'_> {
 
     /// The place of a byte of it.
     fn place(&self, i: usize) -> Place {
-        Place { line: self.at.line, column: self.at.column + i }
+        Place { column: self.at.column + i, ..self.at }
     }
 
     /// None after its last byte.
@@ -109,8 +113,9 @@ impl Word<'_> {
     }
 }
 
-/// The file, and how far it was read.
+/// A file, and how far it was read.
 struct Scanner<'a> {
+    file: &'static str, // as its places have it
     text: &'a [u8],
     next: usize,         // where the next line begins
     closed: usize,       // how many line feeds stand before it
@@ -125,18 +130,18 @@ struct Scanner<'a> {
 
 impl<'a> Scanner<'a> {
     /// Before the first line.
-    fn new(text: &'a [u8]) -> Scanner<'a> {
-        let expected = String::new();
-        Scanner { text, next: 0, closed: 0, number: 1, line: &[], at: 0, words: 0, lines: 0, expected, other: "" }
+    fn new(file: &'static str, text: &'a [u8]) -> Scanner<'a> {
+        let (line, expected) = (&text[..0], String::new());
+        Scanner { file, text, next: 0, closed: 0, number: 1, line, at: 0, words: 0, lines: 0, expected, other: "" }
     }
 
     /// The place of the line as a whole, and below of a byte of it.
     fn whole_line(&self) -> Place {
-        Place { line: self.number, column: 0 }
+        Place { file: self.file, line: self.number, column: 0 }
     }
 
     fn in_line(&self, at: usize) -> Place {
-        Place { line: self.number, column: at + 1 }
+        Place { file: self.file, line: self.number, column: at + 1 }
     }
 
     /// Goes to the next line, whatever it holds; false where the file has ended.
@@ -278,6 +283,9 @@ struct Kind {
     after: &'static str,
     takes_trace: bool,           // whether T is one,
     trace: Option<&'static str>, // and what is said of a t, and of a T where it is none
+    takes_kept: bool,            // whether = is one, the reading as it is recorded
+    missing: &'static str,       // what is to be done about one that is missing,
+    refused: &'static str,       // and what more is said of one that the library does not accept
 }
 
 const THOUSANDTHS: Kind = Kind {
@@ -287,14 +295,14 @@ const THOUSANDTHS: Kind = Kind {
     after: "expected: a whole number of thousandths of an inch",
     takes_trace: false,
     trace: None,
+    takes_kept: false,
+    missing: "",
+    refused: "",
 };
 const TEN_THOUSANDTHS: Kind = Kind {
-    decimals: false,
-    comma: ", and a whole number has digits only",
     form: "expected: a whole number of ten-thousandths",
     after: "expected: a whole number of ten-thousandths",
-    takes_trace: false,
-    trace: None,
+    ..THOUSANDTHS
 };
 const PRECIPITATION: Kind = Kind {
     decimals: true,
@@ -303,14 +311,31 @@ const PRECIPITATION: Kind = Kind {
     after: "digits and a point only, and the unit stands once, in the line months",
     takes_trace: true,
     trace: Some("a trace of rain is written T, a missing reading -"),
+    takes_kept: false,
+    missing: "README.md, \"Missing months\", says what to do",
+    refused: ", and a missing reading is written -",
 };
 const PE: Kind = Kind {
-    decimals: true,
-    comma: ", and decimals begin with a point",
     form: "expected: digits, perhaps with a point, or - for a missing reading",
-    after: "digits and a point only, and the unit stands once, in the line months",
     takes_trace: false,
     trace: Some("a trace is of rain; PE is worked out and not observed: write 0, or - where it is missing"),
+    ..PRECIPITATION
+};
+/// The same two in a file of repairs.
+const NEW_PRECIPITATION: Kind = Kind {
+    form: "expected: digits, perhaps with a point, T for a trace, or = for the reading as recorded",
+    after: "digits and a point only, and the unit stands once, in the line repairs",
+    trace: Some("a trace of rain is written T, the reading as recorded ="),
+    takes_kept: true,
+    missing: "a repair has both readings, and = is the one that is recorded",
+    refused: "",
+    ..PRECIPITATION
+};
+const NEW_PE: Kind = Kind {
+    form: "expected: digits, perhaps with a point, or = for the reading as recorded",
+    takes_trace: false,
+    trace: Some("a trace is of rain; PE is worked out and not observed: write 0, or = for the recorded one"),
+    ..NEW_PRECIPITATION
 };
 
 /// The smallest binary32 number above zero, which T is handed over as: in either unit it is a trace to the library
@@ -379,24 +404,25 @@ fn take_whole<'a>(s: &mut Scanner<'a>, k: &Kind) -> Result<Whole<'a>, Stop> {
     }
 }
 
-/// A reading, and the word that it was.
+/// A reading, the word that it was, and as what it was read. That of a = is known when its month is repaired.
 #[derive(Clone, Copy)]
 struct Measure<'a> {
     reading: Reading,
     word: Word<'a>,
+    kind: &'static Kind,
 }
 
 /// The word is scanned here, since `parse` takes much that is no reading (1e2, nan, +5). What is left it takes; a
 /// NaN in its place would be refused by the library.
-fn take_reading<'a>(s: &mut Scanner<'a>, unit: Unit, k: &Kind) -> Result<Measure<'a>, Stop> {
+fn take_reading<'a>(s: &mut Scanner<'a>, unit: Unit, kind: &'static Kind) -> Result<Measure<'a>, Stop> {
     let w = s.take()?;
-    if w.is("-") {
-        return Ok(Measure { reading: Reading::missing(), word: w });
+    if w.is("-") || kind.takes_kept && w.is("=") {
+        return Ok(Measure { reading: Reading::missing(), word: w, kind });
     }
-    if k.takes_trace && w.is("T") {
-        return Ok(Measure { reading: unit.reading(SMALLEST), word: w });
+    if kind.takes_trace && w.is("T") {
+        return Ok(Measure { reading: unit.reading(SMALLEST), word: w, kind });
     }
-    let mut i = w.after_digits(first_digit(w, k)?);
+    let mut i = w.after_digits(first_digit(w, kind)?);
     if w.byte(i) == Some(b'.') {
         if !w.is_digit(i + 1) {
             let what = "write digits after it, or no point";
@@ -405,10 +431,10 @@ fn take_reading<'a>(s: &mut Scanner<'a>, unit: Unit, k: &Kind) -> Result<Measure
         i = w.after_digits(i + 1);
     }
     if i < w.text.len() {
-        return refuse_rest(w, i, k);
+        return refuse_rest(w, i, kind);
     }
     let measure = std::str::from_utf8(w.text).ok().and_then(|text| text.parse().ok()).unwrap_or(f32::NAN);
-    Ok(Measure { reading: unit.reading(measure), word: w })
+    Ok(Measure { reading: unit.reading(measure), word: w, kind })
 }
 
 // ---- The station file -----------------------------------------------------------------------------------------
@@ -424,6 +450,13 @@ impl Unit {
         match self {
             Unit::Inches => Reading::inches(measure),
             Unit::Millimetres => Reading::millimetres(measure),
+        }
+    }
+
+    fn name(self) -> &'static str {
+        match self {
+            Unit::Inches => "inches",
+            Unit::Millimetres => "millimetres",
         }
     }
 }
@@ -527,18 +560,23 @@ fn date_of(w: Word) -> Option<usize> {
     }
 }
 
-/// A date, where it must be the one that follows. A gap is no missing reading: the next month's rain would be
-/// judged by the constants of another month.
-fn take_date(s: &Scanner, st: &Station, w: Word) -> Result<usize, Stop> {
-    let said = w.said();
+/// A date, which the word must be.
+fn take_date(s: &Scanner, w: Word) -> Result<usize, Stop> {
     no_comma(w, "")?;
-    let when = match date_of(w) {
-        Some(when) => when,
+    match date_of(w) {
+        Some(when) => Ok(when),
         None => {
             let expected = format!("(four digits, a minus, 01 to 12); expected: {}{}", s.expected, s.other);
-            return refuse(w.at, format!("\"{said}\" is no month {expected}"));
+            refuse(w.at, format!("\"{}\" is no month {expected}", w.said()))
         }
-    };
+    }
+}
+
+/// A date, where it must be the one that follows. A gap is no missing reading: the next month's rain would be
+/// judged by the constants of another month.
+fn take_following(s: &Scanner, st: &Station, w: Word) -> Result<usize, Stop> {
+    let when = take_date(s, w)?;
+    let said = w.said();
     if st.months.is_empty() || when == st.next {
         return Ok(when);
     }
@@ -579,7 +617,7 @@ fn read_month<'a>(s: &mut Scanner<'a>, st: &mut Station<'a>) -> Result<bool, Sto
         s.close_line()?;
         return Ok(false);
     }
-    let when = take_date(s, st, w)?;
+    let when = take_following(s, st, w)?;
     let precipitation = take_reading(s, st.unit, &PRECIPITATION)?;
     let pe = take_reading(s, st.unit, &PE)?;
     s.close_line()?;
@@ -593,9 +631,21 @@ fn read_month<'a>(s: &mut Scanner<'a>, st: &mut Station<'a>) -> Result<bool, Sto
     Ok(true)
 }
 
+/// Nothing may follow the last line.
+fn close_file(s: &mut Scanner) -> Result<(), Stop> {
+    if !s.next_line() {
+        return Ok(());
+    }
+    if s.line.is_empty() {
+        let what = "it is empty; end is the last line, and nothing may follow it";
+        return refuse(s.whole_line(), what.to_string());
+    }
+    refuse(s.in_line(0), "something after the last line, end; nothing may follow it".to_string())
+}
+
 /// The whole file, line by line, before the library sees any of it.
 fn read_station(text: &[u8]) -> Result<Station<'_>, Stop> {
-    let s = &mut Scanner::new(text);
+    let s = &mut Scanner::new("", text);
     let capacity = read_storage(s, "capacity")?;
     let surface = read_storage(s, "surface")?;
     let underlying = read_storage(s, "underlying")?;
@@ -603,14 +653,83 @@ fn read_station(text: &[u8]) -> Result<Station<'_>, Stop> {
     let unit = read_unit(s)?;
     let mut st = Station { capacity, surface, underlying, constants, unit, months: vec![], first: 0, next: 0 };
     while read_month(s, &mut st)? {}
-    if !s.next_line() {
-        return Ok(st);
+    close_file(s)?;
+    Ok(st)
+}
+
+// ---- The file of repairs --------------------------------------------------------------------------------------
+
+/// What it holds. Of a station file with more months than a run can hold, of which the library refuses one before any
+/// is repaired, not all need be kept.
+#[derive(Default)]
+struct Repairs<'a> {
+    months: Vec<Month<'a>>,
+    last: usize, // the last month's date
+}
+
+/// The unit stands in this file too, and is the station file's.
+fn read_same_unit(s: &mut Scanner, st: &Station) -> Result<(), Stop> {
+    let unit = st.unit.name();
+    s.open_line(format!("repairs {unit}"), "")?;
+    s.keyword("repairs")?;
+    let w = s.take()?;
+    no_comma(w, "")?;
+    if !w.is(unit) {
+        let what = format!("is not the station file's unit; expected: {}", s.expected);
+        return refuse(w.at, format!("\"{}\" {what}", w.said()));
     }
-    if s.line.is_empty() {
-        let what = "it is empty; end is the last line, and nothing may follow it";
-        return refuse(s.whole_line(), what.to_string());
+    s.close_line()
+}
+
+/// A date, where it must be one of the station file and after those that were read.
+fn take_later(s: &Scanner, st: &Station, rs: &Repairs, w: Word) -> Result<usize, Stop> {
+    let when = take_date(s, w)?;
+    let said = w.said();
+    if when < st.first || when >= st.next {
+        let (first, last) = (date(st.first), date(st.next - 1));
+        return refuse(w.at, format!("{said} is not in the station file, which has {first} to {last}"));
     }
-    refuse(s.in_line(0), "something after the last line, end; nothing may follow it".to_string())
+    if !rs.months.is_empty() && when == rs.last {
+        return refuse(w.at, format!("{said} here again; each month stands once"));
+    }
+    if !rs.months.is_empty() && when < rs.last {
+        let last = date(rs.last);
+        return refuse(w.at, format!("{said} here, after {last}; the months stand in order of time"));
+    }
+    Ok(when)
+}
+
+/// The next month; false where the line is the end.
+fn read_repair<'a>(s: &mut Scanner<'a>, st: &Station, rs: &mut Repairs<'a>) -> Result<bool, Stop> {
+    let other = if rs.months.is_empty() { "" } else { ", or end" };
+    s.open_line("YYYY-MM PRECIPITATION PE".to_string(), other)?;
+    let w = s.take()?;
+    if w.is("end") {
+        if rs.months.is_empty() {
+            return refuse(w.at, format!("end here, and no month before it; expected: {}", s.expected));
+        }
+        s.expected = "end".to_string();
+        s.close_line()?;
+        return Ok(false);
+    }
+    rs.last = take_later(s, st, rs, w)?;
+    let precipitation = take_reading(s, st.unit, &NEW_PRECIPITATION)?;
+    let pe = take_reading(s, st.unit, &NEW_PE)?;
+    s.close_line()?;
+    if rs.months.len() < MOST_MONTHS {
+        rs.months.push(Month { date: w, precipitation, pe });
+    }
+    Ok(true)
+}
+
+/// The whole file, too, before the library sees any of either.
+fn read_repairs<'a>(text: &'a [u8], st: &Station) -> Result<Repairs<'a>, Stop> {
+    let s = &mut Scanner::new(REPAIRS, text);
+    read_same_unit(s, st)?;
+    let mut rs = Repairs::default();
+    while read_repair(s, st, &mut rs)? {}
+    close_file(s)?;
+    Ok(rs)
 }
 
 // ---- What the library refuses ---------------------------------------------------------------------------------
@@ -667,20 +786,18 @@ fn refuse_reading(st: &Station, m: &Measure, name: &str, number: u8) -> Result<(
     }
     let why = meaning(number);
     if number == MISSING_READING {
-        let what = "README.md, \"Missing months\", says what to do";
-        return refuse(m.word.at, format!("{name} is missing ({number}: {why}); {what}"));
+        return refuse(m.word.at, format!("{name} is missing ({number}: {why}); {}", m.kind.missing));
     }
     let range = match st.unit {
         Unit::Inches => "inches are 0 to 100",
         Unit::Millimetres => "millimetres are 0 to 2540",
     };
-    let what = format!("is refused ({number}: {why}), {range}, and a missing reading is written -");
+    let what = format!("is refused ({number}: {why}), {range}{}", m.kind.refused);
     refuse(m.word.at, format!("{name} {} {what}", m.word.said()))
 }
 
-/// Refuses a month for the number that an add answered.
-fn refuse_month<T>(st: &Station, at: usize, number: u8) -> Result<T, Stop> {
-    let m = &st.months[at];
+/// Refuses a month for the number that an add or a repair answered.
+fn refuse_month<T>(st: &Station, m: &Month, number: u8) -> Result<T, Stop> {
     if number == MISSING_READING || number == BAD_READING {
         refuse_reading(st, &m.precipitation, "precipitation", number)?;
         refuse_reading(st, &m.pe, "PE", number)?;
@@ -689,7 +806,7 @@ fn refuse_month<T>(st: &Station, at: usize, number: u8) -> Result<T, Stop> {
     if number == FULL {
         return refuse(m.date.at, format!("{what}, a run holds {MOST_MONTHS}"));
     }
-    refuse(Place { line: m.date.at.line, column: 0 }, what)
+    refuse(Place { column: 0, ..m.date.at }, what)
 }
 
 // ---- The card -------------------------------------------------------------------------------------------------
@@ -704,10 +821,10 @@ struct Step {
 /// Adds the months one by one.
 fn add_singly(st: &Station, columns: &mut Columns, mut run: Run) -> Result<(Run, Vec<Step>), Stop> {
     let mut steps = Vec::new();
-    for (i, m) in st.months.iter().enumerate() {
+    for m in &st.months {
         let a = card::add_water(run, m.precipitation.reading, m.pe.reading, columns);
         if a.number != DONE {
-            return refuse_month(st, i, a.number);
+            return refuse_month(st, m, a.number);
         }
         steps.push(Step { added: 1, settled: a.settled, figures: a.figures });
         run = a.run;
@@ -729,12 +846,12 @@ fn listed(reading: Reading) -> i32 {
 /// Adds the months `most` at a time.
 fn add_seasons(st: &Station, columns: &mut Columns, mut run: Run, most: usize) -> Result<(Run, Vec<Step>), Stop> {
     let mut steps = Vec::new();
-    for (season, months) in st.months.chunks(most).enumerate() {
+    for months in st.months.chunks(most) {
         let p: Vec<i32> = months.iter().map(|m| listed(m.precipitation.reading)).collect();
         let pe: Vec<i32> = months.iter().map(|m| listed(m.pe.reading)).collect();
         let a = card::add_season(run, &p, &pe, columns);
         if a.number != DONE {
-            return refuse_month(st, season * most + a.added as usize, a.number);
+            return refuse_month(st, &months[a.added as usize], a.number);
         }
         steps.push(Step { added: a.added, settled: a.settled, figures: a.figures });
         run = a.run;
@@ -774,6 +891,15 @@ fn rain(thousandths: i64, trace: bool) -> String {
     }
 }
 
+/// A mark as it is printed.
+fn letter(mark: i32) -> char {
+    if mark == SETTLED.into() {
+        'S'
+    } else {
+        'O'
+    }
+}
+
 /// A row for each month, as its own add answered.
 fn singly_text(steps: &[Step], first: usize) -> String {
     let mut text = "month P PE CAFEC Z percent index modified settled\n".to_string();
@@ -796,11 +922,23 @@ fn seasons_text(steps: &[Step]) -> String {
     text
 }
 
+/// A repair: its month, how many months it changed, and a row for each of these.
+fn report_text(m: &Month, report: &[Change], first: usize) -> String {
+    let mut text = format!("repair {} changed {}\n", m.date.said(), report.len());
+    text += "month index_before index_after mark_before mark_after\n";
+    for c in report {
+        let (before, after) = (letter(c.mark_before), letter(c.mark_after));
+        let when = date(first + c.row as usize);
+        text += &format!("{when} {} {} {before} {after}\n", c.index_before, c.index_after);
+    }
+    text
+}
+
 /// A row for each month, as the columns have it in the end.
 fn rows_text(rows: &[Shown], first: usize) -> String {
     let mut text = "month X1 X2 X3 index modified mark\n".to_string();
     for (i, r) in rows.iter().enumerate() {
-        let mark = if r.mark == SETTLED { 'S' } else { 'O' };
+        let mark = letter(r.mark.into());
         text += &format!("{} {} {} {} ", date(first + i), r.x1, r.x2, r.x3);
         text += &format!("{} {} {mark}\n", r.index, r.month.modified);
     }
@@ -826,9 +964,11 @@ fn water_text(rows: &[Shown], first: usize) -> String {
 fn help_text() -> String {
     format!(
         "station [MONTHS] <FILE\n\
+        station --repair REPAIRS <FILE\n\
         \n\
         Reads a station file from standard input, adds its months to a run and prints what the card shows.\n\
         MONTHS, 1 to {MOST_MONTHS}: adds so many months in a call, as a card that was offline; else one by one.\n\
+        With --repair it then repairs the months of the file REPAIRS, one after another.\n\
         \n\
         Printed are three tables; water, Z, X and both indexes in thousandths:\n\
         \x20 month P PE CAFEC Z percent index modified settled   each month as it was added, and how many that\n\
@@ -837,20 +977,24 @@ fn help_text() -> String {
         \x20 month X1 X2 X3 index modified mark                  each month as it stands in the end, S settled\n\
         \x20                                                     or O open\n\
         \x20 month P PE ET R L RO surface underlying             its water, and the soil at its end\n\
+        With --repair stands in place of the first, for each repair, its month, how many months it changed, as\n\
+        repair YYYY-MM changed COUNT, and a table of these:\n\
+        \x20 month index_before index_after mark_before mark_after\n\
         \n\
         T for a month's precipitation, in the file and as P, is a trace: rain too little to measure, which\n\
         counts as 0. PE is always a number. With MONTHS a trace is printed 0: such a call cannot tell it.\n\
         \n\
-        Status: 0 done; 1 the file or a month in it is refused; 2 wrong arguments, or input that cannot be\n\
+        Status: 0 done; 1 a file or a month in it is refused; 2 wrong arguments, or input that cannot be\n\
         read; 3 output that cannot be written. What is wrong is said on standard error, in one line.\n\
         \n\
-        The format of the file stands in the head of samples/western-kansas-station.txt and in README.md.\n"
+        The format of the file stands in the head of samples/western-kansas-station.txt and in README.md, that of\n\
+        a file of repairs in the head of samples/western-kansas-repairs.txt.\n"
     )
 }
 
 /// How many months are added in a call, by the program's argument.
 fn months_in_a_call(argument: &[u8]) -> Result<usize, Stop> {
-    let w = Word { text: argument, at: Place { line: 0, column: 0 } };
+    let w = Word { text: argument, at: Place { file: "", line: 0, column: 0 } };
     let end = w.after_digits(0);
     let add = |n: usize, &digit: &u8| if n <= MOST_MONTHS { 10 * n + usize::from(digit - b'0') } else { n };
     let n = w.text[..end].iter().fold(0, add);
@@ -861,32 +1005,119 @@ fn months_in_a_call(argument: &[u8]) -> Result<usize, Stop> {
     Ok(n)
 }
 
-/// The whole of standard input.
-fn read_input() -> Result<Vec<u8>, Stop> {
+/// The whole of an input.
+fn read_input(from: Option<&File>, input: &str, file: &str) -> Result<Vec<u8>, Stop> {
     let mut text = Vec::new();
-    if (&*standard(0)).take(MOST_BYTES as u64 + 1).read_to_end(&mut text).is_err() {
-        return stop(NOT_READ, "standard input cannot be read".to_string());
+    match from.map(|from| from.take(MOST_BYTES as u64 + 1).read_to_end(&mut text)) {
+        Some(Ok(_)) => {}
+        _ => return stop(NOT_READ, format!("{input} cannot be read")),
     }
     if text.len() > MOST_BYTES {
-        return stop(REFUSED, format!("the file is larger than {MOST_BYTES} bytes"));
+        return stop(REFUSED, format!("{file} is larger than {MOST_BYTES} bytes"));
     }
     Ok(text)
 }
 
-/// What is to be printed.
-fn station() -> Result<String, Stop> {
-    let arguments: Vec<std::ffi::OsString> = std::env::args_os().skip(1).collect();
-    let most = match &arguments[..] {
-        [] => 0,
-        [help] if help == "--help" => return Ok(help_text()),
-        [months] => months_in_a_call(months.as_bytes())?,
+fn read_standard_input() -> Result<Vec<u8>, Stop> {
+    read_input(Some(&standard(0)), "standard input", "the file")
+}
+
+fn read_file_of_repairs(name: &OsStr) -> Result<Vec<u8>, Stop> {
+    read_input(File::open(name).ok().as_ref(), "the file of repairs", "the file of repairs")
+}
+
+// ---- Repairs --------------------------------------------------------------------------------------------------
+
+/// A reading of a repair: for a = the recorded one, as its kind is.
+fn new_reading(st: &Station, m: &Measure, recorded: i32, kind: i32) -> Reading {
+    if !m.word.is("=") {
+        return m.reading;
+    }
+    if kind == TRACE.into() {
+        st.unit.reading(SMALLEST)
+    } else {
+        Reading::whole(recorded)
+    }
+}
+
+/// Repairs the months one after another.
+fn repair_months(
+    st: &Station,
+    rs: &Repairs,
+    columns: &mut Columns,
+    mut run: Run,
+    printing: bool,
+) -> Result<Run, Stop> {
+    let mut report = vec![Change::default(); MOST_MONTHS];
+    for repair in &rs.months {
+        let mut m = *repair;
+        let row = date_of(m.date).unwrap_or(st.next) - st.first;
+        let recorded = card::row(run, row, columns).month;
+        m.precipitation.reading = new_reading(st, &m.precipitation, recorded.p, recorded.kind);
+        m.pe.reading = new_reading(st, &m.pe, recorded.pe, NONE.into());
+        let a = card::repair(run, row, m.precipitation.reading, m.pe.reading, columns, &mut report);
+        if a.number != DONE {
+            return refuse_month(st, &m, a.number);
+        }
+        if printing {
+            print(&report_text(&m, &report[..a.changed as usize], st.first))?;
+        }
+        run = a.run;
+    }
+    Ok(run)
+}
+
+/// Once every repair was found good: all from the start again, and each report is printed as it comes. There may be
+/// too many to hold back.
+fn print_reports(st: &Station, rs: &Repairs, columns: &mut Columns) -> Result<(), Stop> {
+    let (run, _) = add_singly(st, columns, start(st)?)?;
+    repair_months(st, rs, columns, run, true)?;
+    Ok(())
+}
+
+/// What the arguments ask for.
+enum Asked {
+    Help,
+    Months(usize), // so many in a call; 0 is one by one
+    Repair(OsString),
+}
+
+fn asked() -> Result<Asked, Stop> {
+    let arguments: Vec<OsString> = std::env::args_os().skip(1).collect();
+    match &arguments[..] {
+        [] => Ok(Asked::Months(0)),
+        [repair, file] if repair == "--repair" => Ok(Asked::Repair(file.clone())),
+        [repair, more @ ..] if repair == "--repair" => {
+            let what = "arguments more; expected: --repair and the name of a file";
+            stop(NOT_READ, format!("--repair and {} {what}", more.len()))
+        }
+        [help] if help == "--help" => Ok(Asked::Help),
+        [months] => Ok(Asked::Months(months_in_a_call(months.as_bytes())?)),
         more => {
             let what = "arguments; expected: none, or how many months are added in a call";
-            return stop(NOT_READ, format!("{} {what}", more.len()));
+            stop(NOT_READ, format!("{} {what}", more.len()))
         }
+    }
+}
+
+/// All that is printed.
+fn station() -> Result<(), Stop> {
+    let asked = asked()?;
+    let most = match asked {
+        Asked::Help => return print(&help_text()),
+        Asked::Months(most) => most,
+        Asked::Repair(_) => 0,
     };
-    let text = read_input()?;
+    let text = read_standard_input()?;
+    let of_repairs = match &asked {
+        Asked::Repair(name) => Some(read_file_of_repairs(name)?),
+        _ => None,
+    };
     let st = read_station(&text)?;
+    let rs = match &of_repairs {
+        Some(text) => read_repairs(text, &st)?,
+        None => Repairs::default(),
+    };
     let [mut x1, mut x2, mut x3, mut index] = [(); 4].map(|()| vec![0; MOST_MONTHS]);
     let mut mark = vec![0; MOST_MONTHS];
     let mut records = vec![Record::default(); MOST_MONTHS];
@@ -903,9 +1134,17 @@ fn station() -> Result<String, Stop> {
     let run = start(&st)?;
     let (run, steps) =
         if most == 0 { add_singly(&st, columns, run)? } else { add_seasons(&st, columns, run, most)? };
+    let run = repair_months(&st, &rs, columns, run, false)?;
     let rows = look_back(columns, run)?;
-    let first = if most == 0 { singly_text(&steps, st.first) } else { seasons_text(&steps) };
-    Ok(first + &rows_text(&rows, st.first) + &water_text(&rows, st.first))
+    let first = match asked {
+        Asked::Repair(_) => {
+            print_reports(&st, &rs, columns)?;
+            String::new()
+        }
+        _ if most == 0 => singly_text(&steps, st.first),
+        _ => seasons_text(&steps),
+    };
+    print(&(first + &rows_text(&rows, st.first) + &water_text(&rows, st.first)))
 }
 
 /// Prints a text, or says that it cannot: standard output may be closed, full, or a pipe that nobody reads. No
@@ -927,7 +1166,7 @@ const SIG_IGN: usize = 1;
 pub extern "C" fn main() -> i32 {
     // a pipe that nobody reads is then a write that fails, and is said
     unsafe { signal(SIGPIPE, SIG_IGN) };
-    match station().and_then(|text| print(&text)) {
+    match station() {
         Ok(()) => 0,
         Err(stop) => {
             // where standard error cannot be written either, the status still tells

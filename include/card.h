@@ -28,14 +28,19 @@
  *     card_record water = card_row_in(columns, run, 0).month;   // June: ET, runoff, the soil at its end
  *
  * Every month is marked open or settled. An open month shows a provisional index and may still change. A
- * settled month never changes, and its index is what hindsight over the whole series would have chosen.
+ * settled month is changed by nothing but a repair, and its index is what hindsight over the whole series, as
+ * it stands since the last repair, would have chosen.
  *
  * Beside Palmer's index each month has the modified index of Heddinghaus and Sabol, for whoever cannot wait
- * until a month is settled. It is fixed when the month is added, and while a spell abates it stands between X3
- * and the other side, X1 or X2, by the chance that the spell has ended: see card_record.
+ * until a month is settled. It is fixed when the month is added, and only a repair changes it; while a spell
+ * abates it stands between X3 and the other side, X1 or X2, by the chance that the spell has ended: see
+ * card_record.
  *
  * A trace is rain that fell, but too little to measure. It counts as no water, and is told from no rain all the
  * same: in the reading's answer, in the month's figures and in its record. See card_read.
+ *
+ * A month that was added with a wrong reading, as from a gauge that was found tilted, is put right by a
+ * repair, which reworks it and all months after it: see card_repair_in.
  *
  * Each call answers with a number: 0 where it did what it was asked, and otherwise the refusal, from the
  * list below. A refused call writes nothing that was lent, answers with all figures 0 and hands back the
@@ -82,15 +87,16 @@
  *     card_add_inches       824
  *     card_add_z            568
  *     card_add_season      1208
+ *     card_repair         STACK
  *     card_row              376
  *     card_whole_series      88
  *
  * It is counted from the return address, which is included, down to the lowest word of 8 bytes that was
  * written by the call or by what it calls, memcpy and memset included. Not counted is what the caller
  * keeps: the arguments that are passed on the stack (a run alone is 288 bytes), the room for the answer
- * (card_started 296 bytes, card_added 376, card_season 384, card_shown 88) and what the inline functions
- * of this header put into the caller's frame; nor is an interrupt. The figures are the deepest seen over
- * months and refusals of all sorts: measured, not proved.
+ * (card_started 296 bytes, card_added 376, card_season 384, card_repaired 296, card_shown 88) and what the
+ * inline functions of this header put into the caller's frame; nor is an interrupt. The figures are the
+ * deepest seen over months and refusals of all sorts: measured, not proved.
  */
 #ifndef CARD_H
 #define CARD_H
@@ -107,18 +113,20 @@ enum {
     CARD_DONE = 0,
     CARD_LENGTHS = 1,        /* the columns, or the lists of a whole series, not all of one length, or
                                 length 0 or above CARD_MOST_MONTHS; the two lists of a season not of one
-                                length */
+                                length; the report of a repair not as long as the columns */
     CARD_NOT_SIXTY = 2,      /* constants not sixty numbers */
     CARD_CONSTANT = 3,       /* a constant outside its range */
     CARD_CAPACITY = 4,       /* capacity outside its range, 100 to 30,000 */
     CARD_STORAGE = 5,        /* a start storage negative or above its layer: see card_soil */
     CARD_START_MONTH = 6,    /* start month not 1 to 12 */
-    CARD_NOT_A_RUN = 7,      /* not a run, or not the run of these columns: see card_run */
+    CARD_NOT_A_RUN = 7,      /* not a run, or not the run of these columns: see card_run; of a repair also
+                                a recorded figure outside its range: see card_repair_in */
     CARD_MISSING_READING = 8,/* reading missing */
     CARD_BAD_READING = 9,    /* reading not acceptable */
     CARD_FULL = 10,          /* months already equal the column length */
     CARD_NO_ROW = 11,        /* row number not below the months added */
     CARD_BAD_Z = 12,         /* Z outside its range */
+    CARD_WATERLESS = 17,     /* no water in that month: it was added as a Z, and has no reading to repair */
     CARD_ZERO_K = 21         /* a K of 0: every such month would count for nothing */
 };
 
@@ -138,6 +146,7 @@ static inline const char *card_meaning(uint8_t number) {
     case CARD_FULL: return "months already equal the column length";
     case CARD_NO_ROW: return "row number not below the months added";
     case CARD_BAD_Z: return "Z outside its range";
+    case CARD_WATERLESS: return "no water in that month";
     case CARD_ZERO_K: return "a K of 0, by which a month counts for nothing";
     default: return "no number of this library";
     }
@@ -241,9 +250,9 @@ typedef struct card_values {
 } card_values;
 
 /* A run: what a station's card keeps between months, beside the columns. card_start makes one, and each
- * add hands back the next. It is plain data and may be stored and copied as such, 288 bytes in the host's
- * byte order; between its fields are bytes that mean nothing, so two runs are compared field by field and
- * not with memcmp.
+ * add and each repair hands back the next. It is plain data and may be stored and copied as such, 288 bytes
+ * in the host's byte order; between its fields are bytes that mean nothing, so two runs are compared field by
+ * field and not with memcmp.
  *
  * A run and its columns belong together. Store both or neither: a card that may lose power between the two
  * keeps the last whole pair to go back to. Of a pair that does not belong together the calls see, beside columns
@@ -254,6 +263,8 @@ typedef struct card_values {
  *   is empty.
  * - A run of before an add, with the columns of after it, is taken: it is held against the record of its own
  *   last month, which the add left as it was. Its settled months may then change.
+ * - A run of before a repair, with the columns of after it, or the other way round, is refused only where the
+ *   repair changed a storage at the end of the last month. Where it is taken, months to come may be wrong.
  * - A run with the columns of another is refused, unless both storages are the same there, as in two soils that
  *   are empty, or of one capacity and full.
  * - A run of no months is held against nothing.
@@ -262,7 +273,7 @@ typedef struct card_values {
  * months; a constant, the capacity or a storage out of range; a K of 0; a calendar month not 1 to 12; an X
  * beyond 13,000,000 in size; X1 negative or X2 positive; V beyond 4,000,150 x months in size; V above 0
  * without X3 below 0, or V below 0 without X3 above 0; after any month, the last record's storages at its
- * end are not the run's. Nothing else of what the columns hold is asked.
+ * end are not the run's. Nothing else of what the columns hold is asked, but by a repair: see card_repair_in.
  *
  * A card may hold a run that was started with a K of 0 before that was refused. Every call refuses it now,
  * card_row too: not even its rows are shown. Where run.constants[5 * month - 1] is 0, month 1 to 12, put
@@ -319,8 +330,8 @@ enum { CARD_HAD_NO_WATER = 0, CARD_HAD_WATER = 1 };
  * the modified index is ever below 0.
  *
  * The add that takes the month writes its record, at the month's place, and no add to the run that it hands
- * back writes it again: the index of an open month may change, its record does not. Places after the last
- * month are never written.
+ * back writes it again: the index of an open month may change, its record does not. A repair alone writes it
+ * anew, of its own month and of all after it. Places after the last month are never written.
  *
  * The balance of a month of water is read from its record. What fell went back to the air, ran off or stayed
  * in the soil, and where the soil lost, the gain is below 0:
@@ -371,15 +382,20 @@ typedef struct card_record {
  * run.months - 1. That is the least, and all else in the two lists may be 0. A row then shows these months
  * without water and with a Z, a V, a modified index and a kind of 0, and that says nothing of them. V after the
  * last one is run.values.v; the rest is had only by adding all months again, to a new run in other columns.
+ * None of these months can be repaired (17). Of the months added since, those after the first that settled any
+ * can be, as if all had records; up to that one the lists do not tell where the run stood, and a repair takes
+ * their zeros for it.
  *
  * A card may hold records of 52 bytes, from before the kind of the precipitation was kept: the first thirteen
  * numbers of a record as it is now. Copy each into the beginning of a longer one and put 0 (CARD_NONE) for
- * kind: no call asks for it, and a row shows it as it stands. The run and the other six lists stay as they are.
- * Whether a p of 0 was a trace is had only by adding all months again, from their readings.
+ * kind: a repair asks that it is 0 to 2 and keeps it, but for the month repaired; no other call asks for it, and
+ * a row shows it as it stands. The run and the other six lists stay as they are. Whether a p of 0 was a trace is
+ * had only by adding all months again, from their readings.
  *
  * A card may hold records of 48 bytes, from before the modified index was kept: the first twelve numbers of a
  * record as it is now. They are copied in the same way, with 0 for modified too. The modified indexes of these
- * months, too, are had only by adding all months again.
+ * months are had by adding all months again; or, where the first month had water, by repairing it with its
+ * readings as recorded, which reworks them all.
  *
  * What a call answers and writes hangs on that length only where the months do not fit in (7) or fill it
  * (10). So columns made for 2,400, which was the most once, stay usable and give the same answers. And a
@@ -534,12 +550,13 @@ static inline card_season card_add_season_in(card_columns columns, card_run run,
  *   comes, add it and then the months after it; card_add_season_in takes them in one call.
  * - Add an estimate, as from neighbouring stations. The month is reckoned like any other, its water balance
  *   included, and nothing in the card tells that it was an estimate: the holder's own log must. Should the
- *   true reading turn up later, the card is put right only by starting again with it, from the first
- *   month or from a copy of run and columns from before that month.
+ *   true reading turn up later, card_repair_in puts it in the estimate's place.
  * - Add a Z of 0 (card_add_z_in). The calendar moves on, the storages stay as they were before the month,
  *   its record says that it had no water, and the month counts as normal: X1, X2 and X3 fade to 2691/3000
  *   of themselves, a spell in force abates, and one whose X3 is at most 613 in size ends. A drought may
- *   seem to weaken or to end that did not.
+ *   seem to weaken or to end that did not. Such a month cannot be repaired (17): should its reading turn up
+ *   later, the card is put right only by starting again with it, from the first month or from a copy of run
+ *   and columns from before that month.
  * - Start a new run, in other columns: in the same ones it would write over the past months. It knows no
  *   spell (X1, X2, X3 all 0) and needs start storages; months must pass before its index says anything.
  * - Never give 0 for a missing reading, nor a trace. A month without rain is a dry month that nobody measured,
@@ -549,6 +566,70 @@ static inline card_season card_add_season_in(card_columns columns, card_run run,
  * This project recommends: wait as long as the reading may still come, for the index is monthly and a late
  * one is better than a wrong one. Then take an estimate from neighbouring stations, written down as such. A
  * Z of 0 is only for where no estimate can be had and rain and PE were near the normal of that month. */
+
+/* ---- Repairing a month ---------------------------------------------------------------------------- */
+
+/* A month whose index or mark a repair changed. It is 20 bytes without gaps. */
+typedef struct card_change {
+    int32_t row;          /* its row, counted from 0 */
+    int32_t index_before; /* its index before the call, */
+    int32_t index_after;  /* and now */
+    int32_t mark_before;  /* its mark, CARD_OPEN or CARD_SETTLED, before the call, */
+    int32_t mark_after;   /* and now */
+} card_change;
+
+typedef struct card_repaired {
+    uint8_t number;
+    uint32_t changed; /* how many months the report has */
+    card_run run;     /* the run after its last month, with the month repaired */
+} card_repaired;
+
+/* Repairs a month of water: puts two new readings in the place of those that it was added with, and reworks
+ * it and all months after it. Refusals, in this order: 1, 7, 11, 17, precipitation 8 or 9, PE 8 or 9. A refused
+ * repair writes nothing, the report neither, and hands back the run as it was given, with changed 0.
+ *
+ * row: the month's, counted from 0. precipitation and pe: its new readings, of any of the four kinds. One that
+ * is to be kept is handed in again as the month's record has it, card_whole(month.p), card_whole(month.pe), and
+ * a trace, where month.kind is CARD_TRACE, as a trace. A missing reading is 8, and never "as it was". A month
+ * that was added as a Z has no reading to repair (17).
+ *
+ * The run goes back to where it stood before the month, and the month and all after it are added again: the
+ * month from its new readings, a later one from its record, of water its p, pe and kind, of an added Z its z.
+ * So nothing else that was read is asked for again. Written are X1, X2, X3, index, mark, record and V of these
+ * months; and index and mark of those that were open before the month, which are open again and settled as
+ * they come to be. A repair may so alter settled months, and is the only call that does. All months before
+ * these keep every figure.
+ *
+ * In columns that only this run's own calls have written, from its start on, each on the run that the one
+ * before handed back, a repair leaves the columns and the run that a fresh run over the corrected months comes
+ * to. Several months are repaired by a call each, in any order.
+ *
+ * Columns that somebody else wrote are answered by the same rule, from what stands there, and need not come to
+ * that. X1, X2, X3 and V before the month are those of the row before it, all 0 at row 0; the storages are ss
+ * and su of its own record; the calendar is the run's, back by the months from this one on. The open months
+ * before it are those, counted back from it without a gap, of which V is not 0 or neither X1 nor X2 is 0; their
+ * index becomes X3 if that is not 0, else the larger in size of X1 and X2, X2 where they tie.
+ *
+ * report: a list as long as the columns, in the caller's memory and lent as they are; beside the longest it
+ * takes 240,000 bytes. It is written whole. Its first `changed` places are the months whose index or mark is
+ * now another than before the call, oldest first; in all places after them the five numbers are 0. A month with
+ * both as they were is not in it, though its water or its modified index may be another. What the list held
+ * before is not looked at.
+ *
+ * 7 asks more here than of the other calls. Of every row below run.months, those before the month too, each
+ * figure is to be in its range:
+ * - X1 0 to 13,000,000, X2 -13,000,000 to 0, X3, index and modified at most 13,000,000 in size; mark CARD_OPEN
+ *   or CARD_SETTLED;
+ * - V at most 4,000,150 x (row + 1) in size, above 0 only with X3 below 0, below 0 only with X3 above 0;
+ * - z at most 4,000,000 in size; p, pe, et, r, l and ro 0 to 100,000; ss, su, surface and underlying within
+ *   their layers, by run.soil.capacity (see card_soil); water 0 or 1; kind 0 to 2.
+ * What a run's own calls have written is so, and so are records from before, copied as card_columns says.
+ *
+ * The time is linear in the months: each row is looked at, each from the month on is reworked, and each place
+ * of the report is written. A card that may lose power meanwhile keeps run and columns of before it, as with
+ * an add: see card_run. */
+static inline card_repaired card_repair_in(card_columns columns, card_run run, size_t row,
+                                           card_reading precipitation, card_reading pe, card_change *report);
 
 /* ---- Looking back --------------------------------------------------------------------------------- */
 
@@ -561,7 +642,7 @@ typedef struct card_shown {
     int32_t index;
     uint8_t mark;
     card_record month; /* its water, its soil, its modified index and the kind of its precipitation, */
-    int64_t v;         /* and V after it, all as its add wrote them */
+    int64_t v;         /* and V after it, all as its add, or a repair since, wrote them */
 } card_shown;
 
 /* Shows a month's row, counted from 0: index and mark as they stand now, all else as the month left it.
@@ -618,6 +699,16 @@ card_season card_add_season(card_run run,
                             card_record *records, size_t records_length,
                             int64_t *v, size_t v_length);
 
+card_repaired card_repair(card_run run, size_t row, card_reading precipitation, card_reading pe,
+                          int32_t *x1, size_t x1_length,
+                          int32_t *x2, size_t x2_length,
+                          int32_t *x3, size_t x3_length,
+                          int32_t *index, size_t index_length,
+                          uint8_t *mark, size_t mark_length,
+                          card_record *records, size_t records_length,
+                          int64_t *v, size_t v_length,
+                          card_change *report, size_t report_length);
+
 card_shown card_row(card_run run, size_t row,
                     const int32_t *x1, size_t x1_length,
                     const int32_t *x2, size_t x2_length,
@@ -644,10 +735,11 @@ typedef struct card_none {
     uint8_t mark;
     card_record record;
     int64_t v;
+    card_change change;
 } card_none;
 
 static inline card_none card_nothing(void) {
-    card_none none = {0, 0, {0, 0, 0, 0, 0, 0, 0, 0, 0, 0, 0, 0, 0, 0}, 0};
+    card_none none = {0, 0, {0, 0, 0, 0, 0, 0, 0, 0, 0, 0, 0, 0, 0, 0}, 0, {0, 0, 0, 0, 0}};
     return none;
 }
 
@@ -695,6 +787,15 @@ static inline card_season card_add_season_in(card_columns columns, card_run run,
     columns = card_not_null(columns, &none);
     return (card_add_season)(run, precipitation_length ? precipitation : &none.number, precipitation_length,
                              pe_length ? pe : &none.number, pe_length, CARD_EACH(columns));
+}
+
+static inline card_repaired card_repair_in(card_columns columns, card_run run, size_t row,
+                                           card_reading precipitation, card_reading pe, card_change *report) {
+    card_none none = card_nothing();
+    size_t length = columns.x1_length;
+    columns = card_not_null(columns, &none);
+    return (card_repair)(run, row, precipitation, pe, CARD_EACH(columns), length ? report : &none.change,
+                         length);
 }
 
 static inline card_shown card_row_in(card_columns columns, card_run run, size_t row) {
@@ -766,6 +867,24 @@ static inline card_season card_add_season_lent(card_run run,
                              pe_length ? pe : &none.number, pe_length, CARD_EACH(columns));
 }
 
+static inline card_repaired card_repair_lent(card_run run, size_t row,
+                                             card_reading precipitation, card_reading pe,
+                                             int32_t *x1, size_t x1_length,
+                                             int32_t *x2, size_t x2_length,
+                                             int32_t *x3, size_t x3_length,
+                                             int32_t *index, size_t index_length,
+                                             uint8_t *mark, size_t mark_length,
+                                             card_record *records, size_t records_length,
+                                             int64_t *v, size_t v_length,
+                                             card_change *report, size_t report_length) {
+    card_columns columns = {x1, x1_length, x2, x2_length, x3, x3_length, index, index_length,
+                            mark, mark_length, records, records_length, v, v_length};
+    card_none none = card_nothing();
+    columns = card_not_null(columns, &none);
+    return (card_repair)(run, row, precipitation, pe, CARD_EACH(columns),
+                         report_length ? report : &none.change, report_length);
+}
+
 static inline card_shown card_row_lent(card_run run, size_t row,
                                        const int32_t *x1, size_t x1_length,
                                        const int32_t *x2, size_t x2_length,
@@ -809,6 +928,7 @@ static inline uint8_t card_whole_series_lent(const int32_t *z, size_t z_length,
 #define card_add_inches(...) card_add_inches_lent(__VA_ARGS__)
 #define card_add_z(...) card_add_z_lent(__VA_ARGS__)
 #define card_add_season(...) card_add_season_lent(__VA_ARGS__)
+#define card_repair(...) card_repair_lent(__VA_ARGS__)
 #define card_row(...) card_row_lent(__VA_ARGS__)
 
 #ifdef __cplusplus

@@ -1,6 +1,6 @@
 #!/bin/sh
-# What people touch: the two station programs on good and bad files (station.py), the wrappers of host/ (wrappers.py), and
-# what README.md says and shows (readme.py).
+# What people touch: the two station programs on good and bad files (station.py) and on files of repairs (repairs.py), the
+# wrappers of host/ (wrappers.py), and what README.md says and shows (readme.py).
 set -eu
 cd "$(dirname "$0")/.."
 . host/setup.sh
@@ -11,7 +11,9 @@ $CC -std=c99 -O2 -Wall -Wextra -Werror -Iinclude -c tests/station_z.c -o "$OUT/s
 $CC -std=c99 -O2 -Iinclude -Wl,--wrap=card_add_water host/station.c "$OUT/station_z.o" "$LIBRARY" -o "$OUT/station-z-c"
 $RUSTC -C opt-level=3 -C "link-arg=$OUT/station_z.o" -C link-arg=-Wl,--wrap=card_add_water \
     -L native=target/staticlib -l static=card host/station.rs -o "$OUT/station-z-rust"
-STATION_C="$RUN $OUT/station-c" STATION_RUST="$RUN $OUT/station-rust" STATION_Z_C="$RUN $OUT/station-z-c" \
-    STATION_Z_RUST="$RUN $OUT/station-z-rust" python3 tests/station.py
+export STATION_C="$RUN $OUT/station-c" STATION_RUST="$RUN $OUT/station-rust"
+export STATION_Z_C="$RUN $OUT/station-z-c" STATION_Z_RUST="$RUN $OUT/station-z-rust"
+python3 tests/station.py
+python3 tests/repairs.py
 python3 tests/wrappers.py
 CC="$CC" RUN="$RUN" python3 tests/readme.py

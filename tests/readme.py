@@ -1,9 +1,9 @@
 #!/usr/bin/env python3
 """Holds README.md to what it says and shows: its commands print what it shows of them, its C compiles without a warning
-and prints what it says, its way from a CSV comes to the sample's own figures, a trace is printed as it shows, its table
-of refusals has the words of the header and of the programs. And docs/MIRROR.md: every command of it prints what stands
-below it. And docs/RULES.md: every definition that it names is in the file that it names, with the number that it says.
-And the two groups of each crate's specs/Lib.antt: nothing that must be believed uses what only a proof wants. CC and
+and prints what it says, its way from a CSV comes to the sample's own figures, a trace and repairs are printed as it shows,
+its table of refusals has the words of the header and of the programs. And docs/MIRROR.md: every command of it prints what
+stands below it. And docs/RULES.md: every definition that it names is in the file that it names, with the number that it
+says. And the two groups of each crate's specs/Lib.antt: nothing that must be believed uses what only a proof wants. CC and
 RUN, from the environment, are how C is compiled and run (host/setup.sh).
 """
 import glob
@@ -168,7 +168,7 @@ def refusals():
     header = {int(names[name]): words for name, words in re.findall(r'case (CARD_\w+): return "(.*)";', text('include', 'card.h'))}
     numbers = dict(re.findall(r'^pub const (\w+): u8 = (\d+);$', text('host', 'card.rs'), re.M))
     rust = {int(numbers[name]): words for name, words in re.findall(r'^\s*([A-Z]\w+) => "(.*)",$', text('host', 'card.rs'), re.M)}
-    if sorted(table) != list(range(17)) + [21] or {k: v for k, v in table.items() if k not in range(13, 17)} != header or header != rust:
+    if sorted(table) != list(range(18)) + [21] or {k: v for k, v in table.items() if k not in range(13, 17)} != header or header != rust:
         sys.exit('readme: the table of refusals differs from card_meaning of include/card.h, or meaning of host/card.rs')
     if not program.MEANS[13].endswith(b'13 means: ' + table[13].encode() + b'\n'):
         sys.exit('readme: 13 is told otherwise by palmer')
@@ -179,6 +179,7 @@ def main():
     shown(block('host/palmer <samples'), next(lines for lines in blocks if lines[0].startswith('1 0 0')))
     shown(block('host/division 14 07'), next(lines for lines in blocks if lines[0].startswith('2019')))
     shown('host/station samples/western-kansas-station.txt', next(lines for lines in blocks if lines[0].startswith('1932-06 5560')))
+    shown(block('host/repair samples'), next(lines for lines in blocks if lines[0].startswith('repair 1934-02')))
     c_program()
     station()
     refusals()

@@ -8,7 +8,8 @@
 It shares nothing with the Rattle code and with the other programs of these tests but document 01, with document 02's thin
 soils, modified index and trace rain, and the tables: a reading, one month of water, one month of spells and hindsight are
 written here from the documents' words, over whole numbers and fractions. tests/station.py holds readings and their kinds,
-months of thin soils, and both indexes, to the same reckoning.
+months of thin soils, and both indexes, to the same reckoning, and tests/repairs.py repaired months: each repair is a run
+over the corrected months, reckoned from its first.
 """
 import functools
 import os

@@ -4,7 +4,8 @@
 Both must print the same on standard output and on standard error and end with the same status. Of a good file it is
 asked that every month is as tests/source_tables.py reckons it, T where its precipitation was a trace. Of a bad file it is
 asked that the status is 1, that standard output is empty, and that standard error is one closed line with the line and
-the column of the fault and the words that tell it from the others. It prints how many cases were run.
+the column of the fault and the words that tell it from the others. It prints how many cases were run. The same programs
+with --repair are for tests/repairs.py.
 
 How the programs are started is told by STATION_C and STATION_RUST, in words as the shell has them; without them
 target/host/station-c and target/host/station-rust are run, as host/run builds them. STATION_Z_C and STATION_Z_RUST
@@ -707,7 +708,7 @@ def arguments_cases(count):
     for data in (b'', GOOD):
         out, err, status = agree('help', ('--help',), data)
         tables = (SINGLY[0], ROWS[0], WATER[0], SEASONS[0])
-        if err or status or not all(words in out for words in (b'[MONTHS] <FILE', b'samples/western-kansas-station.txt', b'README.md', b'1 to %d' % MOST, b'Status: 0 ', b'T for a month', *tables)):
+        if err or status or not all(words in out for words in (b'[MONTHS] <FILE', b'--repair REPAIRS <FILE', b'samples/western-kansas-station.txt', b'samples/western-kansas-repairs.txt', b'README.md', b'1 to %d' % MOST, b'Status: 0 ', b'T for a month', *tables)):
             sys.exit('station: --help: status %d, %r, %r' % (status, out, err))
         count['arguments'] += 1
 
@@ -754,12 +755,16 @@ def streams(count):
     count['streams'] += 8
 
 
-def main():
-    if sys.argv[1:]:
-        sys.exit('station.py')
+def programs_are_there():
     for words in PROGRAMS + [words for words in WITH_Z if words]:
         if shutil.which(words[0]) is None:
             sys.exit('station: %s is not there; host/run builds it' % words[0])
+
+
+def main():
+    if sys.argv[1:]:
+        sys.exit('station.py')
+    programs_are_there()
     count = Counter()
     right = good_files(count)
     bad_files(count)

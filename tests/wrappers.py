@@ -24,6 +24,8 @@ def kept(*path):
 
 
 STATION = kept('samples', 'western-kansas-station.txt')
+REPAIRS = kept('samples', 'western-kansas-repairs.txt')
+REPAIRS_FILE = os.path.join(TOP, 'samples', 'western-kansas-repairs.txt')
 SERIES = kept('samples', 'western-kansas.txt')
 ROWS = kept('crates', 'palmer', 'stdout')
 DIVISION = kept('crates', 'division', 'stdin')
@@ -216,7 +218,50 @@ def traces():
         asked('run, a trace', ran(['run', 'rain.csv.txt'], cwd=folder), 0, told + seasons.split(b'month X1 ')[0], None)
 
 
-HELP = [['palmer'], ['division'], ['station'], ['run'], ['start'], ['csv']]
+# a line of the file of repairs, another in its place, and what is said of it
+NO_REPAIRS = [
+    (b'repairs inches', b'repairs millimetres', b'column 9: "millimetres" is not the station file\'s unit; expected: repairs inches'),
+    (b'1932-10 0.93 =', b'1931-10 0.93 =', b'column 1: 1931-10 is not in the station file, which has 1932-06 to 1935-05'),
+    (b'1933-08 6.10 5.35', b'1932-10 6.10 5.35', b'column 1: 1932-10 here again; each month stands once'),
+    (b'1934-02 2.10 =', b'1933-02 2.10 =', b'column 1: 1933-02 here, after 1933-08; the months stand in order of time'),
+    (b'1934-02 2.10 =', b'1934-02 2,10 =', b'column 10: a comma in "2,10"'),
+    (b'1934-02 2.10 =', b'1934-02 2.10', b'column 13: the line ends after 2 words; expected: YYYY-MM PRECIPITATION PE'),
+    (b'1934-02 2.10 =', b'1934-02 2.10 T', b'column 14: "T" is no number; a trace is of rain'),
+    (b'1934-02 2.10 =', b'1934-02 - =', b'column 9: precipitation is missing (8: reading missing); a repair has both readings'),
+    (b'1934-02 2.10 =', b'1934-02 2.10 101', b'column 14: PE 101 is refused (9: reading not acceptable), inches are 0 to 100'),
+    (b'end', b'# end', b'the file ends without its last line, end; it may be cut short'),
+]
+
+
+def repairs(singly):
+    """A month repaired, from any folder and by any way; and files of repairs that are not as they should be."""
+    status, repaired, err = ran(['repair', REPAIRS_FILE], STATION)
+    if (status, err) != (0, b'') or not repaired.startswith(b'repair 1932-10 changed 32\nmonth index_before ') or repaired.split(b'month X1 ')[1] == singly.split(b'month X1 ')[1]:
+        sys.exit('wrappers: repair: %r' % ((status, repaired[:200], err),))
+    at = REPAIRS.split(b'\n')
+    with tempfile.TemporaryDirectory() as folder:
+        inner = os.path.join(folder, 'a folder')
+        os.mkdir(inner)
+        for name, data in (('my station.txt', STATION), ('-r.txt', REPAIRS)):
+            with open(os.path.join(inner, name), 'wb') as f:
+                f.write(data)
+        for place, prefix in ((inner, './'), (folder, 'a folder/')):
+            asked('repair in a folder', ran(['repair', prefix + '-r.txt', prefix + 'my station.txt'], cwd=place), 0, repaired, None)
+            asked('repair in a folder, <FILE', ran(['repair', prefix + '-r.txt'], STATION, cwd=place), 0, repaired, None)
+            asked('repair by a pipe', ran(['repair', '/dev/stdin', prefix + 'my station.txt'], REPAIRS, cwd=place), 0, repaired, None)
+        for old, new, words in NO_REPAIRS:
+            with open(os.path.join(folder, 'bad'), 'wb') as f:
+                f.write(b'\n'.join(new if line == old else line for line in at))
+            number = at.index(old) + 1 if old != b'end' else len(at)
+            told = b'station: repairs, line %d%s%s' % (number, b': ' if old == b'end' else b', ', words)
+            asked('repair: %s' % new.decode(), ran(['repair', 'bad'], STATION, cwd=folder), 1, b'', told)
+        asked('repair: the wrong way round', ran(['repair', 'a folder/my station.txt', 'a folder/-r.txt'], cwd=folder), 1, b'', b'"repairs" is not known here; expected: capacity THOUSANDTHS')
+    asked('repair: a bad station file', ran(['repair', REPAIRS_FILE], with_line(FIRST, b'1932-06 abc 4.80')), 1, b'', b'station: line %d, column 9: "abc" is no number' % FIRST)
+    asked('repair: no file', ran(['repair', 'there-is-none'], STATION), 2, b'', b'repair: the input cannot be read: there-is-none: there is no such file')
+    asked('repair: a folder', ran(['repair', TOP], STATION), 2, b'', b' is a folder')
+
+
+HELP = [['palmer'], ['division'], ['station'], ['repair'], ['run'], ['start'], ['csv']]
 WRONG = [
     (['palmer', '-x'], b'there is no option -x'),
     (['palmer', 'a', 'b'], b'one FILE at most'),
@@ -237,6 +282,11 @@ WRONG = [
     (['station', '--season', '*'], b'"*" is no number of months'),
     (['station', '--season', '12001'], b'"12001" is no number of months'),
     (['station', '-s'], b'there is no option -s'),
+    (['repair'], b'a file of REPAIRS is asked for'),
+    (['repair', ''], b'the name of REPAIRS is empty'),
+    (['repair', REPAIRS_FILE, ''], b'the name of FILE is empty'),
+    (['repair', 'a', 'b', 'c'], b'one FILE at most'),
+    (['repair', '--season', '6'], b'there is no option --season'),
     (['run', 'a', 'b'], b'one FILE at most'),
     (['run', '--season', '6'], b'there is no option --season'),
     (['start'], b'a PROGRAM is asked for'),
@@ -258,6 +308,10 @@ def arguments():
     for heading in (b'month P PE CAFEC Z percent index modified settled', b'season added settled index modified', b'month X1 X2 X3 index modified mark', b'month P PE ET R L RO surface underlying', b"T for a month's precipitation"):
         if heading not in help_text:
             sys.exit('wrappers: station --help does not have %r' % heading)
+    help_text = ran(['repair', '--help'])[1]
+    for heading in (b'month index_before index_after mark_before mark_after', b'month X1 X2 X3 index modified mark', b'month P PE ET R L RO surface underlying', b'samples/western-kansas-repairs.txt'):
+        if heading not in help_text:
+            sys.exit('wrappers: repair --help does not have %r' % heading)
     for words, said in WRONG:
         asked(' '.join(words), ran(words), 2, b'', said)
     with open(os.path.join(TOP, 'samples', 'western-kansas-station.txt'), 'rb') as f:
@@ -265,7 +319,7 @@ def arguments():
 
 
 def unreadable():
-    for words in (['palmer'], ['division', '1', '1'], ['station'], ['run']):
+    for words in (['palmer'], ['division', '1', '1'], ['station'], ['repair', REPAIRS_FILE], ['run']):
         asked('no file', ran(words + ['there-is-none']), 2, b'', b'the input cannot be read: there-is-none: there is no such file')
         asked('a folder', ran(words + [TOP]), 2, b'', b' is a folder')
         if words[0] != 'run':
@@ -277,7 +331,7 @@ def unreadable():
 
 def unwritten():
     """Output that is closed, full, or that nobody reads, of good input and of bad."""
-    cases = [(['palmer'], SERIES), (['palmer'], b'x\n'), (['division', '14', '7'], DIVISION), (['division', '1', '1'], b''), (['station'], STATION), (['run'], b''), (['palmer', '--help'], b''), (['csv', '-h'], b'')]
+    cases = [(['palmer'], SERIES), (['palmer'], b'x\n'), (['division', '14', '7'], DIVISION), (['division', '1', '1'], b''), (['station'], STATION), (['repair', REPAIRS_FILE], STATION), (['run'], b''), (['palmer', '--help'], b''), (['csv', '-h'], b'')]
     for words, data in cases:
         with open('/dev/full', 'wb') as full:
             asked('full', ran(words, data, out=full), 3, b'', b'output cannot be written')
@@ -299,6 +353,7 @@ def built_once():
     ran(['palmer'])
     ran(['division', '1', '1'])
     ran(['station'])
+    ran(['repair', REPAIRS_FILE])
     ran(['run'])
     if before != [os.stat(path).st_mtime_ns for path in made]:
         sys.exit('wrappers: a second run builds again')
@@ -315,6 +370,7 @@ def main():
     folders(singly)
     from_csv(singly)
     traces()
+    repairs(singly)
     stories()
     arguments()
     unreadable()

@@ -6,6 +6,7 @@ use crate::mirror::Turned;
 use crate::modified::{self, Mixed};
 use crate::random::Random;
 use crate::reference::{self, Decides};
+use crate::repair::Repairs;
 use crate::trace::{self, Told};
 use crate::water::Kept;
 use std::fmt::Debug;
@@ -18,15 +19,16 @@ pub enum Call {
     AddInches,
     AddZ,
     AddSeason,
+    Repair,
     Row,
     WholeSeries,
 }
 
-const CALLS: [&str; 8] =
-    ["read", "start", "add water", "add inches", "add Z", "add season", "row", "whole series"];
+const CALLS: [&str; 9] =
+    ["read", "start", "add water", "add inches", "add Z", "add season", "repair", "row", "whole series"];
 
 /// The numbers that a call may answer with.
-const NUMBERS: [usize; 14] = [0, 1, 2, 3, 4, 5, 6, 7, 8, 9, 10, 11, 12, 21];
+const NUMBERS: [usize; 15] = [0, 1, 2, 3, 4, 5, 6, 7, 8, 9, 10, 11, 12, 17, 21];
 
 pub fn differ(call: Call, inputs: &dyn Debug, library: &dyn Debug, reference: &dyn Debug) -> ! {
     println!("difference at {}", CALLS[call as usize]);
@@ -68,6 +70,7 @@ pub struct Check {
     pub kept: Kept,
     pub mixed: Mixed,
     pub told: Told,
+    pub repairs: Repairs,
 }
 
 impl Check {
@@ -83,6 +86,7 @@ impl Check {
             kept: Kept::default(),
             mixed: Mixed::default(),
             told: Told::default(),
+            repairs: Repairs::default(),
         }
     }
 
@@ -159,6 +163,7 @@ impl Check {
         );
         self.mixed.print();
         self.told.print();
+        self.repairs.print();
         println!();
         let cases: u64 = self.kinds.iter().map(|kind| kind.1).sum();
         println!("cross-check: {cases} cases, no difference");

@@ -2,15 +2,19 @@
 """Whether C, Rust and the library mean the same by each call of the card: reads crates/card, include/card.h and
 host/card.rs, and lays out every argument and answer of every call as a list of numbers with their names and types, in
 order, and so a place of a list that holds several. All three lists must be the same: every struct is laid out as C lays it
-out, so equal lists are equal places. A month's record is a struct to C and Rust; the library has it in its list as its
-numbers, in the order of the fields of its own struct of that name. No proof sees the order of a struct's fields, and no compiler sees two of these three at once."""
+out, so equal lists are equal places. A month's record and a place of a repair's report are structs to C and Rust; the library
+has them in its lists as their numbers, a record in the order of the fields of its own struct of that name, a change in the
+order of CHANGE. No proof sees the order of a struct's fields, and no compiler sees two of these three at once."""
 import glob
 import os
 import re
 import sys
 
 TOP = os.path.join(os.path.dirname(os.path.abspath(__file__)), '..', '..')
-RECORD = 'Record'
+# The structs that the library has in its lists as their numbers. For a change it has no struct: the order of its numbers is
+# that of `change` in crates/report/specs/Report.antt.
+AS_NUMBERS = ('Record', 'Change')
+CHANGE = [(name, 'i32') for name in ('row', 'index_before', 'index_after', 'mark_before', 'mark_after')]
 C_TYPES = {'uint8_t': 'u8', 'uint32_t': 'u32', 'int32_t': 'i32', 'int64_t': 'i64', 'float': 'f32', 'size_t': 'usize'}
 
 
@@ -39,10 +43,11 @@ class Layouts:
         array = re.fullmatch(r'\[(\w+); (\w+)\]', pointed[1])
         if not array:
             return None
-        fields = [(field, array[1]) for field, _ in self.structs.get(RECORD, [])]
-        if len(fields) != int(self.numbers.get(array[2], array[2])) or fields != self.structs[RECORD]:
-            sys.exit('layout: %s has a list of %s, and that is not %s as its numbers' % (self.name, pointed[1], RECORD))
-        return RECORD
+        count = int(self.numbers.get(array[2], array[2]))
+        for struct in AS_NUMBERS:
+            if [kind for _, kind in self.structs.get(struct, [])] == [array[1]] * count:
+                return struct
+        sys.exit('layout: %s has a list of %s, and that is none of %s as its numbers' % (self.name, pointed[1], AS_NUMBERS))
 
     def flat(self, kind, path=''):
         """A type as a list of (place, simple type)."""
@@ -107,7 +112,9 @@ def kind_of_c(kind):
 
 def sides():
     rust = text('host/card.rs')
-    return [of_rust('the library', ''.join(files('crates/card/src/**/*.rt')), files('crates/*/src/**/*.rt')), of_c(), of_rust('host/card.rs', rust, [rust])]
+    library = of_rust('the library', ''.join(files('crates/card/src/**/*.rt')), files('crates/*/src/**/*.rt'))
+    library.structs.setdefault('Change', CHANGE)
+    return [library, of_c(), of_rust('host/card.rs', rust, [rust])]
 
 
 def main():

@@ -207,8 +207,13 @@ impl Lists {
     /// place.
     pub fn expect_months(&mut self, run: &Run, added: u32, settled: u32) {
         let month = run.months as usize;
-        let end = month + added as usize;
         let first = if settled > 0 { month - run.opens as usize } else { month };
+        self.expect_from(first, month, month + added as usize);
+    }
+
+    /// Takes over from the reference index and mark of the months from `first` to `end`, and of those from `month` on all
+    /// else.
+    pub fn expect_from(&mut self, first: usize, month: usize, end: usize) {
         let (from, to) = (self.reference.lend(), self.expected.lend());
         to.x1[month..end].copy_from_slice(&from.x1[month..end]);
         to.x2[month..end].copy_from_slice(&from.x2[month..end]);

@@ -1,9 +1,10 @@
 //! Calls the library and the reference on the same inputs and compares everything: every field of the answer, the
 //! run handed back, and every place of every list lent, with some places before and after it that nobody lent; the
 //! records and V of long columns not all of them each time (`Lists::agree_after`). A season is compared with the
-//! library's single adds of its months as well, readings are held to the exact computation, and so are the kinds of
-//! those that are added, and modified indexes to one in 128 bits. At the first difference it prints the call, its inputs
-//! and the outcomes, and ends with status 1. An argument multiplies the random cases.
+//! library's single adds of its months as well, a repair with a fresh run over the corrected months, readings are held
+//! to the exact computation, and so are the kinds of those that are added, and modified indexes to one in 128 bits. At the
+//! first difference it prints the call, its inputs and the outcomes, and ends with status 1. An argument multiplies the
+//! random cases.
 
 mod add;
 mod add_inches;
@@ -22,6 +23,10 @@ mod modified;
 mod random;
 mod read;
 mod reference;
+mod repair;
+mod repair_refusals;
+mod repair_rows;
+mod repair_runs;
 mod row;
 mod runs;
 mod season;
@@ -77,5 +82,8 @@ fn main() {
     all_calls::long_columns(&mut check, times);
     all_calls::most_v(&mut check);
     longer::longer_columns(&mut check, times);
+    repair_runs::repairs(&mut check, times);
+    repair_rows::rows(&mut check, times);
+    repair_refusals::refusals(&mut check, times);
     check.print();
 }

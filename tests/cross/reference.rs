@@ -1,14 +1,17 @@
 //! Document 01 in plain Rust and in its order, with document 02's season in one call (E2), modified index (E4), thin soils
-//! (E5), rows that show the water (E6), trace rain (E7), longer lists (E9) and refused zero K (E11), written from these two
-//! alone, for the library to be compared with and measured against. The sentences quoted in the comments are the documents'.
-//! It shares the library's data types and nothing else. A call borrows the run and changes it only where it does what it was
-//! asked, a season month by month.
+//! (E5), rows that show the water (E6), trace rain (E7), repaired months (E8, in reference_repair.rs), longer lists (E9) and
+//! refused zero K (E11), written from these two alone, but for the repair, for the library to be compared with and measured
+//! against. The sentences quoted in the comments are the documents'. It shares the library's data types and nothing else. A
+//! call borrows the run and changes it only where it does what it was asked, a season month by month.
 #![allow(dead_code)]
 
 use crate::card::{
     self, Columns, Figures, MonthInches, MonthKinds, Reading, Record, Run, Shown, Soil, Values, Water,
 };
 use std::ops::RangeInclusive;
+
+#[path = "reference_repair.rs"]
+pub mod repairing;
 
 // ---- Quantities --------------------------------------------------------------------------------------------
 
@@ -56,6 +59,7 @@ pub enum Refusal {
     Full = 10,
     NoRow = 11,
     BadZ = 12,
+    Waterless = 17,
     ZeroK = 21,
 }
 
@@ -154,7 +158,7 @@ fn underlying_loss(amount: u32, soil: &Soil) -> u32 {
 
 /// A month of water from the start storages, with the month's five constants: its water figures and its Z. The
 /// storages become those at its end.
-fn water_month(soil: &mut Soil, constants: &[i32], p: Amount, pe: Amount) -> (Water, i32) {
+pub fn water_month(soil: &mut Soil, constants: &[i32], p: Amount, pe: Amount) -> (Water, i32) {
     // "Reading, month, list and row answers all carry it": of both readings.
     let kinds = MonthKinds { p: p.kind, pe: pe.kind };
     let (p, pe) = (p.water, pe.water);
@@ -422,7 +426,7 @@ pub fn start(constants: &[i32], capacity: i32, surface: i32, underlying: i32, mo
 
 /// Refusals 1 and 7, and otherwise the column length.
 #[inline(always)]
-fn check(run: &Run, k: &Columns) -> Result<usize, Refusal> {
+pub fn check(run: &Run, k: &Columns) -> Result<usize, Refusal> {
     let length = k.x1.len();
     let others = [k.x2.len(), k.x3.len(), k.index.len(), k.mark.len(), k.records.len(), k.v.len()];
     if length == 0 || length > MOST_MONTHS || others.iter().any(|other| *other != length) {
@@ -467,12 +471,12 @@ fn ends_meet(run: &Run, records: &[Record]) -> bool {
 
 /// What a month's record says of whether it had water.
 const NO_WATER: i32 = 0;
-const WATER: i32 = 1;
+pub const WATER: i32 = 1;
 
 /// "Each month's record keeps Z, .. P, PE, ET, R, L, RO and both storages at its start and end". L is what both layers lose.
 /// The modified index is put in when it is known. "One more column keeps precipitation's" kind.
 #[inline]
-fn record_of(w: &Water, z: i32, start: [u32; 2], end: &Soil, water: i32) -> Record {
+pub fn record_of(w: &Water, z: i32, start: [u32; 2], end: &Soil, water: i32) -> Record {
     Record {
         z,
         p: w.p as i32,
@@ -492,7 +496,7 @@ fn record_of(w: &Water, z: i32, start: [u32; 2], end: &Soil, water: i32) -> Reco
 }
 
 /// Adds a month whose water and Z are known and stand in its record. The month's place is there.
-fn add(run: &mut Run, water: Water, z: i32, k: &mut Columns) -> Added {
+pub fn add(run: &mut Run, water: Water, z: i32, k: &mut Columns) -> Added {
     let month = run.months as usize;
     let Step { values, percent, index, modified, decides, .. } = spell_month(&run.values, z);
     let Values { x1, x2, x3, v } = values;
@@ -561,11 +565,17 @@ pub fn add_z(run: &mut Run, z: i32, k: &mut Columns) -> Result<Added, Refusal> {
     if run.months as usize == length {
         return Err(Refusal::Full);
     }
+    Ok(add_known_z(run, z, k))
+}
+
+/// An add of a Z that is in its range. The month's place is there.
+#[inline(always)]
+fn add_known_z(run: &mut Run, z: i32, k: &mut Columns) -> Added {
     // "For an added Z all those before Z are 0." "A Z-only month records its Z .., zeros for the six water figures and the
     // carried storages, with a mark that it had no water." "A whole-number reading of 0 is none, as is a Z-only month."
     let (water, carried) = (Water::default(), [run.soil.surface, run.soil.underlying]);
     k.records[run.months as usize] = record_of(&water, z, carried, &run.soil, NO_WATER);
-    Ok(add(run, water, z, k))
+    add(run, water, z, k)
 }
 
 /// What a season answers. All but the refusal tells of the months that were added.

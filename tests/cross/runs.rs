@@ -46,6 +46,18 @@ pub fn any_good_run(random: &mut Random, length: usize) -> Run {
     let months = random.within(0, length as i64);
     let opens = random.within(0, months);
     let [capacity, surface, underlying, month] = good_soil(random).map(|x| x as u32);
+    Run {
+        months: months as u32,
+        opens: opens as u32,
+        calendar: month,
+        soil: Soil { capacity, surface, underlying },
+        values: any_values(random, months),
+        constants: good_constants(random).try_into().unwrap_or([-1; 60]),
+    }
+}
+
+/// X1, X2, X3 and V of a run of so many months.
+pub fn any_values(random: &mut Random, months: i64) -> Values {
     let size = random.pick(&[3, 600, 1_200, 5_000, 13_000_000]);
     let x3 = random.within(-size, size);
     let near = random.pick(&[-13_000_000, -2_000, -1_000, -501, -500, 0, 500, 501, 1_000, 2_000, 13_000_000]);
@@ -57,15 +69,7 @@ pub fn any_good_run(random: &mut Random, length: usize) -> Run {
         let x = random.within(0, size);
         random.pick(&[0, 1, x, x]) as i32
     };
-    let values = Values { x1: side(), x2: -side(), x3: x3 as i32, v };
-    Run {
-        months: months as u32,
-        opens: opens as u32,
-        calendar: month,
-        soil: Soil { capacity, surface, underlying },
-        values,
-        constants: good_constants(random).try_into().unwrap_or([-1; 60]),
-    }
+    Values { x1: side(), x2: -side(), x3: x3 as i32, v }
 }
 
 /// The fields of a run before its constants.

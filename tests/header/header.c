@@ -1,8 +1,8 @@
 /* Tries what include/card.h adds to the library for C: NULL beside the length 0, the columns as one struct, the
  * meanings of the numbers, and what it says of records, of the modified index, of traces, of runs and columns that
- * do not belong together, and of missing months. The library's own functions, asked with valid pointers, are what
- * the header's are held to. It is linked so that every call of the library is watched for NULL: see
- * tests/header/run. */
+ * do not belong together, of missing months and of repairs, which repairs.h has. The library's own functions, asked
+ * with valid pointers, are what the header's are held to. It is linked so that every call of the library is watched
+ * for NULL: see tests/header/run. */
 #include "card.h"
 
 #include <stddef.h>
@@ -53,9 +53,11 @@ static void watch(const char *where, int good) {
 #define HANDED x1, n1, x2, n2, x3, n3, i, ni, m, nm, r, nr, v, nv
 #define NONE_NULL (x1 && x2 && x3 && i && m && r && v)
 
-/* The columns that the last call of the library was handed, and their lengths. */
+/* The columns that the last call of the library was handed, and their lengths; and the report of the last repair. */
 static const void *handed[7];
 static size_t handed_lengths[7];
+static const card_change *handed_report;
+static size_t handed_report_length;
 
 static void note(LENT_TO_READ) {
     const void *at[7] = {x1, x2, x3, i, m, r, v};
@@ -97,6 +99,16 @@ card_season __wrap_card_add_season(card_run run, const int32_t *p, size_t np, co
     watch("card_add_season", NONE_NULL && p && pe);
     note(HANDED);
     return __real_card_add_season(run, p, np, pe, npe, HANDED);
+}
+
+card_repaired __real_card_repair(card_run, size_t, card_reading, card_reading, WRITTEN, card_change *, size_t);
+card_repaired __wrap_card_repair(card_run run, size_t row, card_reading p, card_reading pe, LENT, card_change *c,
+                                 size_t nc) {
+    watch("card_repair", NONE_NULL && c);
+    note(HANDED);
+    handed_report = c;
+    handed_report_length = nc;
+    return __real_card_repair(run, row, p, pe, HANDED, c, nc);
 }
 
 card_shown __real_card_row(card_run, size_t, READ);
@@ -150,9 +162,9 @@ static lists fresh_lists(void) {
 
 /* ---- Calls and their answers ---------------------------------------------------------------------- */
 
-enum { WATER, INCHES, Z, SEASON, ROW, KINDS };
+enum { WATER, INCHES, Z, SEASON, ROW, REPAIR, KINDS };
 
-static const char *const KIND_NAMES[KINDS] = {"add water", "add inches", "add Z", "add season", "row"};
+static const char *const KIND_NAMES[KINDS] = {"add water", "add inches", "add Z", "add season", "row", "repair"};
 
 /* A call that takes columns: its kind, and what that kind is asked with. */
 typedef struct call {
@@ -172,6 +184,8 @@ typedef struct answer {
     card_figures figures;
     card_run run;
     card_shown shown;
+    uint32_t changed;
+    card_change report[MONTHS]; /* as far as it is that long, and all 0 where the call is refused */
 } answer;
 
 static answer of_added(card_added a) {
@@ -202,6 +216,34 @@ static answer of_shown(card_shown s, card_run run) {
     return made;
 }
 
+/* The report that repairs are lent, of so many places and one more that is not lent. What it holds is none of the
+ * numbers that a repair writes. */
+static card_change reports[CARD_MOST_MONTHS + 2];
+static const card_change NOT_WRITTEN = {-77, -78, -79, -80, -81};
+
+static int same_change(const card_change *a, const card_change *b) { return memcmp(a, b, sizeof *a) == 0; }
+
+static card_change *lent_report(size_t length) {
+    for (size_t i = 0; i <= length; i++) reports[i] = NOT_WRITTEN;
+    return reports;
+}
+
+/* What a repair says of its report: a refused one writes nothing, and after the months that changed are zeros. */
+static answer of_repaired(card_repaired a, size_t length) {
+    static const card_change nothing = {0, 0, 0, 0, 0};
+    answer made = {0};
+    made.number = a.number;
+    made.changed = a.changed;
+    made.run = a.run;
+    check("a report", same_change(&reports[length], &NOT_WRITTEN), "a place was written that was not lent");
+    check("a report", a.changed <= length && (a.number == CARD_DONE || a.changed == 0), "another count of months");
+    for (size_t i = a.changed; i < length; i++)
+        check("a report", same_change(&reports[i], a.number == CARD_DONE ? &nothing : &NOT_WRITTEN),
+              a.number == CARD_DONE ? "not 0 after the months" : "a refused repair has written it");
+    if (a.number == CARD_DONE) memcpy(made.report, reports, (length < MONTHS ? length : MONTHS) * sizeof *reports);
+    return made;
+}
+
 #define EACH(k) (k).x1, (k).x1_length, (k).x2, (k).x2_length, (k).x3, (k).x3_length, \
                 (k).index, (k).index_length, (k).mark, (k).mark_length, \
                 (k).records, (k).records_length, (k).v, (k).v_length
@@ -209,33 +251,39 @@ static answer of_shown(card_shown s, card_run run) {
 
 /* By the library's own functions, which take no NULL. */
 static answer by_library(call c, card_run run, card_columns k) {
+    size_t n = k.x1_length;
     switch (c.kind) {
     case WATER: return of_added((card_add_water)(run, c.p, c.pe, EACH(k)));
     case INCHES: return of_added((card_add_inches)(run, c.inches, EACH(k)));
     case Z: return of_added((card_add_z)(run, c.z, EACH(k)));
     case SEASON: return of_season((card_add_season)(run, SEASON_OF(c), EACH(k)));
+    case REPAIR: return of_repaired((card_repair)(run, c.row, c.p, c.pe, EACH(k), lent_report(n), n), n);
     default: return of_shown((card_row)(run, c.row, EACH(k)), run);
     }
 }
 
 /* By the calls with each list by itself, as a program writes them. */
 static answer by_lists(call c, card_run run, card_columns k) {
+    size_t n = k.x1_length;
     switch (c.kind) {
     case WATER: return of_added(card_add_water(run, c.p, c.pe, EACH(k)));
     case INCHES: return of_added(card_add_inches(run, c.inches, EACH(k)));
     case Z: return of_added(card_add_z(run, c.z, EACH(k)));
     case SEASON: return of_season(card_add_season(run, SEASON_OF(c), EACH(k)));
+    case REPAIR: return of_repaired(card_repair(run, c.row, c.p, c.pe, EACH(k), lent_report(n), n), n);
     default: return of_shown(card_row(run, c.row, EACH(k)), run);
     }
 }
 
 /* By the calls with the columns as one. */
 static answer by_columns(call c, card_run run, card_columns k) {
+    size_t n = k.x1_length;
     switch (c.kind) {
     case WATER: return of_added(card_add_water_in(k, run, c.p, c.pe));
     case INCHES: return of_added(card_add_inches_in(k, run, c.inches));
     case Z: return of_added(card_add_z_in(k, run, c.z));
     case SEASON: return of_season(card_add_season_in(k, run, SEASON_OF(c)));
+    case REPAIR: return of_repaired(card_repair_in(k, run, c.row, c.p, c.pe, lent_report(n)), n);
     default: return of_shown(card_row_in(k, run, c.row), run);
     }
 }
@@ -275,6 +323,8 @@ static void check_same(const char *where, const answer *a, const answer *b) {
     check(where, same_figures(&a->figures, &b->figures), "other figures");
     check(where, same_run(&a->run, &b->run), "another run");
     check(where, same_shown(&a->shown, &b->shown), "another row");
+    check(where, a->changed == b->changed && memcmp(a->report, b->report, sizeof a->report) == 0,
+          "another report");
 }
 
 /* An answer that refuses: the number, the run as it was given and all else 0. */
@@ -339,6 +389,7 @@ static void try_meanings(void) {
         "row number not below the months added", "Z outside its range"};
     for (int i = 0; i < 256; i++) {
         const char *expected = i < 13 ? words[i] : "no number of this library";
+        if (i == 17) expected = "no water in that month";
         if (i == 21) expected = "a K of 0, by which a month counts for nothing";
         check("card_meaning", strcmp(card_meaning((uint8_t)i), expected) == 0, expected);
     }
@@ -350,13 +401,16 @@ static void try_sizes(void) {
     check("sizes", sizeof(card_started) == 296, "card_started is not 296 bytes");
     check("sizes", sizeof(card_added) == 376, "card_added is not 376 bytes");
     check("sizes", sizeof(card_season) == 384, "card_season is not 384 bytes");
+    check("sizes", sizeof(card_repaired) == 296, "card_repaired is not 296 bytes");
+    check("sizes", sizeof(card_change) == 20, "a change is not 20 bytes");
     check("sizes", sizeof(card_shown) == 88, "card_shown is not 88 bytes");
     check("sizes", sizeof(card_record) == 56, "a record is not 56 bytes");
     check("sizes", sizeof(lists) == 81 * MONTHS, "a month is not 81 bytes in the columns");
     check("sizes", CARD_MOST_MONTHS == 12000 && 81 * CARD_MOST_MONTHS == 972000, "the longest columns");
+    check("sizes", sizeof(card_change) * CARD_MOST_MONTHS == 240000, "the longest report");
 }
 
-/* Where the fields of a record, of the columns, of an answer, of a row and of the figures stand. */
+/* Where the fields of a record, of the columns, of an answer, of a row, of the figures and of a repair stand. */
 static void try_offsets(void) {
     static const size_t of_record[14] = {
         offsetof(card_record, z), offsetof(card_record, p), offsetof(card_record, pe), offsetof(card_record, et),
@@ -383,6 +437,11 @@ static void try_offsets(void) {
           offsetof(card_shown, v) == 80, "a row in another order");
     check("offsets", offsetof(card_figures, z) == 48 && offsetof(card_figures, mark) == 72 &&
           offsetof(card_figures, modified) == 76 && sizeof(card_figures) == 80, "the figures in another order");
+    check("offsets", offsetof(card_change, row) == 0 && offsetof(card_change, index_before) == 4 &&
+          offsetof(card_change, index_after) == 8 && offsetof(card_change, mark_before) == 12 &&
+          offsetof(card_change, mark_after) == 16, "a change in another order");
+    check("offsets", offsetof(card_repaired, number) == 0 && offsetof(card_repaired, changed) == 4 &&
+          offsetof(card_repaired, run) == 8, "a repair's answer in another order");
 }
 
 /* The columns with length 0 for each in the set, at the address that they have, or at NULL. */
@@ -575,6 +634,18 @@ static void try_refusals(three *t) {
     refused(t, row, MONTHS, CARD_NO_ROW);
     row.row = SIZE_MAX;
     refused(t, row, MONTHS, CARD_NO_ROW);
+    call again = good_call(REPAIR);
+    for (again.row = 0; again.row < t->run.months; again.row++) {
+        again.p = card_missing();
+        int had_none = t->library.records[again.row].water != CARD_HAD_WATER;
+        refused(t, again, MONTHS, had_none ? CARD_WATERLESS : CARD_MISSING_READING);
+        again.p = p;
+        again.pe = card_whole(100001);
+        refused(t, again, MONTHS, had_none ? CARD_WATERLESS : CARD_BAD_READING);
+    }
+    refused(t, again, MONTHS, CARD_NO_ROW);
+    again.row = SIZE_MAX;
+    refused(t, again, MONTHS, CARD_NO_ROW);
 }
 
 /* A season that stops at its second month. */
@@ -610,6 +681,11 @@ static void try_a_run(void) {
         check(KIND_NAMES[kind], t.run.months == months + (kind == SEASON ? 3 : 1), "the months do not add up");
         if (months % 7 == 3) try_stopped_season(&t);
         try_full(&t);
+        call again = good_call(REPAIR);
+        again.row = (size_t)drawn(0, (int32_t)t.run.months - 1);
+        int water = t.library.records[again.row].water == CARD_HAD_WATER;
+        a = in_three_ways(&t, again, drawn(0, 1) ? MONTHS : t.run.months);
+        check_number("repair", a.number, water ? CARD_DONE : CARD_WATERLESS);
     }
     for (size_t row = 0; row < t.run.months; row++) {
         call c = good_call(ROW);
@@ -1224,7 +1300,7 @@ static void try_lengths(void) {
         size_t n = lengths[i];
         for (int kind = 0; kind < KINDS; kind++) {
             answer a = by_columns(good_call(kind), run, lent_long(&held, n));
-            uint8_t good = kind == ROW ? CARD_NO_ROW : CARD_DONE;
+            uint8_t good = kind >= ROW ? CARD_NO_ROW : CARD_DONE;
             check_number(KIND_NAMES[kind], a.number, n > 12000 ? CARD_LENGTHS : good);
         }
         uint8_t number = card_whole_series(z, n, held.index, n, held.mark, n);
@@ -1293,6 +1369,8 @@ static card_added (*const add_inches)(card_run, card_month_inches, WRITTEN) = ca
 static card_added (*const add_z)(card_run, int32_t, WRITTEN) = &card_add_z;
 static card_season (*const add_season)(card_run, const int32_t *, size_t, const int32_t *, size_t, WRITTEN) =
     card_add_season;
+static card_repaired (*const repair)(card_run, size_t, card_reading, card_reading, WRITTEN, card_change *, size_t) =
+    card_repair;
 static card_shown (*const row_of)(card_run, size_t, READ) = &card_row;
 static uint8_t (*const series)(const int32_t *, size_t, int32_t *, size_t, uint8_t *, size_t) =
     card_whole_series;
@@ -1308,6 +1386,8 @@ static void try_pointers(void) {
     run = add_season(run, SEASON_P, 3, SEASON_PE, 3, EACH(k)).run;
     check("function pointers", run.months == 6 && run.calendar == 12, "not six months");
     check("function pointers", row_of(run, 0, EACH(k)).x3 == 1000, "X3 is not 1,000 after a Z of 2,999");
+    card_repaired same = repair(run, 1, card_whole(5560), card_whole(4800), EACH(k), lent_report(MONTHS), MONTHS);
+    check("function pointers", same.number == CARD_DONE && same.changed == 0, "the same readings change a month");
     check_number("function pointers", series(SEASON_P, 3, held.index, 3, held.mark, 3), CARD_DONE);
 }
 
@@ -1441,7 +1521,7 @@ static void try_missing(void) {
           same_record(&held.records[1], &before.records[1]) && held.v[1] == before.v[1], "it wrote the month");
 }
 
-/* Waiting, and putting an estimate right from a copy, both come to what the straight record is. */
+/* Waiting, and putting an estimate right by a repair or from a copy, all come to what the straight record is. */
 static void try_waiting(void) {
     static const int32_t p[4] = {5560, 1780, 1530, 1280}, pe[4] = {4800, 7040, 5970, 3410};
     lists straight = fresh_lists(), waited = straight, estimated = straight;
@@ -1459,6 +1539,11 @@ static void try_waiting(void) {
     card_run wrong = card_add_water_in(k, run, card_whole(9000), card_whole(pe[1])).run;
     wrong = card_add_season_in(k, wrong, p + 2, 2, pe + 2, 2).run;
     check("an estimate", !same_run(&wrong, &a.run) && !same_lists(&estimated, &straight), "it made no difference");
+    lists repaired = estimated;
+    card_repaired right = card_repair_in(lent(&repaired, MONTHS), wrong, 1, card_whole(p[1]), card_whole(pe[1]),
+                                         lent_report(MONTHS));
+    check_number("an estimate repaired", right.number, CARD_DONE);
+    check("an estimate repaired", same_run(&right.run, &a.run) && same_lists(&repaired, &straight), "another record");
     estimated = copy;
     run = card_add_season_in(k, run, p + 1, 3, pe + 1, 3).run;
     check("an estimate put right", same_run(&run, &a.run) && same_lists(&estimated, &straight), "another record");
@@ -1517,6 +1602,8 @@ static void try_new_run_and_no_rain(void) {
     check("a new run", held.x3[0] == a.figures.x3 && held.x3[1] == before.x3[1], "it does not write place 0");
 }
 
+#include "repairs.h"
+
 int main(void) {
     try_meanings();
     try_sizes();
@@ -1553,6 +1640,7 @@ int main(void) {
     try_waiting();
     try_z_0();
     try_new_run_and_no_rain();
+    try_repairs_all();
     check("linking", watched > 0, "the calls of the library were not watched");
     printf("header: %lu comparisons, all as include/card.h says\n", checks);
     return 0;

@@ -1,4 +1,4 @@
-// The card's library: every call of `drought` and of `season`, for C to link. include/card.h is its manual.
+// The card's library: every call of `drought`, of `season` and of `repair`, for C to link. include/card.h is its manual.
 //
 // A reading comes in as a struct, and its answer goes out as one (the crate `kinds`). All else is handed on as it came, and
 // so is each promise.
@@ -8,6 +8,8 @@ use door::Told;
 use drought::Shown;
 use kinds::CReading;
 use records::RecordNumbers;
+use repair::Repaired;
+use report::ChangeNumbers;
 use runs::Run;
 use season::Season;
 use starts::Started;
@@ -20,6 +22,7 @@ ghost use Rattle.refusals.specs.Book.{book};
 ghost use Rattle.drought.specs.Calls.{addWater, addInches, addZ, rowOfRun};
 ghost use Rattle.adding.specs.Taken.{result};
 ghost use Rattle.season.specs.Season.{seasonResult, addSeason};
+ghost use Rattle.repair.specs.Repair.{repairResult, repair};
 ghost use Rattle.kinds.specs.FromC.{readingOfC};
 
 // Reads a reading: 8 or 9.
@@ -119,6 +122,29 @@ pub extern "C" fn card_add_season(
     ensures { λ s. ⌜ seasonResult s (book (now (x1 .exit)) (now (x2 .exit)) (now (x3 .exit)) (now (index .exit)) (now (mark .exit)) (now (records .exit)) (now (v .exit))) ≡ addSeason run (now (p .entry)) (now (pe .entry)) (book (now (x1 .entry)) (now (x2 .entry)) (now (x3 .entry)) (now (index .entry)) (now (mark .entry)) (now (records .entry)) (now (v .entry))) ⌝ }
 {
     season::add_season(run, p, pe, x1, x2, x3, index, mark, records, v)
+}
+
+// Repairs the month at a row, from 0 on, with two readings, and reports the months whose index or mark changed: 1, 7, 11, 17, 8 or 9.
+#[no_mangle]
+pub extern "C" fn card_repair(
+    run: Run,
+    i: usize,
+    p: CReading,
+    pe: CReading,
+    x1: &mut [i32],
+    x2: &mut [i32],
+    x3: &mut [i32],
+    index: &mut [i32],
+    mark: &mut [u8],
+    records: &mut [RecordNumbers],
+    v: &mut [i64],
+    report: &mut [ChangeNumbers],
+) -> Repaired
+    ensures { λ a. ⌜ repairResult a (book (now (x1 .exit)) (now (x2 .exit)) (now (x3 .exit)) (now (index .exit)) (now (mark .exit)) (now (records .exit)) (now (v .exit))) (now (report .exit)) ≡ repair run i (readingOfC p) (readingOfC pe) (book (now (x1 .entry)) (now (x2 .entry)) (now (x3 .entry)) (now (index .entry)) (now (mark .entry)) (now (records .entry)) (now (v .entry))) (now (report .entry)) ⌝ }
+{
+    let a = kinds::reading_of(p);
+    let b = kinds::reading_of(pe);
+    repair::repair(run, i, a, b, x1, x2, x3, index, mark, records, v, report)
 }
 
 // Shows a month's row, from 0 on: 1, 7, 11.

@@ -28,11 +28,11 @@ pub chain : (f : Fresh) (asks : List Ask) → Accepted (first f) asks → figure
 chain f asks h = figures-all (first f) asks h
 
 -- ---- the constants and the calendar
-constants-stay : (d : Station) (asks : List Ask) → stateOf stationNext d asks .constants ≡ d .constants
+pub constants-stay : (d : Station) (asks : List Ask) → stateOf stationNext d asks .constants ≡ d .constants
 constants-stay d [] = refl
 constants-stay d (a ∷ later) = constants-stay (stationNext d a) later
 
-calendar-moves : (d : Station) (asks : List Ask) → 1 ≤ d .calendar → d .calendar ≤ lastMonth → stateOf stationNext d asks .calendar ≡ calendarAfter (d .calendar) (length asks)
+pub calendar-moves : (d : Station) (asks : List Ask) → 1 ≤ d .calendar → d .calendar ≤ lastMonth → stateOf stationNext d asks .calendar ≡ calendarAfter (d .calendar) (length asks)
 unfolding nextCalendar
 calendar-moves d [] l m = omega arith
 calendar-moves d (a ∷ later) l m = let e = calendar-moves (stationNext d a) later (omega arith) (omega arith) in omega arith

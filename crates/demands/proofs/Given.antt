@@ -143,7 +143,7 @@ nothing-else (Millimetres x) h = picked-none (within mostMillimetres x) _ (falle
 nothing-else Missing h = refl
 
 -- ---- a month by itself
-month-gives : (p pe : Reading) → MonthGives p pe (orElse (reading p .number) (reading pe .number))
+pub month-gives : (p pe : Reading) → MonthGives p pe (orElse (reading p .number) (reading pe .number))
 month-gives p pe =
     let k = reading p .number in
     let j = reading pe .number in
@@ -152,7 +152,7 @@ month-gives p pe =
     (λ h. subst (MonthGives p pe) (sym (or-first k j h)) (by-precipitation h (reading-gives p)))
     (zero-or k)
 
-month-given : (p pe : Reading) (n : ℕ) → MonthGives p pe n → orElse (reading p .number) (reading pe .number) ≡ n
+pub month-given : (p pe : Reading) (n : ℕ) → MonthGives p pe n → orElse (reading p .number) (reading pe .number) ≡ n
 month-given p pe n (by-precipitation h g) = let e = reading-given p n g in or-first (reading p .number) (reading pe .number) (λ z. h (sym e ∙ z)) ∙ e
 month-given p pe n (by-pe g k) = or-second (reading p .number) (reading pe .number) (reading-given p 0 g) ∙ reading-given pe n k
 

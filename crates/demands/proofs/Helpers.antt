@@ -53,7 +53,7 @@ use Rattle.demands.specs.Traces.{Little, plainFigures, plainNumbers, One
 use Rattle.demands.specs.Pinned.{endingIn, soil}
 
 -- two numbers of which the first is above the second
-apart : {a b : ℤ} → leZ a b ≡ false → a ≡ b → ⊥
+pub apart : {a b : ℤ} → leZ a b ≡ false → a ≡ b → ⊥
 apart {a} {b} f e = <ℤ-irrefl (subst (λ (x : ℤ). b <ℤ x) e (le-no a b f))
 
 -- ---- `agree`

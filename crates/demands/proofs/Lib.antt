@@ -26,6 +26,17 @@ pub mod Recorded
 pub mod Modified
 pub mod Plain
 pub mod Traces
+pub mod Backed
+pub mod Reopened
+pub mod Reworks
+pub mod RepairGiven
+pub mod Corrected
+pub mod Earlier
+pub mod SameAgain
+pub mod InRange
+pub mod NoStart
+pub mod Repaired
+pub mod RepairHelpers
 pub mod Table
 pub mod Rejected
 pub mod SeasonRejected

@@ -56,7 +56,7 @@ first-longer n cs more f l =
     rw (take-append-le n (cs .x1) (more .x1) l, take-append-le n (cs .x2) (more .x2) (omega (arith, c .x2-is)), take-append-le n (cs .x3) (more .x3) (omega (arith, c .x3-is)), take-append-le n (cs .index) (more .index) (omega (arith, c .index-is)), take-append-le n (cs .mark) (more .mark) (omega (arith, c .mark-is)), take-append-le n (cs .records) (more .records) (omega (arith, c .records-is)), take-append-le n (cs .v) (more .v) (omega (arith, c .v-is)))
 
 -- at a place among the first n
-same-at : {A : Type 0} (n i : ℕ) (d : A) (k l : List A) → take n l ≡ take n k → i < n → getD l i d ≡ getD k i d
+pub same-at : {A : Type 0} (n i : ℕ) (d : A) (k l : List A) → take n l ≡ take n k → i < n → getD l i d ≡ getD k i d
 same-at n i d k l e h = sym (getD-take n l i d h) ∙ ap (λ (u : List _). getD u i d) e ∙ getD-take n k i d h
 
 module _ (n : ℕ) (cs ds : Book) (e : firstPlaces n ds ≡ firstPlaces n cs) where

@@ -111,7 +111,7 @@ made-again (r ∷ rs) zero = refl
 made-again (r ∷ rs) (suc i) = made-again rs i
 
 -- ---- what the rules give: storages, water and the mark of each month
-starts-so : (s : Station) (a : Ask) → (recordFor s a .ss ≡ pos (s .soil .surface)) × (recordFor s a .su ≡ pos (s .soil .underlying))
+pub starts-so : (s : Station) (a : Ask) → (recordFor s a .ss ≡ pos (s .soil .surface)) × (recordFor s a .su ≡ pos (s .soil .underlying))
 starts-so s (water p pe) = (refl, refl)
 starts-so s (inches q) = (refl, refl)
 starts-so s (anomaly z) = (refl, refl)

@@ -283,7 +283,7 @@ beyond r ps pes cs =
     (zero-or (seasonRefusal r ps pes cs))
 
 -- ---- after accepted months
-more : (s : State) (asks : List Ask) (ps pes : List ℤ) → Accepted s asks
+pub more : (s : State) (asks : List Ask) (ps pes : List ℤ) → Accepted s asks
     → let t = addSeason (afterAll s asks .run) ps pes (afterAll s asks .columns) in
     Accepted s (asks ++ take (t .answer .added) (monthsOf ps pes)) × (leftOf t ≡ afterAll s (asks ++ take (t .answer .added) (monthsOf ps pes)))
 more s asks ps pes h =

@@ -16,12 +16,15 @@ use Rattle.starts.proofs.Theorems.{fresh-fits}
 use Rattle.runs.specs.declared.Run.{Run}
 use Rattle.refusals.specs.Book.{Book}
 use Rattle.season.specs.Season.{addSeason}
+use Rattle.repair.specs.Repair.{repair}
 use Rattle.demands.specs.Months.{Ask, asked, State, standing, after, afterAll, monthsOf}
-use Rattle.demands.specs.Demands.{numberOf, Fresh, first, now, Existing, by-start, by-add, by-season}
+use Rattle.demands.specs.Demands.{numberOf, Fresh, first, now, Existing, by-start, by-add, by-season, by-repair}
 use Rattle.demands.proofs.Took.{took}
 use Rattle.demands.proofs.Shown.{refused-add, refused-start, figures-are, layers-hold}
 use Rattle.demands.proofs.Given.{zero-or}
 use Rattle.demands.proofs.Seasons.{here-more}
+use Rattle.demands.proofs.RepairGiven.{refused}
+use Rattle.demands.proofs.Earlier.{soil-left}
 
 -- what holds of every soil that fits is kept: an add that is accepted leaves one, and one that is refused hands the run back
 module _ (P : Soil → Type 0) (of : (s : Soil) → SoilFits s → P s) where
@@ -67,6 +70,12 @@ layers-exist r (by-add q a cs e) = kept-after Layers layers-of (standing q cs) a
 layers-exist r (by-season q ps pes cs e) =
     let n = addSeason q ps pes cs .answer .added in
     subst (λ (s : State). Layers (s .run .soil)) (sym (here-more q ps pes cs .1)) (kept-all Layers layers-of (standing q cs) (take n (monthsOf ps pes)) (layers-exist q e))
+layers-exist r (by-repair q i p pe cs report e) =
+    let k = repair q i p pe cs report .answer .number in
+    ⊎-elim
+    (λ z. layers-of (repair q i p pe cs report .answer .run .soil) (soil-left q i p pe cs report z))
+    (λ n. rw (refused q i p pe cs report n) (layers-exist q e))
+    (zero-or k)
 
 -- the Z of a month that was taken
 pub z-given : (r : Run) (a : Ask) (cs : Book) → asked r a cs .answer .number ≡ 0 → natAbs (asked r a cs .answer .figures .z) ≤ mostZ

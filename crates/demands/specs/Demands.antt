@@ -41,6 +41,7 @@ use Rattle.adding.specs.Figures.{noFigures}
 use Rattle.adding.specs.Taken.{Result, heldBy}
 use Rattle.drought.specs.Calls.{shown, notShown, rowOfRun}
 use Rattle.season.specs.Season.{seasonResult, nothing, addSeason}
+use Rattle.repair.specs.Repair.{repair}
 use Rattle.demands.specs.Months.{Ask, water, inches, anomaly, asked, State, standing, after, afterAll, Accepted, figuresAnswered, monthsOf, leftOf, stationOf, figuresFor, figuresOfMonths, recordFor, noRow, rowsOfMonths}
 use Rattle.demands.specs.Given.{ReadingGives, AddGives, RowGives, SeriesGives, SeasonGives}
 use Rattle.demands.specs.Table.{Table}
@@ -157,11 +158,12 @@ Balances r b =
     b .answer .figures .water .p + (r .soil .surface + r .soil .underlying)
     ≡ (b .answer .figures .water .et + b .answer .figures .water .ro) + (b .answer .run .soil .surface + b .answer .run .soil .underlying)
 
--- a run that exists: a start gave it, refused or not, or an add or a season handed it back, refused or not, on whatever columns
+-- a run that exists: a start gave it, refused or not, or an add, a season or (document 02, E8) a repair handed it back, refused or not, on whatever columns
 pub data Existing : Run → Type 0 where
   by-start : (constants : List ℤ) (c ss su m : ℤ) → Existing (startOf constants c ss su m .run)
   by-add : (r : Run) (a : Ask) (cs : Book) → Existing r → Existing (asked r a cs .answer .run)
   by-season : (r : Run) (ps pes : List ℤ) (cs : Book) → Existing r → Existing (addSeason r ps pes cs .answer .run)
+  by-repair : (r : Run) (i : ℕ) (p pe : Reading) (cs : Book) (report : List (List ℤ)) → Existing r → Existing (repair r i p pe cs report .answer .run)
 
 pub record Demand2 : Type 0 where
   -- the figures of an accepted month are those that the rules of water and of spells give

@@ -12,6 +12,7 @@ pub mod Longer
 pub mod Recorded
 pub mod Modified
 pub mod Traces
+pub mod Repairs
 pub mod Pinned
 pub mod Answered
 pub mod Worked

@@ -54,6 +54,10 @@ badZ = 12
 abbrev pub notANumber : ℕ
 notANumber = 13
 
+-- 17: document 02, E8, "no water in that month"
+abbrev pub waterless : ℕ
+waterless = 17
+
 -- 21: document 02, E11, "zero K, at a start right after 3"
 abbrev pub zeroK : ℕ
 zeroK = 21

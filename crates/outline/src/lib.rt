@@ -70,4 +70,6 @@ pub const BAD_Z: u8 = 12;
 
 pub const NOT_A_NUMBER: u8 = 13;
 
+pub const WATERLESS: u8 = 17;
+
 pub const ZERO_K: u8 = 21;

@@ -4,10 +4,11 @@
 use Prim.Native.Nat.{ℕ}
 use mathlib.Core.Bool.{Bool, _&&_}
 use mathlib.Core.List.{List}
-use lib.IntN.{ℤ}
+use lib.IntN.{ℤ, pos}
 use lib.Dec.{eqb}
-use lib.ListN.{length}
+use lib.ListN.{length, getD}
 use Rattle.outline.specs.Numbers.{lengthFits}
+use Rattle.spells.specs.declared.Running.{Running}
 use Rattle.refusals.specs.Columns.{Columns, columns}
 
 pub record Book : Type 0 where
@@ -29,6 +30,10 @@ columnsOf b = columns (b .x1) (b .x2) (b .x3) (b .index) (b .mark)
 -- the five columns, with records and V beside them
 abbrev pub bookOf : Columns → List (List ℤ) → List ℤ → Book
 bookOf cs records v = book (cs .x1) (cs .x2) (cs .x3) (cs .index) (cs .mark) records v
+
+-- X1, X2, X3 and V that it holds of the month at place i
+abbrev pub valuesAt : Book → ℕ → Running
+valuesAt b i = record { x1 = getD (b .x1) i (pos 0); x2 = getD (b .x2) i (pos 0); x3 = getD (b .x3) i (pos 0); v = getD (b .v) i (pos 0) }
 
 -- the length of lent lists, where they have one
 abbrev pub long : Book → ℕ

@@ -3,7 +3,7 @@
 use mathlib.Core.Path.{_≡_, refl, ap, _∙_}
 use mathlib.Core.Bool.{true}
 use mathlib.Core.List.{List, [], _∷_, _++_}
-use Prim.Native.Nat.{ℕ, suc, _+_, _-_, _*_, _≤_, _<_}
+use Prim.Native.Nat.{ℕ, suc, _*_, _≤_, _<_}
 use native.Mathlib.Omega.{arith}
 use lib.IntN.{ℤ, pos, natAbs}
 use lib.Seq.{length-take-le, getD-set-same}
@@ -22,7 +22,6 @@ use Rattle.hindsight.specs.Adding.{settledAll, addAs, addMonth, History}
 use Rattle.hindsight.specs.Months.{rowFor}
 use Rattle.hindsight.specs.Columns.{xAt}
 use Rattle.history.proofs.Adding.{length-xs}
-use Rattle.runs.specs.Runs.{isRun}
 use Rattle.calendar.specs.Calendar.{nextCalendar}
 use Rattle.runs.specs.RunFits.{RunFits}
 use Rattle.runs.specs.declared.Run.{Run}
@@ -56,13 +55,10 @@ module _ (run : History) (r : Row) (n : ℕ) (past : length (run .past) ≡ n) (
   mark-long Nothing i = omega (arith, length-append (run .mark) (1 ∷ []))
   mark-long (Decides w) i = simp (length-append, length-replicate, length-take) (omega arith)
 
--- ---- a month that is added to a run on columns that fit
-module _ (r : Run) (cs : Book) (g : Good r cs) (room : r .months < long cs) where
+-- ---- a month that is added to a run on columns that fit; where the last record ends is not asked
+module _ (r : Run) (cs : Book) (fit : columnsFit cs ≡ true) (fits : RunFits (long cs) r) (room : r .months < long cs) where
   lengths : AllLong cs
-  lengths = columns-are cs (g .fit)
-
-  run-fits : RunFits (long cs) r
-  run-fits = run-is r cs g
+  lengths = columns-are cs fit
 
   held-past : length (heldBy r cs .past) ≡ r .months
   held-past = length-xs (xAt (cs .x1) (cs .x2) (cs .x3)) 0 (r .months)
@@ -74,61 +70,56 @@ module _ (r : Run) (cs : Book) (g : Good r cs) (room : r .months < long cs) wher
   held-mark = length-take-le (r .months) (cs .mark) (omega (arith, lengths .mark-is))
 
   module _ (row : Row) where
-    pub wrote-index : length (addMonth (heldBy r cs) row .index ++ drop (suc (r .months)) (cs .index)) ≡ long cs
-    wrote-index =
-        let a = index-long (heldBy r cs) row (r .months) held-past (run-fits .opens) (row .decision) held-index in
+    pub index-written : length (addMonth (heldBy r cs) row .index ++ drop (suc (r .months)) (cs .index)) ≡ long cs
+    index-written =
+        let a = index-long (heldBy r cs) row (r .months) held-past (fits .opens) (row .decision) held-index in
         omega (arith, length-append (addMonth (heldBy r cs) row .index) (drop (suc (r .months)) (cs .index)), length-drop (suc (r .months)) (cs .index), lengths .index-is)
 
-    pub wrote-mark : length (addMonth (heldBy r cs) row .mark ++ drop (suc (r .months)) (cs .mark)) ≡ long cs
-    wrote-mark =
-        let a = mark-long (heldBy r cs) row (r .months) held-past (run-fits .opens) (row .decision) held-mark in
+    pub mark-written : length (addMonth (heldBy r cs) row .mark ++ drop (suc (r .months)) (cs .mark)) ≡ long cs
+    mark-written =
+        let a = mark-long (heldBy r cs) row (r .months) held-past (fits .opens) (row .decision) held-mark in
         omega (arith, length-append (addMonth (heldBy r cs) row .mark) (drop (suc (r .months)) (cs .mark)), length-drop (suc (r .months)) (cs .mark), lengths .mark-is)
 
   module _ (soil : Soil) (sf : SoilFits soil) (w : WaterFigures) (z : ℤ) (hz : natAbs z ≤ mostZ) (kept : Record) where
-    abbrev left : Book
-    left = taken r soil w z kept cs .columns
-
     -- each list is as long as it was
-    pub long-kept : long left ≡ long cs
+    pub long-stays : long (taken r soil w z kept cs .columns) ≡ long cs
     unfolding taken
-    long-kept = length-set (cs .x1) (r .months) (stepOf (r .values) z .after .x1)
+    long-stays = length-set (cs .x1) (r .months) (stepOf (r .values) z .after .x1)
 
-    columns-kept : columnsFit left ≡ true
+    pub columns-kept : columnsFit (taken r soil w z kept cs .columns) ≡ true
     unfolding taken
     columns-kept =
-        rw (length-set (cs .x1) (r .months) (stepOf (r .values) z .after .x1), length-set (cs .x2) (r .months) (stepOf (r .values) z .after .x2), length-set (cs .x3) (r .months) (stepOf (r .values) z .after .x3), wrote-index (rowFor (stepOf (r .values) z)), wrote-mark (rowFor (stepOf (r .values) z)), length-set (cs .records) (r .months) (numbersOf kept), length-set (cs .v) (r .months) (stepOf (r .values) z .after .v), lengths .x2-is, lengths .x3-is, lengths .records-is, lengths .v-is)
-        (rw (lengths .x2-is, lengths .x3-is, lengths .index-is, lengths .mark-is, lengths .records-is, lengths .v-is) at (g .fit))
+        rw (length-set (cs .x1) (r .months) (stepOf (r .values) z .after .x1), length-set (cs .x2) (r .months) (stepOf (r .values) z .after .x2), length-set (cs .x3) (r .months) (stepOf (r .values) z .after .x3), index-written (rowFor (stepOf (r .values) z)), mark-written (rowFor (stepOf (r .values) z)), length-set (cs .records) (r .months) (numbersOf kept), length-set (cs .v) (r .months) (stepOf (r .values) z .after .v), lengths .x2-is, lengths .x3-is, lengths .records-is, lengths .v-is)
+        (rw (lengths .x2-is, lengths .x3-is, lengths .index-is, lengths .mark-is, lengths .records-is, lengths .v-is) at fit)
 
     -- the running values, with V's room a month more
     before-fits : FitsWithin (mostU * r .months) (r .values)
     before-fits =
-        let f = run-fits in
         record {
-          x1-size = f .x1-size;
-          x2-size = f .x2-size;
-          x3-size = f .x3-size;
-          v-size = f .v-size;
-          x1-sign = f .x1-sign;
-          x2-sign = f .x2-sign;
-          v-above = f .v-above;
-          v-below = f .v-below;
+          x1-size = fits .x1-size;
+          x2-size = fits .x2-size;
+          x3-size = fits .x3-size;
+          v-size = fits .v-size;
+          x1-sign = fits .x1-sign;
+          x2-sign = fits .x2-sign;
+          v-above = fits .v-above;
+          v-below = fits .v-below;
         }
 
     after-fits : RunFits (long cs) (runAfter r soil (stepOf (r .values) z) (addMonth (heldBy r cs) (rowFor (stepOf (r .values) z))))
     after-fits =
-        let f = run-fits in
         let v = values-kept (r .values) z (mostU * r .months) before-fits hz in
         let o = opens-most (heldBy r cs) (rowFor (stepOf (r .values) z)) in
         let c = calendar-is (nextCalendar (r .calendar)) (calendar-next (r .calendar)) in
         record {
           months = room;
-          opens = omega (arith, f .opens);
+          opens = omega (arith, fits .opens);
           soil = sf;
           first-month = c .0;
           last-month = c .1;
-          constants = f .constants;
-          all-count = f .all-count;
-          month-constants = constants-at-fit (r .constants) (nextCalendar (r .calendar)) (f .constants) (calendar-next (r .calendar));
+          constants = fits .constants;
+          all-count = fits .all-count;
+          month-constants = constants-at-fit (r .constants) (nextCalendar (r .calendar)) (fits .constants) (calendar-next (r .calendar));
           x1-size = v .x1-size;
           x2-size = v .x2-size;
           x3-size = v .x3-size;
@@ -139,23 +130,38 @@ module _ (r : Run) (cs : Book) (g : Good r cs) (room : r .months < long cs) wher
           v-below = v .v-below;
         }
 
-    -- the run that is handed back is a run, for the columns that are left
-    run-kept : isRun (long left) (taken r soil w z kept cs .answer .run) ≡ true
+    -- the run that is handed back fits the columns that are left
+    pub run-stays : RunFits (long (taken r soil w z kept cs .columns)) (taken r soil w z kept cs .answer .run)
     unfolding taken
-    run-kept =
-        rw (length-set (cs .x1) (r .months) (stepOf (r .values) z .after .x1))
-        (fits-run (long cs) (runAfter r soil (stepOf (r .values) z) (addMonth (heldBy r cs) (rowFor (stepOf (r .values) z)))) after-fits)
+    run-stays = rw (length-set (cs .x1) (r .months) (stepOf (r .values) z .after .x1)) after-fits
 
     -- where the month's record ends with the soil that it leaves, the last record ends where that run stands
-    module _ (surface : kept .surface ≡ pos (soil .surface)) (underlying : kept .underlying ≡ pos (soil .underlying)) where
-      ends-kept : endsMeet (suc (r .months)) soil (left .records) ≡ true
-      unfolding taken
-      ends-kept =
-          let own = getD-set-same (cs .records) (r .months) (numbersOf kept) [] (omega (arith, lengths .records-is)) in
-          are-ends (r .months) soil (set (cs .records) (r .months) (numbersOf kept))
-          (ap (λ (n : List ℤ). getD n 9 (pos 0)) own ∙ surface)
-          (ap (λ (n : List ℤ). getD n 10 (pos 0)) own ∙ underlying)
+    ends-kept : kept .surface ≡ pos (soil .surface) → kept .underlying ≡ pos (soil .underlying) → endsMeet (suc (r .months)) soil (taken r soil w z kept cs .columns .records) ≡ true
+    unfolding taken
+    ends-kept surface underlying =
+        let own = getD-set-same (cs .records) (r .months) (numbersOf kept) [] (omega (arith, lengths .records-is)) in
+        are-ends (r .months) soil (set (cs .records) (r .months) (numbersOf kept))
+        (ap (λ (n : List ℤ). getD n 9 (pos 0)) own ∙ surface)
+        (ap (λ (n : List ℤ). getD n 10 (pos 0)) own ∙ underlying)
 
-      pub good-taken : Good (taken r soil w z kept cs .answer .run) left
-      unfolding taken
-      good-taken = record { fit = columns-kept; run = parts-run (taken r soil w z kept cs .answer .run) left run-kept ends-kept }
+-- ---- .. and whose last record ends where it stands: so does the run that is handed back, on the columns that are left
+module _ (r : Run) (cs : Book) (g : Good r cs) (room : r .months < long cs) where
+  pub wrote-index : (row : Row) → length (addMonth (heldBy r cs) row .index ++ drop (suc (r .months)) (cs .index)) ≡ long cs
+  wrote-index = index-written r cs (g .fit) (run-is r cs g) room
+
+  pub wrote-mark : (row : Row) → length (addMonth (heldBy r cs) row .mark ++ drop (suc (r .months)) (cs .mark)) ≡ long cs
+  wrote-mark = mark-written r cs (g .fit) (run-is r cs g) room
+
+  module _ (soil : Soil) (sf : SoilFits soil) (w : WaterFigures) (z : ℤ) (hz : natAbs z ≤ mostZ) (kept : Record) where
+    pub long-kept : long (taken r soil w z kept cs .columns) ≡ long cs
+    long-kept = long-stays r cs (g .fit) (run-is r cs g) room soil sf w z hz kept
+
+    pub good-taken : kept .surface ≡ pos (soil .surface) → kept .underlying ≡ pos (soil .underlying) → Good (taken r soil w z kept cs .answer .run) (taken r soil w z kept cs .columns)
+    unfolding taken
+    good-taken surface underlying =
+        let b = taken r soil w z kept cs in
+        let f = run-is r cs g in
+        record {
+          fit = columns-kept r cs (g .fit) f room soil sf w z hz kept;
+          run = parts-run (b .answer .run) (b .columns) (fits-run (long (b .columns)) (b .answer .run) (run-stays r cs (g .fit) f room soil sf w z hz kept)) (ends-kept r cs (g .fit) f room soil sf w z hz kept surface underlying);
+        }

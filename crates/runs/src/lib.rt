@@ -85,7 +85,8 @@ fn size_fits(x: i32) -> bool
     ranges::within(x as i64, MOST_X)
 }
 
-fn sizes_fit(v: Running) -> bool
+// The sizes of X1, X2 and X3. With the next two, for `kept_rows` too.
+pub fn sizes_fit(v: Running) -> bool
     ensures { λ r. ⌜ r ≡ sizesFit v ⌝ }
 {
     if !size_fits(v.x1) {
@@ -97,7 +98,7 @@ fn sizes_fit(v: Running) -> bool
     size_fits(v.x3)
 }
 
-fn signs_fit(v: Running) -> bool
+pub fn signs_fit(v: Running) -> bool
     ensures { λ r. ⌜ r ≡ signsFit v ⌝ }
 {
     if v.x1 < 0 {
@@ -115,7 +116,7 @@ fn signs_fit(v: Running) -> bool
     true
 }
 
-fn v_fits(months: u32, v: Running) -> bool
+pub fn v_fits(months: u32, v: Running) -> bool
     ensures { λ r. ⌜ r ≡ vFits months v ⌝ }
 {
     let most = MOST_U * (months as i64);

@@ -94,7 +94,7 @@ fn larger_in_size(x1: i32, x2: i32) -> i32
 }
 
 // The index of a month that decides nothing.
-fn provisional_of(s: Running) -> i32
+pub fn provisional_of(s: Running) -> i32
     requires { ⌜ SidesFit (s .x1) (s .x2) ⌝ }
     ensures { λ r. ⌜ r ≡ provisional s ⌝ }
 {

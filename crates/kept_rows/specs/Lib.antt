@@ -1,0 +1,2 @@
+-- What must be believed: the ranges of all that the lent lists record of a month (KeptRows).
+pub mod KeptRows

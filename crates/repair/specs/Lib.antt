@@ -1,0 +1,2 @@
+-- What must be believed: a wrong month repaired (Repair).
+pub mod Repair
