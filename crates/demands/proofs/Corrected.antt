@@ -156,8 +156,8 @@ at-place f before a later h i e p pe report z =
     let y = subst₂ (λ (u : State) (j : ℕ). repairIn u j p pe report .answer .number ≡ 0) (after-append (first f) before (a ∷ later)) m z in (
       accepted-append (first f) before (water p pe ∷ later) (q .0) (accepted-anew f before (q .0) a later (q .1) p pe report y),
       ap₂ (λ (u : State) (j : ℕ). repairedTo (repairIn u j p pe report)) (after-append (first f) before (a ∷ later)) m
-      ∙ repaired-anew f before (q .0) a later (q .1) p pe report y
-      ∙ sym (after-append (first f) before (water p pe ∷ later)),
+          ∙ repaired-anew f before (q .0) a later (q .1) p pe report y
+          ∙ sym (after-append (first f) before (water p pe ∷ later)),
     )
 
 pub repair-fresh : (f : Fresh) (asks : List Ask) → Accepted (first f) asks → (i : ℕ) (p pe : Reading) (report : List (List ℤ)) → Anew f asks (set asks i (water p pe)) i p pe report

@@ -114,13 +114,13 @@ module _ (r : Run) (cs : Book) (c : AllLong cs) (few : r .opens ≤ r .months) (
         long-is = length-set (cs .x1) (r .months) (s .after .x1);
         floor = floor-by d refl;
         kept = λ j h. let ne : j ≡ r .months → ⊥ = λ e. omega arith in
-        record {
-          x1 = getD-set-other (cs .x1) (r .months) j (s .after .x1) (pos 0) ne;
-          x2 = getD-set-other (cs .x2) (r .months) j (s .after .x2) (pos 0) ne;
-          x3 = getD-set-other (cs .x3) (r .months) j (s .after .x3) (pos 0) ne;
-          numbers = getD-set-other (cs .records) (r .months) j (numbersOf kept) [] ne;
-          v = getD-set-other (cs .v) (r .months) j (s .after .v) (pos 0) ne;
-        };
+            record {
+              x1 = getD-set-other (cs .x1) (r .months) j (s .after .x1) (pos 0) ne;
+              x2 = getD-set-other (cs .x2) (r .months) j (s .after .x2) (pos 0) ne;
+              x3 = getD-set-other (cs .x3) (r .months) j (s .after .x3) (pos 0) ne;
+              numbers = getD-set-other (cs .records) (r .months) j (numbersOf kept) [] ne;
+              v = getD-set-other (cs .v) (r .months) j (s .after .v) (pos 0) ne;
+            };
         index = index-front d refl;
         mark = mark-front d refl;
       }

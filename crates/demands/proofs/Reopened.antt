@@ -128,9 +128,9 @@ module _ (f : Fresh) (before : List Ask) (h : Accepted (first f) before) (a : As
       let m = months-next (then .run) a (then .columns) t in
       let c = columns-are (then .columns) (t .good .fit) in
       ap recordIn (
-        values-stay (after then a) later (k .1) place (omega arith) .3
-        ∙ ap (λ (l : List (List ℤ)). getD l place []) (records-next (then .run) a (then .columns) t)
-        ∙ getD-set-same (then .columns .records) place (numbersOf (recordFor (stationOf (then .run)) a)) [] (omega (arith, t .room, c .records-is))
+      values-stay (after then a) later (k .1) place (omega arith) .3
+      ∙ ap (λ (l : List (List ℤ)). getD l place []) (records-next (then .run) a (then .columns) t)
+      ∙ getD-set-same (then .columns .records) place (numbersOf (recordFor (stationOf (then .run)) a)) [] (omega (arith, t .room, c .records-is))
       )
 
   station-then : stationOf (last .run) ≡ stateAfter stationNext (stationOf (then .run)) (a ∷ later)
