@@ -1,7 +1,7 @@
 -- The rows give the run back: after any accepted months of a fresh run the last row has its running values, the rows tell its open months, and these show what they
 -- showed when they were added (`backed-all`). Assumes nothing.
 use mathlib.Core.Path.{_≡_, refl, sym, ap, _∙_, subst}
-use mathlib.Core.Bool.{Bool, true, false, cond, false≢true}
+use mathlib.Core.Bool.{Bool, true, false}
 use mathlib.Core.Logic.{_⊎_, inl, inr, ⊎-elim}
 use mathlib.Core.List.{List, [], _∷_, _++_}
 use Prim.Native.Nat.{ℕ, zero, suc, _-_, _≤_, _<_}
@@ -10,12 +10,10 @@ use lib.IntN.{ℤ, pos}
 use lib.ListN.{length, getD, take, drop, length-append}
 use lib.Seq.{getD-set-same, getD-set-other, getD-take, getD-at, take-append-le, length-take-le}
 use Rattle.spells.specs.Spells.{stepOf, provisional}
-use Rattle.spells.specs.declared.Running.{Running}
-use Rattle.spells.specs.declared.With.{With}
 use Rattle.spells.specs.declared.SpellMonth.{SpellMonth}
 use Rattle.spells.specs.declared.Decision.{Decision}
 use Rattle.spells.specs.declared.Decision.the-variants.{Nothing, Decides}
-use Rattle.hindsight.specs.Adding.{History, addAs, addMonth}
+use Rattle.hindsight.specs.Adding.{addAs}
 use Rattle.runs.specs.declared.Run.{Run}
 use Rattle.refusals.specs.Book.{Book, valuesAt}
 use Rattle.refusals.proofs.Refused.{columns-are}

@@ -1,10 +1,9 @@
 -- A repair of a fresh run's month leaves a fresh run over the corrected months (`repair-fresh`), and so does any mix of adds, seasons and repairs
 -- (`calls-fresh`). Assumes nothing.
 use mathlib.Core.Path.{_≡_, refl, sym, ap, ap₂, _∙_, subst, subst₂}
-use mathlib.Core.Bool.{true}
 use mathlib.Core.Logic.{⊎-elim}
 use mathlib.Core.List.{List, [], _∷_, _++_}
-use Prim.Native.Nat.{ℕ, zero, suc, _+_, _-_, _≤_, _<_}
+use Prim.Native.Nat.{ℕ, suc, _+_, _-_, _≤_, _<_}
 use native.Mathlib.Omega.{arith}
 use lib.IntN.{ℤ, pos}
 use lib.ListN.{length, getD, take, drop, set, replicate, length-replicate}
@@ -15,27 +14,24 @@ use Rattle.door.specs.declared.Reading.{Reading}
 use Rattle.runs.specs.declared.Run.{Run}
 use Rattle.records.specs.Record.{numbersOf, recordAt, recordIn}
 use Rattle.records.proofs.Meeting.{amounts-to}
-use Rattle.refusals.specs.Book.{Book, long}
+use Rattle.refusals.specs.Book.{Book}
 use Rattle.refusals.proofs.Refused.{columns-are}
 use Rattle.adding.proofs.Readiness.{run-is}
-use Rattle.reopening.specs.Before.{runBefore, shownFrom, reopened}
+use Rattle.reopening.specs.Before.{shownFrom, reopened}
 use Rattle.reopening.proofs.Laws.{shown-long}
 use Rattle.reworking.specs.Reworked.{Left, left, renewed, renewedIn, reworked, reworkedFrom}
-use Rattle.repair.specs.Repair.{RepairResult}
-use Rattle.season.specs.Season.{addSeason}
-use Rattle.demands.specs.Months.{Ask, water, asked, State, standing, after, afterAll, Accepted, monthsOf}
+use Rattle.demands.specs.Months.{Ask, water, asked, State, standing, after, afterAll, Accepted}
 use Rattle.demands.specs.Given.{MonthGives}
-use Rattle.demands.specs.Demands.{Fresh, first, now, numberOf}
+use Rattle.demands.specs.Demands.{Fresh, first, now}
 use Rattle.demands.specs.Seasons.{SameFrom}
 use Rattle.demands.specs.Longer.{SameMonths}
 use Rattle.demands.specs.Repairs.{Watery, RepairGives, repair-0, Call, adds, seasons, repairs, repairedTo, repairIn, afterCall, afterCalls, corrected, correctedAll}
-use Rattle.demands.proofs.Took.{took}
 use Rattle.demands.proofs.Sequence.{months-all, after-append, accepted-append}
 use Rattle.demands.proofs.Shown.{refused-add}
 use Rattle.demands.proofs.Given.{zero-or}
 use Rattle.demands.proofs.Seasons.{all-beyond, more}
 use Rattle.demands.proofs.Longer.{number-of}
-use Rattle.demands.proofs.Reopened.{good-then, good-last, place, then, last, run-back, long-then, opened, opened-is, ready, months-back, few, index-room, mark-room, spliced-beyond, from}
+use Rattle.demands.proofs.Reopened.{good-then, good-last, run-back, long-then, opened-is, ready, months-back, few, index-room, mark-room, spliced-beyond}
 use Rattle.demands.proofs.Reworks.{Holds, HoldsFrom, holds-same, holds-all, reworked-is, themselves, room-for, copied-all, books-same}
 use Rattle.demands.proofs.RepairGiven.{done, refused, is-repaired, repairs-exactly}
 

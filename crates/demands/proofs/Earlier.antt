@@ -2,11 +2,11 @@
 -- columns. Assumes nothing.
 use mathlib.Core.Path.{_≡_, refl, sym, ap, _∙_, subst}
 use mathlib.Core.Bool.{Bool, true, false, cond}
-use mathlib.Core.List.{List, [], _∷_, _++_}
+use mathlib.Core.List.{List, [], _++_}
 use Prim.Native.Nat.{ℕ, zero, suc, _+_, _-_, _≤_, _<_}
 use native.Mathlib.Omega.{arith}
-use lib.IntN.{ℤ, pos, natAbs}
-use lib.ListN.{length, getD, take, drop, set, replicate, List·getD-append, length-append, length-set, length-replicate}
+use lib.IntN.{ℤ, pos}
+use lib.ListN.{length, getD, take, drop, replicate, List·getD-append, length-append, length-set, length-replicate}
 use lib.Seq.{getD-set-other, getD-take, length-take-le}
 use Rattle.door.specs.Readings.{reading}
 use Rattle.door.specs.declared.Reading.{Reading}
@@ -32,7 +32,7 @@ use Rattle.reopening.specs.Before.{opensBefore, runBefore, shownFrom, reopened}
 use Rattle.reopening.proofs.Laws.{opens-most, shown-long}
 use Rattle.reworking.specs.Reworked.{Left, again, hadWater, renewed, renewedIn, reworked, reworkedFrom}
 use Rattle.reworking.specs.Workable.{Workable, Stands, Kept as Workable-record}
-use Rattle.reworking.proofs.Steps.{Next, next-again}
+use Rattle.reworking.proofs.Steps.{next-again}
 use Rattle.reworking.proofs.Passes.{Recorded}
 use Rattle.reworking.proofs.Entry.{stands-begun, recorded-begun}
 use Rattle.repair.specs.Repair.{repair}

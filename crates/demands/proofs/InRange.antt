@@ -3,9 +3,9 @@
 use mathlib.Core.Path.{_≡_, refl, sym, ap, _∙_, subst}
 use mathlib.Core.Bool.{Bool, true, false, cond, not, _&&_}
 use mathlib.Core.List.{List, [], _∷_, _++_}
-use Prim.Native.Nat.{ℕ, zero, suc, _+_, _*_, _≤_, _<_}
+use Prim.Native.Nat.{ℕ, zero, suc, _+_, _≤_, _<_}
 use native.Mathlib.Omega.{arith}
-use borrow.Author.Tests.{leb-true, le-leb}
+use borrow.Author.Tests.{le-leb}
 use lib.Dec.{leb}
 use lib.IntN.{ℤ, pos, negℤ, natAbs}
 use lib.Signed.{leZ, ltZ}
@@ -17,8 +17,6 @@ use Rattle.outline.proofs.Tests.{first, second, both, within-z}
 use Rattle.door.specs.Readings.{mostReading, reading, month}
 use Rattle.door.specs.Outcome.{measured}
 use Rattle.door.proofs.Bounds.{reading-most, inches-most}
-use Rattle.water.specs.Layers.{surfaceHolds, underlyingHolds, SoilFits}
-use Rattle.water.specs.declared.Soil.{Soil}
 use Rattle.water.proofs.Theorems.{month-layers-kept}
 use Rattle.ending.specs.Ending.{Ending, steady, ended, abating, turn, endingOf}
 use Rattle.spells.specs.Spells.{raised, lowered, isZero, largerInSize, provisional, steadyMonth, abatingMonth, founded, unfounded, tried, noSpell, endingMonth, inForce, stepOf}
@@ -28,7 +26,7 @@ use Rattle.spells.specs.declared.With.the-variants.{X1, X2, X3}
 use Rattle.spells.specs.declared.Decision.{Decision}
 use Rattle.spells.specs.declared.Decision.the-variants.{Nothing, Decides}
 use Rattle.spells.specs.declared.SpellMonth.{SpellMonth}
-use Rattle.hindsight.specs.Rule.{X, Row, Side, first as first-side, second as second-side, valueOn, sideFrom, settledIndex, Deciding, nobody, after as decided-after, oneEarlier, decidingFor, deciding, Shown, shownBy, forwardOf, forward}
+use Rattle.hindsight.specs.Rule.{X, Row, Side, first as first-side, second as second-side, valueOn, sideFrom, settledIndex, Deciding, nobody, after as decided-after, oneEarlier, decidingFor, deciding, shownBy, forward}
 use Rattle.hindsight.specs.Columns.{rowsOf}
 use Rattle.hindsight.specs.Coded.{stateOf as stateAfter}
 use Rattle.hindsight_laws.proofs.Steps.{rows-long}
@@ -39,8 +37,7 @@ use Rattle.calendar.specs.Calendar.{constantsAt, someZeroK}
 use Rattle.runs.specs.Runs.{soilFits, sizesFit, signsFit, vFits, isRun}
 use Rattle.runs.specs.declared.Run.{Run}
 use Rattle.runs.proofs.RunLaws.{values-fit}
-use Rattle.records.specs.Record.{recordAt, waterRecord}
-use Rattle.records.specs.declared.Record.{Record}
+use Rattle.records.specs.Record.{waterRecord}
 use Rattle.records.proofs.Fitting.{recordable}
 use Rattle.refusals.specs.Book.{Book, long, valuesAt}
 use Rattle.refusals.specs.Good.{Good}

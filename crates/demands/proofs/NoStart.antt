@@ -22,7 +22,6 @@ use Rattle.modified.specs.Modified.{mixed, side, leaning, modifiedBy, modifiedI
 use Rattle.ranges.specs.Ranges.{limitOf, constantFits, constantsFitTo, calendarFits}
 use Rattle.calendar.specs.Calendar.{constantsAt, zeroKWithin, nextCalendar}
 use Rattle.runs.specs.Runs.{soilFits, sizesFit, signsFit, vFits, isRun}
-use Rattle.runs.specs.declared.Run.{Run}
 use Rattle.starts.specs.Start.{runForZ}
 use Rattle.records.specs.Ends.{amounts, endsMeet}
 use Rattle.refusals.specs.Book.{book, lengthsFit}

@@ -1,29 +1,28 @@
 -- The run before a month, and its columns then, from a fresh run's later state: `runBefore` is the run that stood there (`run-back`), and the months open again hold
 -- with those before them what the columns held then (`months-back`). Assumes nothing.
-use mathlib.Core.Path.{_≡_, refl, sym, ap, _∙_, subst}
+use mathlib.Core.Path.{_≡_, refl, sym, ap, _∙_}
 use mathlib.Core.Bool.{true}
 use mathlib.Core.Logic.{_⊎_, inl, inr, ⊎-elim}
 use mathlib.Core.List.{List, [], _∷_, _++_}
 use Prim.Native.Nat.{ℕ, zero, suc, _+_, _-_, _≤_, _<_}
 use native.Mathlib.Omega.{arith}
 use lib.IntN.{ℤ, pos, natAbs}
-use lib.ListN.{length, getD, take, drop, replicate, List·getD-append, getD-replicate, length-append, length-replicate, length-set, length-take, length-drop}
+use lib.ListN.{length, getD, take, drop, replicate, List·getD-append, getD-replicate, length-replicate, length-set}
 use lib.Seq.{getD-set-same, getD-set-other, getD-take, getD-drop, getD-append-add, length-take-le, ext-getD}
 use Rattle.spells.specs.Spells.{provisional}
 use Rattle.hindsight.specs.Coded.{stateOf as stateAfter}
-use Rattle.runs.specs.declared.Run.{Run}
 use Rattle.records.specs.Record.{numbersOf, recordAt, recordIn}
 use Rattle.records.specs.declared.Record.{Record}
-use Rattle.refusals.specs.Book.{Book, book, long, lengthsFit, columnsFit, valuesAt}
+use Rattle.refusals.specs.Book.{Book, long, columnsFit, valuesAt}
 use Rattle.refusals.specs.Good.{Good}
 use Rattle.refusals.proofs.Refused.{columns-are}
 use Rattle.adding.proofs.Readiness.{run-is}
 use Rattle.reopening.specs.Before.{opensBefore, calendarBack, runBefore, shownFrom, reopenedBy, reopened}
 use Rattle.reopening.proofs.Laws.{back-again, shown-long, index-long, mark-long}
 use Rattle.reworking.specs.Reworked.{renewed, renewedIn}
-use Rattle.demands.specs.Months.{Ask, water, inches, anomaly, asked, State, after, afterAll, Accepted, Station, stationOf, soilFor, stationNext, recordFor}
+use Rattle.demands.specs.Months.{Ask, water, inches, anomaly, State, after, afterAll, Accepted, Station, stationOf, soilFor, stationNext, recordFor}
 use Rattle.demands.specs.Demands.{Fresh, first, now}
-use Rattle.demands.specs.Longer.{firstPlaces, SameMonths}
+use Rattle.demands.specs.Longer.{SameMonths}
 use Rattle.demands.proofs.Took.{took, months-next, good-kept, records-next}
 use Rattle.demands.proofs.Sequence.{months-all, station-all, long-all, values-stay}
 use Rattle.demands.proofs.Shown.{settled-stays-settled, open-are-last}

@@ -1,10 +1,9 @@
 -- Which number a repair gives, and exactly when; and that a refused one leaves all as it was. Assumes nothing.
 use mathlib.Core.Path.{_≡_, refl, sym, _∙_, subst}
-use mathlib.Core.Bool.{Bool, true, false, cond, _&&_}
+use mathlib.Core.Bool.{true, false, cond}
 use mathlib.Core.Logic.{_↔_, ⊎-elim}
 use mathlib.Core.List.{List}
 use Prim.Native.Nat.{ℕ, zero, suc, _≤_, _<_}
-use native.Mathlib.Omega.{arith}
 use borrow.Author.Tests.{eqb-true, eqb-false, eq-eqb, ne-eqb, ltb-true, ltb-false, lt-ltb, le-ltb}
 use lib.Dec.{eqb, ltb}
 use lib.IntN.{ℤ}
@@ -21,7 +20,7 @@ use Rattle.refusals.specs.Refusals.{isRunOf}
 use Rattle.refusals.specs.Good.{Good}
 use Rattle.kept_rows.specs.KeptRows.{rowsFit}
 use Rattle.reworking.specs.Reworked.{Left, hadWater, reworkedFrom}
-use Rattle.repair.specs.Repair.{RepairResult, repairRefusal, repaired, notRepaired, repairOutcomes, repair}
+use Rattle.repair.specs.Repair.{repairRefusal, repaired, notRepaired, repairOutcomes, repair}
 use Rattle.demands.specs.Given.{MonthGives}
 use Rattle.demands.specs.Repairs.{Repairable, Watery, RepairGives, repair-0, repair-1, repair-1-report, repair-7, repair-7-row, repair-11, repair-17, repair-8, repair-9}
 use Rattle.demands.proofs.Given.{zero-or, exactly, by-run, month-gives, month-given, month-which}

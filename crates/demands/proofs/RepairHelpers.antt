@@ -1,6 +1,6 @@
 -- What each helper of the statement of a repaired month rules out, as Helpers.antt has it of the other statements: `corrected`, `KeptWhole`, `Stand` and `blank`. Assumes
 -- nothing.
-use mathlib.Core.Path.{_≡_, refl, sym, ap}
+use mathlib.Core.Path.{_≡_, refl, sym}
 use mathlib.Core.List.{List, [], _∷_, _++_}
 use Prim.Native.Nat.{ℕ}
 use native.Mathlib.Omega.{arith}
@@ -15,7 +15,7 @@ use Rattle.records.specs.Record.{noRecord}
 use Rattle.records.specs.declared.Record.{Record}
 use Rattle.refusals.specs.Book.{book}
 use Rattle.demands.specs.Months.{Ask, water, asked, State, standing}
-use Rattle.demands.specs.Repairs.{Call, adds, repairs, repairIn, corrected, KeptWhole, Stand, blank}
+use Rattle.demands.specs.Repairs.{adds, repairs, repairIn, corrected, KeptWhole, Stand, blank}
 use Rattle.demands.proofs.Helpers.{apart}
 
 -- ---- `corrected`: a repair that is done puts its readings in place of the month's, and one that is refused changes none; so of an add

@@ -1,14 +1,13 @@
 -- Months reworked from their records are the months added again: where each record holds what its ask gave (`Holds`), `reworked` leaves what adding the asks leaves
 -- (`reworked-is`); columns that hold the same months leave the same run and months (`copied-all`), and all else of them stays, so that they are the same
 -- (`books-same`). Assumes nothing.
-use mathlib.Core.Path.{_≡_, refl, sym, ap, ap₂, _∙_, subst, subst₂}
+use mathlib.Core.Path.{_≡_, refl, sym, ap, ap₂, _∙_, subst}
 use mathlib.Core.Logic.{⊎-elim}
 use mathlib.Core.List.{List, [], _∷_}
-use Prim.Native.Nat.{ℕ, zero, suc, _+_, _≤_, _<_}
+use Prim.Native.Nat.{ℕ, suc, _+_, _≤_}
 use native.Mathlib.Omega.{arith}
 use lib.IntN.{ℤ, pos}
-use lib.Dec.{eqb}
-use lib.ListN.{length, getD, set, take}
+use lib.ListN.{length, getD, take}
 use lib.Seq.{getD-set-same, getD-set-other, ext-getD}
 use Rattle.door.specs.Readings.{reading, month}
 use Rattle.runs.specs.declared.Run.{Run}
@@ -20,12 +19,12 @@ use Rattle.refusals.specs.Good.{Good}
 use Rattle.refusals.proofs.Refused.{columns-are}
 use Rattle.adding.specs.Taken.{Result, taken, takenWater}
 use Rattle.adding.specs.declared.Added.{Added}
-use Rattle.reworking.specs.Reworked.{Left, left, again, reworked}
+use Rattle.reworking.specs.Reworked.{left, again, reworked}
 use Rattle.demands.specs.Months.{Ask, water, inches, anomaly, asked, State, standing, after, afterAll, Accepted, Station, stationOf, zFor, soilFor, waterFor, recordFor}
 use Rattle.demands.specs.Given.{ItselfGives, AddGives, add-0}
 use Rattle.demands.specs.Seasons.{SameFrom}
 use Rattle.demands.specs.Longer.{firstPlaces, SameMonths}
-use Rattle.demands.proofs.Took.{Took, took, good-kept, months-next, records-next}
+use Rattle.demands.proofs.Took.{took, good-kept, months-next, records-next}
 use Rattle.demands.proofs.Sequence.{values-stay, long-after}
 use Rattle.demands.proofs.Given.{add-given, add-gives}
 use Rattle.demands.proofs.Longer.{same-at, copied-adds}

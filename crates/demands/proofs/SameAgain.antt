@@ -1,11 +1,11 @@
 -- A repair with the readings that stand there reports nothing and changes nothing, from a start: what a record holds of an ask is all that its month hangs on.
 -- Assumes nothing.
-use mathlib.Core.Path.{_≡_, refl, sym, ap, ap₂, _∙_, subst, subst₂}
+use mathlib.Core.Path.{_≡_, sym, ap, ap₂, _∙_, subst, subst₂}
 use mathlib.Core.List.{List, [], _∷_, _++_}
 use Prim.Native.Nat.{ℕ, suc, _-_, _<_}
 use native.Mathlib.Omega.{arith}
 use lib.IntN.{ℤ}
-use lib.ListN.{length, getD, take, drop, replicate}
+use lib.ListN.{length, getD, take, drop}
 use lib.Seq.{split-at, length-take-le}
 use Rattle.door.specs.declared.Reading.{Reading}
 use Rattle.runs.specs.declared.Run.{Run}
@@ -14,11 +14,11 @@ use Rattle.records.specs.declared.Record.{Record}
 use Rattle.records.proofs.Meeting.{amounts-to}
 use Rattle.refusals.specs.Book.{Book}
 use Rattle.adding.specs.Taken.{Result}
-use Rattle.report.specs.Report.{changes, noChange, reported}
+use Rattle.report.specs.Report.{changes, reported}
 use Rattle.report.proofs.Changes.{changes-none}
-use Rattle.reworking.specs.Reworked.{Left, left, hadWater}
-use Rattle.repair.specs.Repair.{RepairResult, repairResult, repaired}
-use Rattle.demands.specs.Months.{Ask, water, State, standing, after, afterAll, Accepted, stationOf, recordFor}
+use Rattle.reworking.specs.Reworked.{left}
+use Rattle.repair.specs.Repair.{repairResult, repaired}
+use Rattle.demands.specs.Months.{Ask, water, State, standing, after, afterAll, Accepted, stationOf}
 use Rattle.demands.specs.Demands.{Fresh, first, now}
 use Rattle.demands.specs.Repairs.{Stand, blank, repairedTo, repairIn}
 use Rattle.demands.proofs.Took.{took}

@@ -5,11 +5,11 @@
 -- "since the last repair" from then on." The call's definition is `repair` of the crate `repair`. `repairs` of proofs/Repaired.antt proves it. Assumes nothing.
 use mathlib.Core.Path.{_≡_}
 use mathlib.Core.Bool.{true, false}
-use mathlib.Core.Logic.{_↔_, _⊎_}
+use mathlib.Core.Logic.{_↔_}
 use mathlib.Core.List.{List, [], _∷_, _++_}
-use Prim.Native.Nat.{ℕ, suc, _-_, _≤_, _<_}
+use Prim.Native.Nat.{ℕ, _-_, _≤_, _<_}
 use lib.IntN.{ℤ, pos}
-use lib.ListN.{length, getD, take, set, replicate}
+use lib.ListN.{length, take, set, replicate}
 use Rattle.outline.specs.Refusals.{badLists, notARun, noSuchRow, waterless, missing, notAcceptable, unlessRefused}
 use Rattle.door.specs.Readings.{reading}
 use Rattle.door.specs.declared.Reading.{Reading}

@@ -28,10 +28,10 @@ held-next index mark report i h f g p = rw (add-one, take-suc-set, p, toZ-ofZ f,
 pub cleared-first : (report : List (List ℤ)) (from : ℕ) → take from report ≡ take from report ++ replicate (from - from) noChange
 cleared-first report from = let e : from - from ≡ 0 = omega arith in rw (e, append-nil)
 
-pub cleared-next : (report₀ report : List (List ℤ)) (from i : ℕ) → from ≤ i → i < length report
-    → take i report ≡ take from report₀ ++ replicate (i - from) noChange
-    → take (i + 1) (set report i noChange) ≡ take from report₀ ++ replicate (i + 1 - from) noChange
-cleared-next report₀ report from i l h p =
+pub cleared-next : (l report : List (List ℤ)) (from i : ℕ) → from ≤ i → i < length report
+    → take i report ≡ l ++ replicate (i - from) noChange
+    → take (i + 1) (set report i noChange) ≡ l ++ replicate (i + 1 - from) noChange
+cleared-next l report from i b h p =
     let e : i + 1 - from ≡ (i - from) + 1 = omega arith in
     rw (e, add-one i, take-suc-set, p, append-assoc, ← replicate-append-replicate (i - from) 1 noChange)
 
@@ -39,8 +39,11 @@ cleared-next report₀ report from i l h p =
 pub all-of : (report l : List (List ℤ)) (i n : ℕ) → length report ≡ n → n ≤ i → take i report ≡ l → report ≡ l
 all-of report l i n e h p = sym (take-all i report (omega arith)) ∙ p
 
--- the changes at the beginning, and nothing after them
-pub reported-is : (report after changes : List (List ℤ)) (n k : ℕ) → length report ≡ n → k ≡ length changes → take k report ≡ changes
-    → after ≡ take k report ++ replicate (length report - k) noChange → after ≡ reported n changes
+-- the changes at the beginning, and nothing after them, up to the months and from them on
+pub reported-is : (report after changes : List (List ℤ)) (n k months : ℕ) → length report ≡ n → k ≡ length changes → k ≤ months → months ≤ n
+    → take months report ≡ changes ++ replicate (months - k) noChange
+    → after ≡ take months report ++ replicate (length report - months) noChange → after ≡ reported n changes
 unfolding reported
-reported-is report after changes n k e l p q = rw (← l, ← e, ← p) q
+reported-is report after changes n k months e l b m p q =
+    let s : n - k ≡ (months - k) + (n - months) = omega arith in
+    rw (← l, s, ← replicate-append-replicate (months - k) (n - months) noChange, ← append-assoc, ← p, ← e) q

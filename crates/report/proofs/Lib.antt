@@ -1,5 +1,5 @@
--- What the functions' proofs cite (Same, Gathering, Filling), and the crate above (Changes).
+-- What the functions' proofs cite (Same, Filling, Gathering), and the crate above (Changes).
 pub mod Same
-pub mod Gathering
 pub mod Filling
+pub mod Gathering
 pub mod Changes

@@ -42,22 +42,24 @@ pub fn tell(index: &[i32], mark: &[u8], months: usize, report: &mut [ChangeNumbe
     ensures { λ _. ⌜ now (report .exit) ≡ reported (length (now (report .entry))) (changesSince (now (report .entry)) (now (index .entry)) (now (mark .entry)) months) ⌝ }
 {
     let k = gather(index, mark, months, report);
-    clear(k, report);
+    clear(months, report);
     k
 }
 
-// The changes among the first months, at the beginning of the report, and how many there are. A change goes to no later place than
-// that which held its month, so what is still to be read stands.
+// The changes among the first months, at the beginning of the report, nothing after them up to months, and how many there are. Each
+// place is cleared as it is read, and a change goes to no later place than that which held its month, so what is still to be read
+// stands.
 fn gather(index: &[i32], mark: &[u8], months: usize, report: &mut [ChangeNumbers]) -> usize
     requires { ⌜ (length (now index) ≡ length (now report)) × (length (now mark) ≡ length (now report)) × (length (now report) ≤ mostMonths) × (months ≤ length (now report)) ⌝ }
     ensures { λ k. ⌜ k ≡ length (changesSince (now (report .entry)) (now (index .entry)) (now (mark .entry)) months) ⌝ }
-    ensures { λ k. ⌜ take k (now (report .exit)) ≡ changesSince (now (report .entry)) (now (index .entry)) (now (mark .entry)) months ⌝ }
+    ensures { λ k. ⌜ take months (now (report .exit)) ≡ changesSince (now (report .entry)) (now (index .entry)) (now (mark .entry)) months ++ replicate (months - k) noChange ⌝ }
     ensures { λ k. ⌜ k ≤ months ⌝ }
 {
     let mut k: usize = 0;
     let mut i: usize = 0;
     while i < months {
         let before = report[i];
+        report[i] = [0, 0, 0, 0, 0];
         let old = before[INDEX];
         let old_mark = before[MARK];
         let new = index[i];

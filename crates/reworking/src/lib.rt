@@ -14,7 +14,7 @@ ghost use Rattle.door.specs.Outcome.{measured};
 ghost use Rattle.door.specs.Readings.{mostReading};
 ghost use Rattle.runs.specs.Progress.{runOf};
 ghost use Rattle.records.specs.Record.{numbersOf, recordAt};
-ghost use Rattle.refusals.specs.Book.{book, long};
+ghost use Rattle.refusals.specs.Book.{book};
 ghost use Rattle.adding.specs.Taken.{result};
 ghost use Rattle.adding.specs.Progress.{addedOf};
 ghost use Rattle.reworking.specs.Reworked.{left, again, renewed, reworkedFrom};

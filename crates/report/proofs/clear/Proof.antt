@@ -35,7 +35,7 @@ loop-again : tie.Need-loop-again Inv-loop μ-loop
 loop-again c =
     let v = c .before .loop in
     let a = c .before .before .args in
-    (cleared-next (now (a .report)) (v .report) (a .from) (v .i) (omega arith) (omega arith) (v .inv .0), simp length-set (v .inv .1), omega arith, omega arith)
+    (cleared-next (take (a .from) (now (a .report))) (v .report) (a .from) (v .i) (omega arith) (omega arith) (v .inv .0), simp length-set (v .inv .1), omega arith, omega arith)
 
 same-length : tie.Need-same-length Inv-loop μ-loop
 same-length c = c .before .loop .inv .1

@@ -1,10 +1,10 @@
--- `report::gather` meets its contract. The loop's invariant is `Going`: the changes of the first i months stand at the beginning, and from i on all is as it was. Assumes nothing.
+-- `report::gather` meets its contract. The loop's invariant is `Going`: the changes of the first i months stand at the beginning, up to i there is nothing, and from i on all is as it was. Assumes nothing.
 use mathlib.Core.Path.{_≡_}
 use mathlib.Core.Logic.{⊎-elim}
 use Prim.Native.Nat.{_-_}
 use native.Mathlib.Omega.{arith}
 use lib.IntN.{pos}
-use lib.ListN.{getD}
+use lib.ListN.{getD, length-set}
 use denote.Ref.{now}
 use Rattle.report.proofs.Gathering.{Going, Read, at-first, oldAt, oldMarkAt, changed, unchanged}
 use Rattle.report.proofs.gather.Statement.{statement}
@@ -25,6 +25,12 @@ mul-before c = omega arith
 slice-copy-out-before : tie.Need-slice-copy-out-before Inv-loop μ-loop
 slice-copy-out-before c = omega arith
 
+mul-t13 : tie.Need-mul-t13 Inv-loop μ-loop
+mul-t13 c = omega arith
+
+slice-set-from-report : tie.Need-slice-set-from-report Inv-loop μ-loop
+slice-set-from-report c = omega arith
+
 array-copy-out-old : tie.Need-array-copy-out-old Inv-loop μ-loop
 array-copy-out-old c = omega arith
 
@@ -43,14 +49,14 @@ shared-slice-read-new-mark c = omega arith
 cast-new-mark : tie.Need-cast-new-mark Inv-loop μ-loop
 cast-new-mark c = omega (arith, c .shared-slice-known .given (c .before .before .before .before .before .before .loop .i))
 
-cast-t26 : tie.Need-cast-t26 Inv-loop μ-loop
-cast-t26 c = omega arith
+cast-t27 : tie.Need-cast-t27 Inv-loop μ-loop
+cast-t27 c = omega arith
 
-mul-t28 : tie.Need-mul-t28 Inv-loop μ-loop
-mul-t28 c = omega arith
+mul-t29 : tie.Need-mul-t29 Inv-loop μ-loop
+mul-t29 c = omega arith
 
-slice-set-from-report : tie.Need-slice-set-from-report Inv-loop μ-loop
-slice-set-from-report c = omega arith
+slice-set-from-report-2 : tie.Need-slice-set-from-report-2 Inv-loop μ-loop
+slice-set-from-report-2 c = simp length-set (omega arith)
 
 add-k : tie.Need-add-k Inv-loop μ-loop
 add-k c = omega arith
@@ -98,15 +104,17 @@ gather-spec =
     loop-holds
     mul-before
     slice-copy-out-before
+    mul-t13
+    slice-set-from-report
     array-copy-out-old
     array-copy-out-old-mark
     mul-new
     shared-slice-copy-out-new
     shared-slice-read-new-mark
     cast-new-mark
-    cast-t26
-    mul-t28
-    slice-set-from-report
+    cast-t27
+    mul-t29
+    slice-set-from-report-2
     add-k
     add-i
     loop-less
