@@ -1,15 +1,13 @@
 -- A repair's answer, from what the functions that it calls answer: a refused one hands back what it was given; one that is done leaves what the months are
 -- reworked to, and the report of the months that changed since it held what was before. Assumes nothing.
-use mathlib.Core.Path.{_≡_, refl, sym, ap, _∙_}
+use mathlib.Core.Path.{_≡_, sym, ap, _∙_}
 use mathlib.Core.List.{List}
 use Prim.Native.Nat.{ℕ, _≤_}
 use lib.IntN.{ℤ}
 use lib.ListN.{length}
+use Rattle.outline.specs.Refusals.{unlessRefused}
 use Rattle.outline.proofs.Refusals.{is-done, is-refused}
-use Rattle.door.specs.Outcome.{Outcome, toldAs}
-use Rattle.door.specs.declared.Told.{Told}
-use Rattle.runs.specs.Progress.{progressOf, runOf}
-use Rattle.runs.specs.declared.Progress.{Progress}
+use Rattle.door.specs.Outcome.{Outcome}
 use Rattle.runs.specs.declared.Run.{Run}
 use Rattle.refusals.specs.Book.{Book}
 use Rattle.refusals.specs.Lent.{readingRefusal}
@@ -27,26 +25,23 @@ module _ (r : Run) (i : ℕ) (p pe : Outcome) (cs : Book) (report : List (List �
   abbrev worked : Left
   worked = reworkedFrom r i (p .water) (pe .water) (p .kind) cs
 
-  -- of the run taken apart and the two readings told in numbers
-  module _ (at : Progress) (d : at ≡ progressOf r) (a b : Told) (e : toldAs a ≡ p) (f : toldAs b ≡ pe) where
-    pub asked-is : (n k : ℕ) → n ≡ readingRefusal (a .number) (b .number) → k ≡ repairRefusal (runOf at (r .constants)) i n 0 cs (length report) → k ≡ asked
-    asked-is n k g h =
-        h ∙ rw (d, g, ap (λ (o : Outcome). o .number) e, ap (λ (o : Outcome). o .number) f) (joined r i cs (length report) (p .number) (pe .number))
-
-    pub worked-is : (t : Left) → t ≡ reworkedFrom (runOf at (r .constants)) i (a .water) (b .water) (a .kind) cs → t ≡ worked
-    worked-is t h = h ∙ rw (d, ap (λ (o : Outcome). o .water) e, ap (λ (o : Outcome). o .water) f, ap (λ (o : Outcome). o .kind) e) refl
+  -- the two readings' numbers may be joined to one, and PE's number and kind then be 0
+  pub both-joined : repairOutcomes r i (record { number = readingRefusal (p .number) (pe .number); water = p .water; kind = p .kind }) (record { number = 0; water = pe .water; kind = 0 }) cs report ≡ repairOutcomes r i p pe cs report
+  unfolding repairOutcomes
+  both-joined =
+      ap (λ (k : ℕ). unlessRefused k (repaired (r .months) cs report worked) (notRepaired k r cs report)) (joined r i cs (length report) (p .number) (pe .number))
 
   pub refuses : (k : ℕ) → k ≡ asked → (k ≡ 0 → ⊥) → notRepaired k r cs report ≡ repairOutcomes r i p pe cs report
   unfolding repairOutcomes
   refuses k e h = ap (λ (n : ℕ). notRepaired n r cs report) e ∙ sym (is-refused asked _ _ (λ z. h (e ∙ z)))
 
   -- a report that held what was before
-  module _ (hold : List (List ℤ)) (e : hold ≡ held (cs .index) (cs .mark) (length report)) (m : ℕ) (d : m ≡ r .months) (l : r .months ≤ length report) where
+  module _ (hold : List (List ℤ)) (e : hold ≡ held (cs .index) (cs .mark) (length report)) (l : r .months ≤ length report) where
     abbrev since : Left → List (List ℤ)
-    since t = changesSince hold (t .columns .index) (t .columns .mark) m
+    since t = changesSince hold (t .columns .index) (t .columns .mark) (r .months)
 
     since-is : (t : Left) → since t ≡ changed (r .months) cs t
-    since-is t = rw (e, d) (changes-held (cs .index) (t .columns .index) (cs .mark) (t .columns .mark) (length report) (r .months) l)
+    since-is t = rw e (changes-held (cs .index) (t .columns .index) (cs .mark) (t .columns .mark) (length report) (r .months) l)
 
     pub since-most : (t : Left) → length (since t) ≤ r .months
     since-most t = rw (since-is t) (changes-most (cs .index) (t .columns .index) (cs .mark) (t .columns .mark) (r .months))

@@ -15,9 +15,13 @@ use report::ChangeNumbers;
 use runs::Progress;
 use runs::Run;
 ghost use mathlib.Core.Path.{_≡_};
+ghost use Prim.Native.Nat.{_≤_};
+ghost use Rattle.door.specs.Outcome.{measured};
+ghost use Rattle.door.specs.Readings.{mostReading};
 ghost use Rattle.runs.specs.Progress.{runOf};
 ghost use Rattle.refusals.specs.Book.{book};
-ghost use Rattle.repair.specs.Repair.{repairResult, repairRefusal, repair};
+ghost use Rattle.repair.specs.Repair.{repairResult, repairRefusal, repairOutcomes, repair};
+ghost use Rattle.repair.specs.Tried.{repairedOf};
 
 // What a record's `water` says of a month that had water.
 const HAD_WATER: i32 = 1;
@@ -28,6 +32,13 @@ pub struct Repaired {
     pub number: u8,
     pub changed: u32,
     pub run: Run,
+}
+
+// What a repair answers, without the run's constants.
+struct Tried {
+    number: u8,
+    changed: u32,
+    progress: Progress,
 }
 
 // Repairs the month at a row, from 0 on, with two readings: 1, 7, 11, 17, 8 or 9.
@@ -51,28 +62,11 @@ pub fn repair(
     let b = door::tell(door::read(pe));
     let at = runs::progress_of(run);
     let constants = run.constants;
-    let number = repair_refusal(
+    let t = try_repair(
         at,
         &constants,
         i,
         refusals::reading_refusal(a.number, b.number),
-        x1,
-        x2,
-        x3,
-        index,
-        mark,
-        records,
-        v,
-        report.len(),
-    );
-    if number != 0 {
-        return not_repaired(number, run);
-    }
-    report::hold(index, mark, report);
-    let s = reworking::rework(
-        at,
-        &constants,
-        i as u32,
         a.water,
         b.water,
         a.kind,
@@ -83,31 +77,86 @@ pub fn repair(
         mark,
         records,
         v,
+        report,
     );
-    let k = report::tell(index, mark, at.months as usize, report);
-    done(k as u32, s, constants)
-}
-
-// A repair that is done: so many months are reported, and the run is put together again.
-fn done(changed: u32, s: Progress, constants: [i32; MANY_CONSTANTS]) -> Repaired
-    ensures { λ a. ⌜ a ≡ record { number = 0; changed = changed; run = runOf s constants } ⌝ }
-{
-    let run = runs::run_of(s, constants);
+    let next = runs::run_of(t.progress, constants);
     Repaired {
-        number: 0,
-        changed,
-        run,
+        number: t.number,
+        changed: t.changed,
+        run: next,
     }
 }
 
-// A repair that is refused: its number, and the run that was given.
-fn not_repaired(number: u8, run: Run) -> Repaired
-    ensures { λ a. ⌜ a ≡ record { number = number; changed = 0; run = run } ⌝ }
+// A repair by the number, the thousandths and the kind that its two readings come to, done or refused.
+fn try_repair(
+    at: Progress,
+    constants: &[i32; MANY_CONSTANTS],
+    i: usize,
+    reading: u8,
+    p: u32,
+    pe: u32,
+    kind: u8,
+    x1: &mut [i32],
+    x2: &mut [i32],
+    x3: &mut [i32],
+    index: &mut [i32],
+    mark: &mut [u8],
+    records: &mut [RecordNumbers],
+    v: &mut [i64],
+    report: &mut [ChangeNumbers],
+) -> Tried
+    requires { ⌜ (p ≤ mostReading) × (pe ≤ mostReading) × (kind ≤ measured) ⌝ }
+    ensures { λ t. ⌜ repairResult (repairedOf t (now (constants .entry))) (book (now (x1 .exit)) (now (x2 .exit)) (now (x3 .exit)) (now (index .exit)) (now (mark .exit)) (now (records .exit)) (now (v .exit))) (now (report .exit)) ≡ repairOutcomes (runOf at (now (constants .entry))) i (record { number = reading; water = p; kind = kind }) (record { number = 0; water = pe; kind = 0 }) (book (now (x1 .entry)) (now (x2 .entry)) (now (x3 .entry)) (now (index .entry)) (now (mark .entry)) (now (records .entry)) (now (v .entry))) (now (report .entry)) ⌝ }
 {
-    Repaired {
+    let number = repair_refusal(
+        at,
+        constants,
+        i,
+        reading,
+        x1,
+        x2,
+        x3,
+        index,
+        mark,
+        records,
+        v,
+        report.len(),
+    );
+    if number != 0 {
+        return not_repaired(number, at);
+    }
+    report::hold(index, mark, report);
+    let s = reworking::rework(
+        at,
+        constants,
+        i as u32,
+        p,
+        pe,
+        kind,
+        x1,
+        x2,
+        x3,
+        index,
+        mark,
+        records,
+        v,
+    );
+    let k = report::tell(index, mark, at.months as usize, report);
+    Tried {
+        number: 0,
+        changed: k as u32,
+        progress: s,
+    }
+}
+
+// A repair that is refused: its number, and the run given.
+fn not_repaired(number: u8, at: Progress) -> Tried
+    ensures { λ t. ⌜ t ≡ record { number = number; changed = 0; progress = at } ⌝ }
+{
+    Tried {
         number,
         changed: 0,
-        run,
+        progress: at,
     }
 }
 
