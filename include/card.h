@@ -86,8 +86,8 @@
  *     card_add_water        824
  *     card_add_inches       824
  *     card_add_z            568
- *     card_add_season      1208
- *     card_repair         STACK
+ *     card_add_season      1192
+ *     card_repair           856
  *     card_row              376
  *     card_whole_series      88
  *
