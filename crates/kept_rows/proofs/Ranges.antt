@@ -27,17 +27,17 @@ use Rattle.refusals.specs.Book.{Book, valuesAt}
 use Rattle.kept_rows.specs.KeptRows.{indexFits, markFits, amountFits, waterFits, storagesFit, recordFits, rowFits, rowsFit}
 
 -- ---- chains of three, four and six tests
-three : (a b c : Bool) → (a && b && c) ≡ true → (a ≡ true) × (b ≡ true) × (c ≡ true)
+pub three : (a b c : Bool) → (a && b && c) ≡ true → (a ≡ true) × (b ≡ true) × (c ≡ true)
 three a b c h =
     let p = first (a && b) c h in
     (first a b p, second a b p, second (a && b) c h)
 
-four : (a b c d : Bool) → (a && b && c && d) ≡ true → (a ≡ true) × (b ≡ true) × (c ≡ true) × (d ≡ true)
+pub four : (a b c d : Bool) → (a && b && c && d) ≡ true → (a ≡ true) × (b ≡ true) × (c ≡ true) × (d ≡ true)
 four a b c d h =
     let p = three a b c (first (a && b && c) d h) in
     (p .0, p .1, p .2, second (a && b && c) d h)
 
-six : (a b c d e f : Bool) → (a && b && c && d && e && f) ≡ true → (a ≡ true) × (b ≡ true) × (c ≡ true) × (d ≡ true) × (e ≡ true) × (f ≡ true)
+pub six : (a b c d e f : Bool) → (a && b && c && d && e && f) ≡ true → (a ≡ true) × (b ≡ true) × (c ≡ true) × (d ≡ true) × (e ≡ true) × (f ≡ true)
 six a b c d e f h =
     let x = a && b && c && d in
     let o = first (x && e) f h in
@@ -173,7 +173,7 @@ module _ (capacity : ℕ) (cs : Book) where
   rows-none = refl
 
   -- the next one
-  rows-last : (k : ℕ) → rowsFit capacity cs (suc k) ≡ (rowsFit capacity cs k && rowFits capacity cs k)
+  pub rows-last : (k : ℕ) → rowsFit capacity cs (suc k) ≡ (rowsFit capacity cs k && rowFits capacity cs k)
   unfolding rowsFit
   rows-last k = refl
 

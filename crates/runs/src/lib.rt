@@ -85,8 +85,7 @@ fn size_fits(x: i32) -> bool
     ranges::within(x as i64, MOST_X)
 }
 
-// The sizes of X1, X2 and X3. With the next two, for `kept_rows` too.
-pub fn sizes_fit(v: Running) -> bool
+fn sizes_fit(v: Running) -> bool
     ensures { λ r. ⌜ r ≡ sizesFit v ⌝ }
 {
     if !size_fits(v.x1) {
@@ -98,7 +97,7 @@ pub fn sizes_fit(v: Running) -> bool
     size_fits(v.x3)
 }
 
-pub fn signs_fit(v: Running) -> bool
+fn signs_fit(v: Running) -> bool
     ensures { λ r. ⌜ r ≡ signsFit v ⌝ }
 {
     if v.x1 < 0 {
@@ -116,7 +115,7 @@ pub fn signs_fit(v: Running) -> bool
     true
 }
 
-pub fn v_fits(months: u32, v: Running) -> bool
+fn v_fits(months: u32, v: Running) -> bool
     ensures { λ r. ⌜ r ≡ vFits months v ⌝ }
 {
     let most = MOST_U * (months as i64);

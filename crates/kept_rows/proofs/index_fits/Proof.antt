@@ -1,23 +1,26 @@
--- `kept_rows::index_fits` meets its contract: the machine's number is the argument. Assumes nothing.
-use mir.Facts.{toZ-ofZ}
+-- `kept_rows::index_fits` meets its contract: between its ends is in its size. Assumes nothing.
+use mathlib.Core.Path.{_≡_, _∙_}
+use mathlib.Core.Bool.{not, _&&_, Bool·not-not}
 use borrow.Author.Needs.{needs}
-use Rattle.exact.proofs.Held.{held, wide}
+use lib.IntN.{pos}
+use lib.Signed.{leZ}
+use mir.Facts.{toZ-ofZ}
+use Rattle.outline.specs.Numbers.{mostX}
 use Rattle.kept_rows.specs.KeptRows.{indexFits}
+use Rattle.kept_rows.proofs.ByColumns.{leastX, by-size}
 use Rattle.kept_rows.proofs.index_fits.Statement.{statement}
 use Rattle.kept_rows.proofs.index_fits.Tie as tie
 
-cast-within : tie.Need-cast-within
-cast-within c = search held
-
-within-requires : tie.Need-within-requires
-within-requires c κs = search needs
+beyond-requires : tie.Need-beyond-requires
+beyond-requires c κs = search needs
 
 returns : tie.Need-returns
 unfolding indexFits
 returns c =
+    let x = c .before .args .x in
     let f = c .before .fits .x in
-    let g = wide f in
-    simp toZ-ofZ at (c .within .ensures)
+    let e : c .beyond .result ≡ not (leZ leastX x && leZ x (pos mostX)) = simp toZ-ofZ at (c .beyond .ensures) in
+    rw e (Bool·not-not (leZ leastX x && leZ x (pos mostX)) ∙ by-size x)
 
 pub index-fits-spec : {M : Type 1} → statement M
-index-fits-spec = tie.close (tie.spec cast-within within-requires returns)
+index-fits-spec = tie.close (tie.spec beyond-requires returns)

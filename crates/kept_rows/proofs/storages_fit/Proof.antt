@@ -5,8 +5,8 @@ use mathlib.Core.Bool.{not}
 use Prim.Native.Nat.{ℕ, _≤_}
 use native.Mathlib.Omega.{arith}
 use lib.IntN.{pos}
-use mir.Syntax.{w32}
-use mir.Val.{SFits}
+use mir.Syntax.{w16, w32}
+use mir.Val.{Fits, SFits}
 use mir.Facts.{toZ-ofZ}
 use borrow.Author.Needs.{needs}
 use Rattle.water.specs.Layers.{mostCapacity, surfaceHolds, underlyingHolds}
@@ -21,6 +21,9 @@ surface-fits capacity h = omega (arith, layers-sum capacity)
 
 underlying-fits : (capacity : ℕ) → capacity ≤ mostCapacity → SFits w32 (pos (underlyingHolds capacity))
 underlying-fits capacity h = omega (arith, layers-sum capacity)
+
+underlying-small : (capacity : ℕ) → capacity ≤ mostCapacity → Fits w16 (underlyingHolds capacity)
+underlying-small capacity h = omega (arith, layers-sum capacity)
 
 -- from each call back to the entry
 abbrev at-1 : tie.After-beyond → tie.Start
@@ -78,7 +81,10 @@ underlying-holds-requires : tie.Need-underlying-holds-requires
 underlying-holds-requires c κs = search needs
 
 cast-underlying : tie.Need-cast-underlying
-cast-underlying c = rw (c .underlying-holds .ensures) (underlying-fits (c .before .before .args .capacity) (c .before .before .pre))
+cast-underlying c = rw (c .underlying-holds .ensures) (underlying-small (c .before .before .args .capacity) (c .before .before .pre))
+
+cast-underlying-2 : tie.Need-cast-underlying-2
+cast-underlying-2 c = rw (c .underlying-holds .ensures) (underlying-fits (c .before .before .args .capacity) (c .before .before .pre))
 
 beyond-requires : tie.Need-beyond-requires
 beyond-requires c κs = search needs
@@ -114,6 +120,7 @@ storages-fit-spec =
     cast-surface
     underlying-holds-requires
     cast-underlying
+    cast-underlying-2
     beyond-requires
     beyond-requires-2
     beyond-requires-3
