@@ -38,6 +38,7 @@ GROWN = (2400, 12000)
 # of the shorter series, and less stack than this.
 MOST = Fraction(1)
 MOST_OF = dict.fromkeys(('season-6', 'start', 'division'), Fraction(102, 100))
+MOST_OF.update(dict.fromkeys(('repair-2400', 'repair-12000'), Fraction(101, 100)))
 MOST_GROWTH = Fraction(52, 10)
 STACK_UNDER = {'add water': 1000, 'repair': 1000, 'whole series': 1000}
 

@@ -87,7 +87,7 @@
  *     card_add_inches       824
  *     card_add_z            568
  *     card_add_season      1192
- *     card_repair           856
+ *     card_repair           840
  *     card_row              376
  *     card_whole_series      88
  *

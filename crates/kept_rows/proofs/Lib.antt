@@ -1,3 +1,3 @@
--- What the tests of the rows say: each row's, as facts, and all of them (Ranges); and that they may be asked by columns (ByColumns).
+-- What is proved of the tests of the rows: as facts (Ranges), and list by list (Lists).
 pub mod Ranges
-pub mod ByColumns
+pub mod Lists

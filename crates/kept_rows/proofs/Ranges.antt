@@ -65,6 +65,14 @@ pub none-of-six : (a b c d e f : Bool) → not (not a || not b || not c || not d
 none-of-six true b c d e f = none-of-five b c d e f
 none-of-six false b c d e f = refl
 
+none-of-seven : (a b c d e f g : Bool) → not (not a || not b || not c || not d || not e || not f || not g) ≡ (a && b && c && d && e && f && g)
+none-of-seven true b c d e f g = none-of-six b c d e f g
+none-of-seven false b c d e f g = refl
+
+pub none-of-eight : (a b c d e f g h : Bool) → not (not a || not b || not c || not d || not e || not f || not g || not h) ≡ (a && b && c && d && e && f && g && h)
+none-of-eight true b c d e f g h = none-of-seven b c d e f g h
+none-of-eight false b c d e f g h = refl
+
 -- `a <= b || c < d`: the second, where the first does not hold
 or-else : (a b c d : ℤ) → (leZ a b || ltZ c d) ≡ true → b <ℤ a → c <ℤ d
 or-else a b c d h g = lt-yes c d (rw (le-not a b g) at h)
@@ -173,7 +181,7 @@ module _ (capacity : ℕ) (cs : Book) where
   rows-none = refl
 
   -- the next one
-  pub rows-last : (k : ℕ) → rowsFit capacity cs (suc k) ≡ (rowsFit capacity cs k && rowFits capacity cs k)
+  rows-last : (k : ℕ) → rowsFit capacity cs (suc k) ≡ (rowsFit capacity cs k && rowFits capacity cs k)
   unfolding rowsFit
   rows-last k = refl
 
