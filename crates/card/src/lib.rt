@@ -142,9 +142,22 @@ pub extern "C" fn card_repair(
 ) -> Repaired
     ensures { λ a. ⌜ repairResult a (book (now (x1 .exit)) (now (x2 .exit)) (now (x3 .exit)) (now (index .exit)) (now (mark .exit)) (now (records .exit)) (now (v .exit))) (now (report .exit)) ≡ repair run i (readingOfC p) (readingOfC pe) (book (now (x1 .entry)) (now (x2 .entry)) (now (x3 .entry)) (now (index .entry)) (now (mark .entry)) (now (records .entry)) (now (v .entry))) (now (report .entry)) ⌝ }
 {
-    let a = kinds::reading_of(p);
-    let b = kinds::reading_of(pe);
-    repair::repair(run, i, a, b, x1, x2, x3, index, mark, records, v, report)
+    let rain = kinds::reading_of(p);
+    let demand = kinds::reading_of(pe);
+    repair::repair(
+        run,
+        i,
+        rain,
+        demand,
+        x1,
+        x2,
+        x3,
+        index,
+        mark,
+        records,
+        v,
+        report,
+    )
 }
 
 // Shows a month's row, from 0 on: 1, 7, 11.

@@ -3,8 +3,8 @@
 -- `demand-1`, `demand-2` and `demand-3` of proofs/Demands.antt prove them. Months that are added one by one (`Ask`, `asked`, `afterAll`,
 -- `Accepted`) and what the rules make of them (`Station`, `figuresOfMonths`, `rowsOfMonths`) are in Months.antt beside this file; when a call
 -- gives a number (`AddGives` and the others) in Given.antt, and number by number (`Table`) in Table.antt; `forward`, the rule that looks
--- forward from a month, in the crate `hindsight`, specs/Rule.antt. Document 02 has its own words of a season, in Seasons.antt, and of
--- the months' records, in Recorded.antt. Assumes nothing.
+-- forward from a month, in the crate `hindsight`, specs/Rule.antt. Document 02 has its own words of a season, in Seasons.antt, of
+-- the months' records, in Recorded.antt, and of a repair, since which demand 3's last sentence then holds, in Repairs.antt. Assumes nothing.
 use mathlib.Core.Path.{_≡_}
 use mathlib.Core.Bool.{true, cond}
 use mathlib.Core.Logic.{_↔_, _⊎_}
