@@ -13,6 +13,7 @@ mod card;
 mod reference;
 mod repaired;
 mod stack;
+mod worked;
 
 use card::{Change, Columns, MonthInches, Reading, Record, Run, MOST_MONTHS};
 use reference::{Added, Amount, Refusal, Season};
@@ -65,7 +66,7 @@ const fn with_double(library: Round, rust: Round, double: Round) -> [(&'static s
 }
 
 #[rustfmt::skip]
-const KINDS: [Kind; 20] = [
+const KINDS: [Kind; 24] = [
     ("add-water", MONTHS, MONTHS, &both(add::water_library, add::water_rust), "add water, two readings"),
     ("add-inches", MONTHS, MONTHS, &both(add::inches_library, add::inches_rust), "add water, two binary32 inches"),
     ("add-z", MONTHS, MONTHS, &both(add::z_library, add::z_rust), "add a Z"),
@@ -75,6 +76,10 @@ const KINDS: [Kind; 20] = [
     ("season-12000", MOST_MONTHS, MOST_MONTHS, &both(season::most_library, season::most_rust), "a month of a season of 12,000"),
     ("repair-2400", MONTHS, MONTHS, &both(repaired::library, repaired::rust), "a month of a repair of 2,400"),
     ("repair-12000", MOST_MONTHS, MOST_MONTHS, &both(repaired::library, repaired::rust), "a month of a repair of 12,000"),
+    ("work-out-2400", MONTHS, MONTHS, &both(worked::library, worked::rust), "work constants out, a month of 2,400"),
+    ("work-out-12000", MOST_MONTHS, MOST_MONTHS, &both(worked::library, worked::rust), "work constants out, a month of 12,000"),
+    ("sum-month-2400", MONTHS, MONTHS, &both(worked::month_library, worked::month_rust), "sum a calendar month, each of 2,400"),
+    ("sum-month-12000", MOST_MONTHS, MOST_MONTHS, &both(worked::month_library, worked::month_rust), "sum a calendar month, each of 12,000"),
     ("row", MONTHS, MONTHS, &both(row::library, row::rust), "show a row"),
     ("start", MONTHS, MONTHS, &both(start::library, start::rust), "start a run"),
     ("series-240", FEW_MONTHS, 1, &both(series::library, series::rust), "whole series, 240 ordinary months"),
@@ -91,6 +96,9 @@ const KINDS: [Kind; 20] = [
 /// Kinds that add the same months.
 const SAME_MONTHS: [&str; 4] = ["add-water", "add-inches", "season-6", "season-2400"];
 
+/// How the names of those kinds begin.
+const FILLED: [&str; 3] = ["repair", "work-out", "sum-month"];
+
 /// The inputs of this kind, the operations in a round, and the round of this side.
 fn find(kind: &str, side: &str) -> (Inputs, usize, Round) {
     let (_, months, operations, sides, _) = KINDS.iter().find(|found| found.0 == kind).unwrap_or_else(|| usage());
@@ -98,9 +106,9 @@ fn find(kind: &str, side: &str) -> (Inputs, usize, Round) {
     (inputs(kind, *months), *operations, *round)
 }
 
-/// The inputs of a kind whose columns have so many months. A repair finds them full.
+/// The inputs of a kind whose columns have so many months. Some find them full.
 fn inputs(kind: &str, months: usize) -> Inputs {
-    match kind.starts_with("repair") {
+    match FILLED.iter().any(|begin| kind.starts_with(begin)) {
         true => repaired::filled(Inputs::new(months)),
         false => Inputs::new(months),
     }

@@ -1,7 +1,7 @@
 //! The hand-written reference behind exactly include/card.h: the header's own names, extern "C", a run by value in and
 //! out, each list as pointer and length, the same refusals. It is linked in the library's place, so the program that
-//! calls the one or the other is the same. Its whole series is bench/series.rs and its repair bench/repair.rs: they have no
-//! list of their own, as the library's have none.
+//! calls the one or the other is the same. Its whole series is bench/series.rs, its repair bench/repair.rs, and its constants
+//! are worked out in bench/constants.rs: they have no list of their own, as the library's have none.
 //!
 //! It gets what a Rust library behind this header would have: -C opt-level=3 for plain x86-64, as the library's own
 //! compiler has it, one codegen unit, and panics that abort. A run that comes in by value is the call's own: it is
@@ -9,6 +9,7 @@
 
 #[path = "../host/card.rs"]
 mod card;
+mod constants;
 #[path = "../tests/cross/reference.rs"]
 mod reference;
 mod repair;
@@ -16,7 +17,7 @@ mod series;
 
 use card::{
     Added, Answer, Change, Columns, Figures, MonthInches, Reading, Record, Repaired, Run, Season, Shown, Soil,
-    Started, Values,
+    Started, Summed, Values, WorkedOut,
 };
 use reference::{Amount, Refusal};
 use std::slice::{from_raw_parts, from_raw_parts_mut};
@@ -122,6 +123,26 @@ pub unsafe extern "C" fn card_row(run: Run, row: usize, x1: *mut i32, n1: usize,
     match reference::row(&run, row, &k) {
         Ok(shown) => shown,
         Err(refusal) => Shown { number: refusal as u8, ..Shown::default() },
+    }
+}
+
+#[no_mangle]
+#[rustfmt::skip]
+pub unsafe extern "C" fn card_sum_month(run: Run, month: i32, x1: *mut i32, n1: usize, x2: *mut i32, n2: usize, x3: *mut i32, n3: usize, index: *mut i32, ni: usize, mark: *mut u8, nm: usize, records: *mut Record, nr: usize, v: *mut i64, nv: usize) -> Summed {
+    let k = columns!(x1 n1 x2 n2 x3 n3 index ni mark nm records nr v nv);
+    match constants::sum_month(&run, month, &k) {
+        Ok(summed) => summed,
+        Err(refusal) => Summed { number: refusal as u8, ..Summed::default() },
+    }
+}
+
+#[no_mangle]
+#[rustfmt::skip]
+pub unsafe extern "C" fn card_work_out(run: Run, weights: *const i32, nw: usize, x1: *mut i32, n1: usize, x2: *mut i32, n2: usize, x3: *mut i32, n3: usize, index: *mut i32, ni: usize, mark: *mut u8, nm: usize, records: *mut Record, nr: usize, v: *mut i64, nv: usize) -> WorkedOut {
+    let k = columns!(x1 n1 x2 n2 x3 n3 index ni mark nm records nr v nv);
+    match constants::work_out(&run, from_raw_parts(weights, nw), &k) {
+        Ok(worked) => worked,
+        Err(refusal) => WorkedOut { number: refusal as u8, constants: [0; card::CONSTANTS], departures: [0; card::WEIGHTS] },
     }
 }
 

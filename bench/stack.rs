@@ -25,6 +25,8 @@ global_asm!(
     "probe add_season",
     "probe repair",
     "probe row",
+    "probe sum_month",
+    "probe work_out",
     "probe whole_series",
 );
 
@@ -38,6 +40,8 @@ extern "C" {
     fn probe_add_season(run: Run, p: *const i32, np: usize, pe: *const i32, npe: usize, x1: *mut i32, n1: usize, x2: *mut i32, n2: usize, x3: *mut i32, n3: usize, index: *mut i32, ni: usize, mark: *mut u8, nm: usize, records: *mut card::Record, nr: usize, v: *mut i64, nv: usize) -> card::Season;
     fn probe_repair(run: Run, row: usize, p: Reading, pe: Reading, x1: *mut i32, n1: usize, x2: *mut i32, n2: usize, x3: *mut i32, n3: usize, index: *mut i32, ni: usize, mark: *mut u8, nm: usize, records: *mut card::Record, nr: usize, v: *mut i64, nv: usize, report: *mut Change, nc: usize) -> card::Repaired;
     fn probe_row(run: Run, row: usize, x1: *const i32, n1: usize, x2: *const i32, n2: usize, x3: *const i32, n3: usize, index: *const i32, ni: usize, mark: *const u8, nm: usize, records: *const card::Record, nr: usize, v: *const i64, nv: usize) -> card::Shown;
+    fn probe_sum_month(run: Run, month: i32, x1: *const i32, n1: usize, x2: *const i32, n2: usize, x3: *const i32, n3: usize, index: *const i32, ni: usize, mark: *const u8, nm: usize, records: *const card::Record, nr: usize, v: *const i64, nv: usize) -> card::Summed;
+    fn probe_work_out(run: Run, weights: *const i32, nw: usize, x1: *const i32, n1: usize, x2: *const i32, n2: usize, x3: *const i32, n3: usize, index: *const i32, ni: usize, mark: *const u8, nm: usize, records: *const card::Record, nr: usize, v: *const i64, nv: usize) -> card::WorkedOut;
     fn probe_whole_series(z: *const i32, nz: usize, index: *mut i32, ni: usize, mark: *mut u8, nm: usize) -> u8;
 }
 
@@ -65,6 +69,8 @@ enum Call {
     Season([i32; 6], [i32; 6]),
     Repair(usize, Reading, Reading),
     Row(usize),
+    SumMonth(i32),
+    WorkOut([i32; 13], usize),
 }
 
 /// How deep a call goes that takes a run; the marks are lent as `marks` long.
@@ -85,6 +91,8 @@ fn with_run(call: Call, run: &Run, lists: &mut Lists, marks: usize) -> (usize, R
             Call::Season(p, pe) => next = probe_add_season(*run, p.as_ptr(), 6, pe.as_ptr(), 6, x1, n, x2, n, x3, n, index, n, mark, marks, records, n, v, n).run,
             Call::Repair(row, p, pe) => next = probe_repair(*run, row, p, pe, x1, n, x2, n, x3, n, index, n, mark, marks, records, n, v, n, report, n).run,
             Call::Row(row) => _ = black_box(probe_row(*run, row, x1, n, x2, n, x3, n, index, n, mark, marks, records, n, v, n)),
+            Call::SumMonth(month) => _ = black_box(probe_sum_month(*run, month, x1, n, x2, n, x3, n, index, n, mark, marks, records, n, v, n)),
+            Call::WorkOut(weights, many) => _ = black_box(probe_work_out(*run, weights.as_ptr(), many, x1, n, x2, n, x3, n, index, n, mark, marks, records, n, v, n)),
         }
     });
     (depth, next)
@@ -175,6 +183,44 @@ fn deepest_repair() -> usize {
     deepest
 }
 
+fn sum_month(state: &mut u64, refused: bool) -> Call {
+    Call::SumMonth(if refused { 13 } else { random(state, 1, 12) })
+}
+
+/// Weights for which all is worked out, one of them that is out of range, or one that leaves a K of 0, and at times thirteen.
+fn work_out(state: &mut u64, refused: bool) -> Call {
+    let mut weights = [(); 13].map(|()| random(state, 8_000, 25_000));
+    weights[random(state, 0, 11) as usize] = if refused { [-1, 0][random(state, 0, 1) as usize] } else { 10_000 };
+    Call::WorkOut(weights, if refused && random(state, 0, 2) == 0 { 13 } else { 12 })
+}
+
+/// The deepest of a call that only reads, over a run that grows until the columns are full, in a climate like that of the other
+/// measurements and in one in which all runs off, and of its refusals all along. A month that no add gives comes last.
+fn deepest_of_years(call: fn(&mut u64, bool) -> Call) -> usize {
+    let (state, mut deepest) = (&mut 7, 0);
+    for capacity in [6_000, 100] {
+        let mut lists = Lists::new(300);
+        let mut run = card::start(&CONSTANTS, capacity, 100, 0, 5).run;
+        for month in 0..=300 {
+            if month == 300 {
+                lists.records[150].et += 1;
+            }
+            let not_a_run = Run { calendar: 0, ..run };
+            let (good, bad) = (call(state, false), call(state, true));
+            let tries = [
+                with_run(good, &run, &mut lists, 300).0,
+                with_run(good, &run, &mut lists, 299).0,
+                with_run(good, &not_a_run, &mut lists, 300).0,
+                with_run(bad, &run, &mut lists, 300).0,
+            ];
+            deepest = tries.into_iter().fold(deepest, usize::max);
+            let (p, pe) = month_of_water(state, month);
+            run = card::add_water(run, Reading::whole(p), Reading::whole(pe), &mut lists.lend()).run;
+        }
+    }
+    deepest
+}
+
 fn deepest_read() -> usize {
     let measures = [0.0, -0.0, 1e-40, 1e-5, 0.0625, 7.9375, 100.0, 2_540.0, 1e9, -1.0, f32::NAN, f32::INFINITY];
     let readings =
@@ -230,6 +276,8 @@ fn measure() {
         ("season", deepest_with_run(season)),
         ("repair", deepest_repair()),
         ("row", deepest_with_run(row)),
+        ("sum month", deepest_of_years(sum_month)),
+        ("work out", deepest_of_years(work_out)),
         ("whole series", deepest_whole_series()),
     ];
     for (name, deepest) in found {

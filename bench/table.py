@@ -29,9 +29,10 @@ READERS = [os.environ['DIVISION'].split(), [os.path.join(OUT, 'division-rust')]]
 PLACE = ['24', '04']
 YEARS = (2, 8)
 
-# The kinds of whole series that are told by the month, ordinary and left open, and from how many months to how many
-# they grow.
+# The kinds of whole series that are told by the month, ordinary and left open; the kinds whose operation is a month of a call
+# over all of them; and from how many months to how many both grow.
 SERIES = ('series-%d', 'series-%d-open')
+BY_MONTH = ('work-out-%d', 'sum-month-%d')
 GROWN = (2400, 12000)
 
 # What `held` asks: at most so many times the instructions of Rust behind the same interface, at most so many times those
@@ -219,10 +220,11 @@ def show_months(rows):
 
 
 def grown(rows):
-    """Each longer series, and how many times the instructions of the shorter one it takes."""
-    for kind in SERIES:
+    """Each longer series or run, and how many times the instructions of the shorter one it takes."""
+    times = Fraction(GROWN[1], GROWN[0])
+    for kind in SERIES + BY_MONTH:
         shorter, longer = (rows[kind % months] for months in GROWN)
-        yield longer.what, share(longer, shorter)
+        yield longer.what, [figure * (times if kind in BY_MONTH else 1) for figure in share(longer, shorter)]
 
 
 def share(row, other):

@@ -17,11 +17,16 @@ pub const FULL: u8 = 10;
 pub const NO_ROW: u8 = 11;
 pub const BAD_Z: u8 = 12;
 pub const WATERLESS: u8 = 17;
+pub const FEW_YEARS: u8 = 18;
+pub const BAD_GAMMA: u8 = 19;
+pub const BAD_K: u8 = 20;
 pub const ZERO_K: u8 = 21;
 
-/// What a column holds at most, how many constants a station has, and the two marks of a month.
+/// What a column holds at most, how many constants a station has, with how many weights they are worked out, and the
+/// two marks of a month.
 pub const MOST_MONTHS: usize = 12000;
 pub const CONSTANTS: usize = 60;
+pub const WEIGHTS: usize = 12;
 pub const OPEN: u8 = 1;
 pub const SETTLED: u8 = 2;
 
@@ -52,6 +57,9 @@ pub fn meaning(number: u8) -> &'static str {
         NO_ROW => "row number not below the months added",
         BAD_Z => "Z outside its range",
         WATERLESS => "no water in that month",
+        FEW_YEARS => "fewer than ten whole years, or one with a month without water",
+        BAD_GAMMA => "a gamma worked out is outside its range",
+        BAD_K => "no departures to weigh, or a K worked out is outside its range",
         ZERO_K => "a K of 0, by which a month counts for nothing",
         _ => "no number of this library",
     }
@@ -251,6 +259,37 @@ pub struct Shown {
     pub v: i64,
 }
 
+/// Sums over the years of one calendar month.
+#[repr(C)]
+#[derive(Clone, Copy, Debug, Default, PartialEq, Eq)]
+pub struct Sums {
+    pub et: u32,
+    pub pe: u32,
+    pub r: u32,
+    pub pr: u32,
+    pub ro: u32,
+    pub pro: u32,
+    pub l: u32,
+    pub pl: u32,
+}
+
+#[repr(C)]
+#[derive(Clone, Copy, Debug, Default, PartialEq, Eq)]
+pub struct Summed {
+    pub number: u8,
+    pub years: u32,
+    pub sums: Sums,
+}
+
+/// Constants as `start` takes them, and the departure of each calendar month, January first.
+#[repr(C)]
+#[derive(Clone, Copy, Debug, PartialEq, Eq)]
+pub struct WorkedOut {
+    pub number: u8,
+    pub constants: [i32; 60],
+    pub departures: [u32; 12],
+}
+
 /// The seven columns, lent for a call. They may be of any lengths; what does not fit is refused.
 pub struct Columns<'a> {
     pub x1: &'a mut [i32],
@@ -274,6 +313,8 @@ mod c {
         pub fn card_add_season(run: Run, p: *const i32, np: usize, pe: *const i32, npe: usize, x1: *mut i32, n1: usize, x2: *mut i32, n2: usize, x3: *mut i32, n3: usize, index: *mut i32, ni: usize, mark: *mut u8, nm: usize, records: *mut Record, nr: usize, v: *mut i64, nv: usize) -> Season;
         pub fn card_repair(run: Run, row: usize, p: Reading, pe: Reading, x1: *mut i32, n1: usize, x2: *mut i32, n2: usize, x3: *mut i32, n3: usize, index: *mut i32, ni: usize, mark: *mut u8, nm: usize, records: *mut Record, nr: usize, v: *mut i64, nv: usize, report: *mut Change, nc: usize) -> Repaired;
         pub fn card_row(run: Run, row: usize, x1: *const i32, n1: usize, x2: *const i32, n2: usize, x3: *const i32, n3: usize, index: *const i32, ni: usize, mark: *const u8, nm: usize, records: *const Record, nr: usize, v: *const i64, nv: usize) -> Shown;
+        pub fn card_sum_month(run: Run, month: i32, x1: *const i32, n1: usize, x2: *const i32, n2: usize, x3: *const i32, n3: usize, index: *const i32, ni: usize, mark: *const u8, nm: usize, records: *const Record, nr: usize, v: *const i64, nv: usize) -> Summed;
+        pub fn card_work_out(run: Run, weights: *const i32, nw: usize, x1: *const i32, n1: usize, x2: *const i32, n2: usize, x3: *const i32, n3: usize, index: *const i32, ni: usize, mark: *const u8, nm: usize, records: *const Record, nr: usize, v: *const i64, nv: usize) -> WorkedOut;
         pub fn card_whole_series(z: *const i32, nz: usize, index: *mut i32, ni: usize, mark: *mut u8, nm: usize) -> u8;
     }
 }
@@ -329,6 +370,22 @@ pub fn repair(run: Run, row: usize, p: Reading, pe: Reading, k: &mut Columns, re
 pub fn row(run: Run, row: usize, k: &Columns) -> Shown {
     unsafe {
         c::card_row(run, row, k.x1.as_ptr(), k.x1.len(), k.x2.as_ptr(), k.x2.len(), k.x3.as_ptr(), k.x3.len(), k.index.as_ptr(), k.index.len(), k.mark.as_ptr(), k.mark.len(), k.records.as_ptr(), k.records.len(), k.v.as_ptr(), k.v.len())
+    }
+}
+
+/// `month` is the calendar month, 1 to 12.
+#[rustfmt::skip]
+pub fn sum_month(run: Run, month: i32, k: &Columns) -> Summed {
+    unsafe {
+        c::card_sum_month(run, month, k.x1.as_ptr(), k.x1.len(), k.x2.as_ptr(), k.x2.len(), k.x3.as_ptr(), k.x3.len(), k.index.as_ptr(), k.index.len(), k.mark.as_ptr(), k.mark.len(), k.records.as_ptr(), k.records.len(), k.v.as_ptr(), k.v.len())
+    }
+}
+
+/// The weights are to be twelve. Constants that come with `DONE` are taken by `start`.
+#[rustfmt::skip]
+pub fn work_out(run: Run, weights: &[i32], k: &Columns) -> WorkedOut {
+    unsafe {
+        c::card_work_out(run, weights.as_ptr(), weights.len(), k.x1.as_ptr(), k.x1.len(), k.x2.as_ptr(), k.x2.len(), k.x3.as_ptr(), k.x3.len(), k.index.as_ptr(), k.index.len(), k.mark.as_ptr(), k.mark.len(), k.records.as_ptr(), k.records.len(), k.v.as_ptr(), k.v.len())
     }
 }
 

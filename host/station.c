@@ -3,10 +3,11 @@
  *
  *   station [MONTHS] <FILE
  *   station --repair REPAIRS <FILE
+ *   station --constants <FILE
  *
  * Without MONTHS the months are added one by one; with it, 1 to 12000, so many in a call, as by a card that was
  * offline. With --repair they are added one by one, and then the months of the file REPAIRS are repaired, one after
- * another.
+ * another. With --constants they are added one by one, and then the station's constants are worked out of them.
  *
  * The file is plain text (ASCII), at most 1048576 bytes, its lines closed by a line feed; the last line, end,
  * may also be closed by the end of the input. A line that begins with # is a comment: it may stand anywhere
@@ -26,6 +27,14 @@
  * to it, as a gauge would hand it over: 100.000001 is 100. Precipitation may also be T, as observers write a
  * trace: rain that fell, but too little to measure.
  *
+ * With --constants, and only there, the constants may be lost. In the place of their thirteen lines stand then:
+ *
+ *   weights                              this word
+ *   January 22500                        twelve lines, January to December, ten-thousandths: the first weights, of
+ *                                        which the K are made; 0 to 100000, though one of 0 comes to no K
+ *
+ * Where the file has constants, their K are the weights, and the others are not looked at.
+ *
  * A file of repairs is written by the same rules, and its lines are:
  *
  *   repairs inches                       or: repairs millimetres; the unit is the station file's
@@ -44,14 +53,18 @@
  * table of these, oldest first: index and mark before that repair, and after it. The other two are as all repairs
  * left the months.
  *
+ * With --constants stands in place of all three what the constants were made from, and they: how many whole years the
+ * file has, the first and the last; each calendar month's sums over these years, in thousandths; its D, its weight and
+ * their product, and the sum of the products; and the constants, thirteen lines as a station file has them.
+ *
  * P is T where precipitation was a trace: a T, or a number above zero that is nearer to 0 than to a thousandth of
  * an inch. It counts as 0. PE is always printed as a number. With MONTHS a trace is printed 0: the call that adds
  * many months takes whole thousandths, which cannot say it.
  *
  * Nothing is printed on standard output before the whole file was found good, the run was started, every month
- * was added and every repair was tried: a card must not show figures of half a file. What is wrong is said in one
- * line on standard error, with the line and column, after the word repairs where it is of that file, and the status
- * is
+ * was added, every repair was tried and the constants were worked out: a card must not show figures of half a file.
+ * What is wrong is said in one line on standard error, with the line and column where it has one, after the word
+ * repairs where it is of that file, and the status is
  *
  *   0  done
  *   1  a file is not as above, or the library refuses something in it
@@ -436,7 +449,9 @@ typedef struct station {
     whole capacity;
     whole surface;
     whole underlying;
-    whole constants[CARD_CONSTANTS];
+    int lost;                        /* whether the file has weights in the place of constants */
+    whole constants[CARD_CONSTANTS]; /* where they are lost any that a start takes, */
+    whole weights[CARD_WEIGHTS];     /* and where they are not their K */
     card_reading (*unit)(float);
     size_t count;
     month months[CARD_MOST_MONTHS + 1];
@@ -453,32 +468,64 @@ static whole read_storage(scanner *s, const char *name, const char *expected) {
     return number;
 }
 
-/* The name of a calendar month, the one that is to come. */
-static void calendar_name(scanner *s, int m) {
+/* The name of a calendar month, the one that is to come in a section. */
+static void calendar_name(scanner *s, int m, const char *section) {
     word w = take(s);
     no_comma(w, "");
     if (is(w, CALENDAR[m])) return;
     for (int i = 0; i < 12; i++)
         if (is(w, CALENDAR[i]))
-            refuse(w.at, "%s here, and %s was to follow; the constants stand from January to December",
-                   CALENDAR[i], CALENDAR[m]);
+            refuse(w.at, "%s here, and %s was to follow; the %s stand from January to December", CALENDAR[i],
+                   CALENDAR[m], section);
     refuse(w.at, "\"%s\" is not known here; expected: %s", said(w), s->expected);
 }
 
-/* The heading is asked word for word: a table in another order of columns must not pass for this one. */
+/* The constants, after the first word of their heading. The heading is asked word for word: a table in another order
+ * of columns must not pass for this one. */
 static void read_constants(scanner *s, station *st) {
     char expected[64];
-    open_line(s, "constants alpha beta gamma delta K", "");
-    keyword(s, "constants");
     for (int k = 0; k < 5; k++) keyword(s, CONSTANT[k]);
     close_line(s);
     for (int m = 0; m < 12; m++) {
         snprintf(expected, sizeof expected, "%s ALPHA BETA GAMMA DELTA K", CALENDAR[m]);
         open_line(s, expected, "");
-        calendar_name(s, m);
+        calendar_name(s, m, "constants");
         for (int k = 0; k < 5; k++) st->constants[5 * m + k] = take_whole(s, &TEN_THOUSANDTHS);
         close_line(s);
+        st->weights[m] = st->constants[5 * m + 4];
     }
+}
+
+/* The weights, after their heading's word. The constants that the run is started with are then 0 0 0 0 1: neither the
+ * water of a month nor what is worked out of it goes by them. */
+static void read_weights(scanner *s, station *st) {
+    char expected[64];
+    s->expected = "weights";
+    close_line(s);
+    for (int m = 0; m < 12; m++) {
+        snprintf(expected, sizeof expected, "%s WEIGHT", CALENDAR[m]);
+        open_line(s, expected, "");
+        calendar_name(s, m, "weights");
+        st->weights[m] = take_whole(s, &TEN_THOUSANDTHS);
+        close_line(s);
+        st->constants[5 * m + 4].value = 1;
+    }
+}
+
+/* The constants, or where they are to be worked out perhaps weights in their place. */
+static void read_section(scanner *s, station *st, int working_out) {
+    open_line(s, "constants alpha beta gamma delta K", working_out ? ", or weights" : "");
+    word w = take(s);
+    no_comma(w, "");
+    st->lost = is(w, "weights");
+    if (st->lost && !working_out)
+        refuse(whole_line(s), "weights and no constants; host/constants works the constants out of this file");
+    if (!st->lost && !is(w, "constants"))
+        refuse(w.at, "\"%s\" is not known here; expected: %s%s", said(w), s->expected, s->other);
+    if (st->lost)
+        read_weights(s, st);
+    else
+        read_constants(s, st);
 }
 
 /* The unit stands once and has no default: 62 mm taken for 62 inches would pass the library's ranges. */
@@ -572,11 +619,11 @@ static void close_file(scanner *s) {
 }
 
 /* The whole file, line by line, before the library sees any of it. */
-static void read_station(scanner *s, station *st) {
+static void read_station(scanner *s, station *st, int working_out) {
     st->capacity = read_storage(s, "capacity", "capacity THOUSANDTHS");
     st->surface = read_storage(s, "surface", "surface THOUSANDTHS");
     st->underlying = read_storage(s, "underlying", "underlying THOUSANDTHS");
-    read_constants(s, st);
+    read_section(s, st, working_out);
     read_unit(s, st);
     while (read_month(s, st)) continue;
     close_file(s);
@@ -869,10 +916,12 @@ static void print_water(const page *r, long first) {
 static void print_help(void) {
     print("station [MONTHS] <FILE\n"
           "station --repair REPAIRS <FILE\n"
+          "station --constants <FILE\n"
           "\n"
           "Reads a station file from standard input, adds its months to a run and prints what the card shows.\n"
           "MONTHS, 1 to %d: adds so many months in a call, as a card that was offline; else one by one.\n"
           "With --repair it then repairs the months of the file REPAIRS, one after another.\n"
+          "With --constants it works the constants out of the months. The file may then have weights in their place.\n"
           "\n"
           "Printed are three tables; water, Z, X and both indexes in thousandths:\n"
           "  month P PE CAFEC Z percent index modified settled   each month as it was added, and how many that\n"
@@ -884,6 +933,13 @@ static void print_help(void) {
           "With --repair stands in place of the first, for each repair, its month, how many months it changed, as\n"
           "repair YYYY-MM changed COUNT, and a table of these:\n"
           "  month index_before index_after mark_before mark_after\n"
+          "With --constants stands in place of all three what the constants were made from, and they; sums and D in\n"
+          "thousandths of an inch:\n"
+          "  years COUNT FIRST to LAST                           the whole years, January to December\n"
+          "  month ET PE R PR RO PRO L PL                        each calendar month's sums over these years\n"
+          "  month D weight product                              D, the mean size of P - CAFEC, and D x weight;\n"
+          "                                                      then sum SUM, of the products\n"
+          "  constants alpha beta gamma delta K                  thirteen lines, as a station file has them\n"
           "\n"
           "T for a month's precipitation, in the file and as P, is a trace: rain too little to measure, which\n"
           "counts as 0. PE is always a number. With MONTHS a trace is printed 0: such a call cannot tell it.\n"
@@ -892,7 +948,8 @@ static void print_help(void) {
           "read; 3 output that cannot be written. What is wrong is said on standard error, in one line.\n"
           "\n"
           "The format of the file stands in the head of samples/western-kansas-station.txt and in README.md, that of\n"
-          "a file of repairs in the head of samples/western-kansas-repairs.txt.\n",
+          "a file of repairs in the head of samples/western-kansas-repairs.txt, that of weights in the head of\n"
+          "samples/thirty-years-station.txt.\n",
           CARD_MOST_MONTHS);
 }
 
@@ -965,6 +1022,119 @@ static void print_reports(const station *st, const repairs *rs, card_columns col
     repair_months(st, rs, columns, add_singly(st, columns, start(st), r), 1);
 }
 
+/* ---- The constants worked out ----------------------------------------------------------------------------- */
+
+/* Each weight twelve times, of a run without months: the library asks for the weights before it asks for years. */
+static void ask_weights(const station *st, card_columns columns, card_run fresh) {
+    for (int m = 0; m < CARD_WEIGHTS; m++) {
+        int32_t same[CARD_WEIGHTS];
+        for (int i = 0; i < CARD_WEIGHTS; i++) same[i] = st->weights[m].value;
+        if (card_work_out_in(columns, fresh, same, CARD_WEIGHTS).number == CARD_CONSTANT)
+            refuse_whole(st->weights[m], "weight", CARD_CONSTANT, "0 to 100000");
+    }
+}
+
+/* The year of the first January. */
+static long first_year(const station *st) { return (st->first + 11) / 12; }
+
+/* Too few years, or a month among them that had no water. */
+static void refuse_years(const station *st, uint8_t number) {
+    long end = st->next - 1, years = st->next / 12 - first_year(st);
+    if (years < 0) years = 0;
+    stop(REFUSED,
+         "the constants are refused (%d: %s), %04ld-%02ld to %04ld-%02ld has %ld whole year%s, January to December, "
+         "and %s",
+         number, card_meaning(number), st->first / 12, st->first % 12 + 1, end / 12, end % 12 + 1, years,
+         years == 1 ? "" : "s", years < 10 ? "ten are needed" : "a month of them had no water");
+}
+
+/* The first gamma that is out of its range. */
+static void refuse_gamma(card_columns columns, card_run run, uint8_t number) {
+    for (int m = 0; m < CARD_WEIGHTS; m++) {
+        card_sums s = card_sum_month_in(columns, run, m + 1).sums;
+        uint64_t gamma = s.pro == 0 ? 0 : (20000 * (uint64_t)s.ro + s.pro) / (2 * (uint64_t)s.pro);
+        if (gamma > 50000)
+            stop(REFUSED,
+                 "the gamma of %s is refused (%d: %s), 10000 x RO %" PRIu32 " / PRO %" PRIu32 " is %" PRIu64
+                 ", and gamma is 0 to 50000; the capacity may be too small",
+                 CALENDAR[m], number, card_meaning(number), s.ro, s.pro, gamma);
+    }
+}
+
+/* A K of 0: if there is one, that of the smallest weight is. */
+static void refuse_zero_k(const station *st, uint8_t number) {
+    int m = 0;
+    for (int i = 1; i < CARD_WEIGHTS; i++)
+        if (st->weights[i].value < st->weights[m].value) m = i;
+    whole least = st->weights[m];
+    refuse(least.word.at,
+           "%s %s is refused (%d: %s), the K of %s comes to 0: no weight is to be 0, or very small beside the others",
+           st->lost ? "weight" : "K", said(least.word), number, card_meaning(number), CALENDAR[m]);
+}
+
+/* Says why no constants were worked out. */
+static void refuse_constants(const station *st, card_columns columns, card_run run, uint8_t number) {
+    if (number == CARD_FEW_YEARS) refuse_years(st, number);
+    if (number == CARD_GAMMA) refuse_gamma(columns, run, number);
+    if (number == CARD_ZERO_K) refuse_zero_k(st, number);
+    stop(REFUSED, "the constants are refused (%d: %s)%s", number, card_meaning(number),
+         number == CARD_K ? ", every D x weight is 0, or a K is above 100000: the years hardly differ, or a weight is "
+                            "very large beside the others"
+                          : "");
+}
+
+/* The years and the sums of each calendar month. */
+static void print_sums(const station *st, const card_summed *months) {
+    long first = first_year(st), years = (long)months[0].years;
+    print("years %ld %04ld to %04ld\n", years, first, first + years - 1);
+    print("month ET PE R PR RO PRO L PL\n");
+    for (int m = 0; m < CARD_WEIGHTS; m++) {
+        const card_sums *s = &months[m].sums;
+        print("%s %" PRIu32 " %" PRIu32 " %" PRIu32 " %" PRIu32, CALENDAR[m], s->et, s->pe, s->r, s->pr);
+        print(" %" PRIu32 " %" PRIu32 " %" PRIu32 " %" PRIu32 "\n", s->ro, s->pro, s->l, s->pl);
+    }
+}
+
+/* What each K was made from. */
+static void print_departures(const station *st, const card_worked_out *a) {
+    uint64_t sum = 0;
+    print("month D weight product\n");
+    for (int m = 0; m < CARD_WEIGHTS; m++) {
+        uint64_t product = (uint64_t)a->departures[m] * (uint64_t)st->weights[m].value;
+        print("%s %" PRIu32 " %" PRId32 " %" PRIu64 "\n", CALENDAR[m], a->departures[m], st->weights[m].value,
+              product);
+        sum += product;
+    }
+    print("sum %" PRIu64 "\n", sum);
+}
+
+/* The constants, as a station file has them. */
+static void print_constants(const card_worked_out *a) {
+    print("constants");
+    for (int k = 0; k < 5; k++) print(" %s", CONSTANT[k]);
+    for (int i = 0; i < CARD_CONSTANTS; i++) {
+        if (i % 5 == 0) print("\n%s", CALENDAR[i / 5]);
+        print(" %" PRId32, a->constants[i]);
+    }
+    print("\n");
+}
+
+/* Works the constants out of the months, and prints them below what they were made from. */
+static void work_out(const station *st, card_columns columns, card_run run) {
+    int32_t weights[CARD_WEIGHTS];
+    card_summed months[CARD_WEIGHTS];
+    for (int m = 0; m < CARD_WEIGHTS; m++) weights[m] = st->weights[m].value;
+    card_worked_out a = card_work_out_in(columns, run, weights, CARD_WEIGHTS);
+    if (a.number != CARD_DONE) refuse_constants(st, columns, run, a.number);
+    for (int m = 0; m < CARD_WEIGHTS; m++) {
+        months[m] = card_sum_month_in(columns, run, m + 1);
+        if (months[m].number != CARD_DONE) refuse_constants(st, columns, run, months[m].number);
+    }
+    print_sums(st, months);
+    print_departures(st, &a);
+    print_constants(&a);
+}
+
 int main(int argc, char **argv) {
     static station st;
     static repairs rs;
@@ -975,10 +1145,13 @@ int main(int argc, char **argv) {
     static int64_t v[CARD_MOST_MONTHS];
     card_columns columns = card_columns_of(x1, x2, x3, index, mark, records, v, CARD_MOST_MONTHS);
     int repairing = argc >= 2 && strcmp(argv[1], "--repair") == 0;
+    int working_out = argc >= 2 && strcmp(argv[1], "--constants") == 0;
     /* a pipe that nobody reads is then a write that fails, and is said */
     signal(SIGPIPE, SIG_IGN);
     if (repairing && argc != 3)
         stop(NOT_READ, "--repair and %d arguments more; expected: --repair and the name of a file", argc - 2);
+    if (working_out && argc != 2)
+        stop(NOT_READ, "--constants and %d more; expected: --constants alone", argc - 2);
     if (!repairing && argc > 2)
         stop(NOT_READ, "%d arguments; expected: none, or how many months are added in a call", argc - 1);
     if (argc == 2 && strcmp(argv[1], "--help") == 0) {
@@ -986,13 +1159,19 @@ int main(int argc, char **argv) {
         flush();
         return 0;
     }
-    size_t most = argc == 2 ? months_in_a_call(argv[1]) : 0;
+    size_t most = argc == 2 && !working_out ? months_in_a_call(argv[1]) : 0;
     scanner s = read_standard_input(), of_repairs = {0};
     if (repairing) of_repairs = read_file_of_repairs(argv[2]);
-    read_station(&s, &st);
+    read_station(&s, &st, working_out);
     if (repairing) read_repairs(&of_repairs, &st, &rs);
     card_run run = start(&st);
+    if (working_out) ask_weights(&st, columns, run);
     run = most == 0 ? add_singly(&st, columns, run, &r) : add_seasons(&st, columns, run, &r, most);
+    if (working_out) {
+        work_out(&st, columns, run);
+        flush();
+        return 0;
+    }
     run = repair_months(&st, &rs, columns, run, 0);
     look_back(columns, run, &r);
     if (repairing)

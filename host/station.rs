@@ -9,8 +9,9 @@
 mod card;
 
 use card::{
-    meaning, Change, Columns, Figures, Reading, Record, Run, Shown, BAD_READING, CAPACITY_OUT, CONSTANTS,
-    CONSTANT_OUT, DONE, FULL, HAD_WATER, MISSING_READING, MOST_MONTHS, NONE, SETTLED, STORAGE_OUT, TRACE, ZERO_K,
+    meaning, Change, Columns, Figures, Reading, Record, Run, Shown, Summed, WorkedOut, BAD_GAMMA, BAD_K,
+    BAD_READING, CAPACITY_OUT, CONSTANTS, CONSTANT_OUT, DONE, FEW_YEARS, FULL, HAD_WATER, MISSING_READING,
+    MOST_MONTHS, NONE, SETTLED, STORAGE_OUT, TRACE, WEIGHTS, ZERO_K,
 };
 use std::ffi::{OsStr, OsString};
 use std::fs::File;
@@ -476,13 +477,20 @@ struct Month<'a> {
     pe: Measure<'a>,
 }
 
+/// The constants and the weights of the file.
+struct Section<'a> {
+    lost: bool,                // whether the file has weights in the place of constants
+    constants: Vec<Whole<'a>>, // where they are lost any that a start takes,
+    weights: Vec<Whole<'a>>,   // and where they are not their K
+}
+
 /// What the file holds. One month more is kept than a run can hold: it is the library that refuses it, and it
 /// would refuse the same one if there were more.
 struct Station<'a> {
     capacity: Whole<'a>,
     surface: Whole<'a>,
     underlying: Whole<'a>,
-    constants: Vec<Whole<'a>>,
+    section: Section<'a>,
     unit: Unit,
     months: Vec<Month<'a>>,
     first: usize, // the first month's date,
@@ -498,24 +506,23 @@ fn read_storage<'a>(s: &mut Scanner<'a>, name: &str) -> Result<Whole<'a>, Stop> 
     Ok(number)
 }
 
-/// The name of a calendar month, the one that is to come.
-fn calendar_name(s: &mut Scanner, name: &str) -> Result<(), Stop> {
+/// The name of a calendar month, the one that is to come in a section.
+fn calendar_name(s: &mut Scanner, name: &str, section: &str) -> Result<(), Stop> {
     let w = s.take()?;
     no_comma(w, "")?;
     if w.is(name) {
         return Ok(());
     }
     if CALENDAR.iter().any(|other| w.is(other)) {
-        let what = "was to follow; the constants stand from January to December";
+        let what = format!("was to follow; the {section} stand from January to December");
         return refuse(w.at, format!("{} here, and {name} {what}", w.said()));
     }
     refuse(w.at, format!("\"{}\" is not known here; expected: {}", w.said(), s.expected))
 }
 
-/// The heading is asked word for word: a table in another order of columns must not pass for this one.
-fn read_constants<'a>(s: &mut Scanner<'a>) -> Result<Vec<Whole<'a>>, Stop> {
-    s.open_line("constants alpha beta gamma delta K".to_string(), "")?;
-    s.keyword("constants")?;
+/// The constants, after the first word of their heading. The heading is asked word for word: a table in another order
+/// of columns must not pass for this one.
+fn read_constants<'a>(s: &mut Scanner<'a>) -> Result<Section<'a>, Stop> {
     for name in CONSTANT {
         s.keyword(name)?;
     }
@@ -523,13 +530,51 @@ fn read_constants<'a>(s: &mut Scanner<'a>) -> Result<Vec<Whole<'a>>, Stop> {
     let mut constants = Vec::with_capacity(CONSTANTS);
     for name in CALENDAR {
         s.open_line(format!("{name} ALPHA BETA GAMMA DELTA K"), "")?;
-        calendar_name(s, name)?;
+        calendar_name(s, name, "constants")?;
         for _ in CONSTANT {
             constants.push(take_whole(s, &TEN_THOUSANDTHS)?);
         }
         s.close_line()?;
     }
-    Ok(constants)
+    let weights = constants.iter().skip(4).step_by(5).copied().collect();
+    Ok(Section { lost: false, constants, weights })
+}
+
+/// The weights, after their heading's word. The constants that the run is started with are then 0 0 0 0 1: neither the
+/// water of a month nor what is worked out of it goes by them.
+fn read_weights<'a>(s: &mut Scanner<'a>) -> Result<Section<'a>, Stop> {
+    s.expected = "weights".to_string();
+    s.close_line()?;
+    let mut weights = Vec::with_capacity(WEIGHTS);
+    for name in CALENDAR {
+        s.open_line(format!("{name} WEIGHT"), "")?;
+        calendar_name(s, name, "weights")?;
+        weights.push(take_whole(s, &TEN_THOUSANDTHS)?);
+        s.close_line()?;
+    }
+    let word = Word { text: &[], at: s.whole_line() };
+    let constants = (0..CONSTANTS).map(|i| Whole { value: i32::from(i % 5 == 4), word }).collect();
+    Ok(Section { lost: true, constants, weights })
+}
+
+/// The constants, or where they are to be worked out perhaps weights in their place.
+fn read_section<'a>(s: &mut Scanner<'a>, working_out: bool) -> Result<Section<'a>, Stop> {
+    let other = if working_out { ", or weights" } else { "" };
+    s.open_line("constants alpha beta gamma delta K".to_string(), other)?;
+    let w = s.take()?;
+    no_comma(w, "")?;
+    if w.is("weights") && !working_out {
+        let what = "weights and no constants; host/constants works the constants out of this file";
+        return refuse(s.whole_line(), what.to_string());
+    }
+    if w.is("weights") {
+        return read_weights(s);
+    }
+    if !w.is("constants") {
+        let what = format!("\"{}\" is not known here; expected: {}{other}", w.said(), s.expected);
+        return refuse(w.at, what);
+    }
+    read_constants(s)
 }
 
 /// The unit stands once and has no default: 62 mm taken for 62 inches would pass the library's ranges.
@@ -644,14 +689,14 @@ fn close_file(s: &mut Scanner) -> Result<(), Stop> {
 }
 
 /// The whole file, line by line, before the library sees any of it.
-fn read_station(text: &[u8]) -> Result<Station<'_>, Stop> {
+fn read_station(text: &[u8], working_out: bool) -> Result<Station<'_>, Stop> {
     let s = &mut Scanner::new("", text);
     let capacity = read_storage(s, "capacity")?;
     let surface = read_storage(s, "surface")?;
     let underlying = read_storage(s, "underlying")?;
-    let constants = read_constants(s)?;
+    let section = read_section(s, working_out)?;
     let unit = read_unit(s)?;
-    let mut st = Station { capacity, surface, underlying, constants, unit, months: vec![], first: 0, next: 0 };
+    let mut st = Station { capacity, surface, underlying, section, unit, months: vec![], first: 0, next: 0 };
     while read_month(s, &mut st)? {}
     close_file(s)?;
     Ok(st)
@@ -742,7 +787,7 @@ fn refuse_whole<T>(n: Whole, name: &str, number: u8, range: &str) -> Result<T, S
 
 /// Asks again with ones for all constants but one: the one that is refused by itself is the place.
 fn refuse_constant(st: &Station, calendar: i32, number: u8) -> Result<(), Stop> {
-    for (i, constant) in st.constants.iter().enumerate() {
+    for (i, constant) in st.section.constants.iter().enumerate() {
         let mut alone = [1; CONSTANTS];
         alone[i] = constant.value;
         let (capacity, surface, underlying) = (st.capacity.value, st.surface.value, st.underlying.value);
@@ -755,7 +800,7 @@ fn refuse_constant(st: &Station, calendar: i32, number: u8) -> Result<(), Stop> 
 
 /// Starts the run, in the calendar month of the first month.
 fn start(st: &Station) -> Result<Run, Stop> {
-    let constants: Vec<i32> = st.constants.iter().map(|constant| constant.value).collect();
+    let constants: Vec<i32> = st.section.constants.iter().map(|constant| constant.value).collect();
     let (capacity, surface, underlying) = (st.capacity.value, st.surface.value, st.underlying.value);
     let calendar = (st.first % 12 + 1) as i32;
     let a = card::start(&constants, capacity, surface, underlying, calendar);
@@ -965,10 +1010,12 @@ fn help_text() -> String {
     format!(
         "station [MONTHS] <FILE\n\
         station --repair REPAIRS <FILE\n\
+        station --constants <FILE\n\
         \n\
         Reads a station file from standard input, adds its months to a run and prints what the card shows.\n\
         MONTHS, 1 to {MOST_MONTHS}: adds so many months in a call, as a card that was offline; else one by one.\n\
         With --repair it then repairs the months of the file REPAIRS, one after another.\n\
+        With --constants it works the constants out of the months. The file may then have weights in their place.\n\
         \n\
         Printed are three tables; water, Z, X and both indexes in thousandths:\n\
         \x20 month P PE CAFEC Z percent index modified settled   each month as it was added, and how many that\n\
@@ -980,6 +1027,13 @@ fn help_text() -> String {
         With --repair stands in place of the first, for each repair, its month, how many months it changed, as\n\
         repair YYYY-MM changed COUNT, and a table of these:\n\
         \x20 month index_before index_after mark_before mark_after\n\
+        With --constants stands in place of all three what the constants were made from, and they; sums and D in\n\
+        thousandths of an inch:\n\
+        \x20 years COUNT FIRST to LAST                           the whole years, January to December\n\
+        \x20 month ET PE R PR RO PRO L PL                        each calendar month's sums over these years\n\
+        \x20 month D weight product                              D, the mean size of P - CAFEC, and D x weight;\n\
+        \x20                                                     then sum SUM, of the products\n\
+        \x20 constants alpha beta gamma delta K                  thirteen lines, as a station file has them\n\
         \n\
         T for a month's precipitation, in the file and as P, is a trace: rain too little to measure, which\n\
         counts as 0. PE is always a number. With MONTHS a trace is printed 0: such a call cannot tell it.\n\
@@ -988,7 +1042,8 @@ fn help_text() -> String {
         read; 3 output that cannot be written. What is wrong is said on standard error, in one line.\n\
         \n\
         The format of the file stands in the head of samples/western-kansas-station.txt and in README.md, that of\n\
-        a file of repairs in the head of samples/western-kansas-repairs.txt.\n"
+        a file of repairs in the head of samples/western-kansas-repairs.txt, that of weights in the head of\n\
+        samples/thirty-years-station.txt.\n"
     )
 }
 
@@ -1075,11 +1130,133 @@ fn print_reports(st: &Station, rs: &Repairs, columns: &mut Columns) -> Result<()
     Ok(())
 }
 
+// ---- The constants worked out ---------------------------------------------------------------------------------
+
+/// Each weight twelve times, of a run without months: the library asks for the weights before it asks for years.
+fn ask_weights(st: &Station, columns: &Columns, fresh: Run) -> Result<(), Stop> {
+    for weight in &st.section.weights {
+        if card::work_out(fresh, &[weight.value; WEIGHTS], columns).number == CONSTANT_OUT {
+            return refuse_whole(*weight, "weight", CONSTANT_OUT, "0 to 100000");
+        }
+    }
+    Ok(())
+}
+
+/// The year of the first January.
+fn first_year(st: &Station) -> usize {
+    (st.first + 11) / 12
+}
+
+/// Too few years, or a month among them that had no water.
+fn refuse_years(st: &Station, number: u8) -> Result<(), Stop> {
+    let (first, last) = (date(st.first), date(st.next - 1));
+    let years = (st.next / 12).saturating_sub(first_year(st));
+    let s = if years == 1 { "" } else { "s" };
+    let why = if years < 10 { "ten are needed" } else { "a month of them had no water" };
+    let what = format!("{first} to {last} has {years} whole year{s}, January to December, and {why}");
+    stop(REFUSED, format!("the constants are refused ({number}: {}), {what}", meaning(number)))
+}
+
+/// The first gamma that is out of its range.
+fn refuse_gamma(columns: &Columns, run: Run, number: u8) -> Result<(), Stop> {
+    for (m, name) in CALENDAR.iter().enumerate() {
+        let s = card::sum_month(run, m as i32 + 1, columns).sums;
+        let (ro, pro) = (u64::from(s.ro), u64::from(s.pro));
+        let gamma = if pro == 0 { 0 } else { (20000 * ro + pro) / (2 * pro) };
+        if gamma > 50000 {
+            let why = meaning(number);
+            let what = format!("10000 x RO {ro} / PRO {pro} is {gamma}, and gamma is 0 to 50000");
+            let more = "the capacity may be too small";
+            return stop(REFUSED, format!("the gamma of {name} is refused ({number}: {why}), {what}; {more}"));
+        }
+    }
+    Ok(())
+}
+
+/// A K of 0: if there is one, that of the smallest weight is.
+fn refuse_zero_k(st: &Station, number: u8) -> Result<(), Stop> {
+    let weights = st.section.weights.iter().zip(CALENDAR);
+    match weights.min_by_key(|(weight, _)| weight.value) {
+        Some((least, name)) => {
+            let weight = if st.section.lost { "weight" } else { "K" };
+            let why = format!("is refused ({number}: {})", meaning(number));
+            let what = "comes to 0: no weight is to be 0, or very small beside the others";
+            refuse(least.word.at, format!("{weight} {} {why}, the K of {name} {what}", least.word.said()))
+        }
+        None => Ok(()),
+    }
+}
+
+/// Says why no constants were worked out.
+fn refuse_constants<T>(st: &Station, columns: &Columns, run: Run, number: u8) -> Result<T, Stop> {
+    match number {
+        FEW_YEARS => refuse_years(st, number)?,
+        BAD_GAMMA => refuse_gamma(columns, run, number)?,
+        ZERO_K => refuse_zero_k(st, number)?,
+        _ => {}
+    }
+    let what = match number {
+        BAD_K => {
+            ", every D x weight is 0, or a K is above 100000: the years hardly differ, or a weight is \
+            very large beside the others"
+        }
+        _ => "",
+    };
+    stop(REFUSED, format!("the constants are refused ({number}: {}){what}", meaning(number)))
+}
+
+/// The years and the sums of each calendar month.
+fn sums_text(st: &Station, months: &[Summed]) -> String {
+    let (first, years) = (first_year(st), months[0].years as usize);
+    let mut text = format!("years {years} {first:04} to {:04}\n", first + years - 1);
+    text += "month ET PE R PR RO PRO L PL\n";
+    for (name, Summed { sums: s, .. }) in CALENDAR.iter().zip(months) {
+        text += &format!("{name} {} {} {} {} {} {} {} {}\n", s.et, s.pe, s.r, s.pr, s.ro, s.pro, s.l, s.pl);
+    }
+    text
+}
+
+/// What each K was made from.
+fn departures_text(st: &Station, a: &WorkedOut) -> String {
+    let mut sum = 0;
+    let mut text = "month D weight product\n".to_string();
+    for ((name, d), weight) in CALENDAR.iter().zip(a.departures).zip(&st.section.weights) {
+        let product = i64::from(d) * i64::from(weight.value);
+        text += &format!("{name} {d} {} {product}\n", weight.value);
+        sum += product;
+    }
+    text + &format!("sum {sum}\n")
+}
+
+/// The constants, as a station file has them.
+fn constants_text(a: &WorkedOut) -> String {
+    let mut text = format!("constants {}\n", CONSTANT.join(" "));
+    for (name, k) in CALENDAR.iter().zip(a.constants.chunks(5)) {
+        text += &format!("{name} {} {} {} {} {}\n", k[0], k[1], k[2], k[3], k[4]);
+    }
+    text
+}
+
+/// Works the constants out of the months: what is printed is they, below what they were made from.
+fn work_out(st: &Station, columns: &Columns, run: Run) -> Result<String, Stop> {
+    let weights: Vec<i32> = st.section.weights.iter().map(|weight| weight.value).collect();
+    let a = card::work_out(run, &weights, columns);
+    if a.number != DONE {
+        return refuse_constants(st, columns, run, a.number);
+    }
+    let months: Vec<Summed> = (1..=12).map(|month| card::sum_month(run, month, columns)).collect();
+    if let Some(month) = months.iter().find(|month| month.number != DONE) {
+        return refuse_constants(st, columns, run, month.number);
+    }
+    Ok(sums_text(st, &months) + &departures_text(st, &a) + &constants_text(&a))
+}
+
 /// What the arguments ask for.
 enum Asked {
     Help,
     Months(usize), // so many in a call; 0 is one by one
     Repair(OsString),
+    Constants,
 }
 
 fn asked() -> Result<Asked, Stop> {
@@ -1090,6 +1267,11 @@ fn asked() -> Result<Asked, Stop> {
         [repair, more @ ..] if repair == "--repair" => {
             let what = "arguments more; expected: --repair and the name of a file";
             stop(NOT_READ, format!("--repair and {} {what}", more.len()))
+        }
+        [constants] if constants == "--constants" => Ok(Asked::Constants),
+        [constants, more @ ..] if constants == "--constants" => {
+            let what = "more; expected: --constants alone";
+            stop(NOT_READ, format!("--constants and {} {what}", more.len()))
         }
         [help] if help == "--help" => Ok(Asked::Help),
         [months] => Ok(Asked::Months(months_in_a_call(months.as_bytes())?)),
@@ -1106,14 +1288,15 @@ fn station() -> Result<(), Stop> {
     let most = match asked {
         Asked::Help => return print(&help_text()),
         Asked::Months(most) => most,
-        Asked::Repair(_) => 0,
+        Asked::Repair(_) | Asked::Constants => 0,
     };
+    let working_out = matches!(asked, Asked::Constants);
     let text = read_standard_input()?;
     let of_repairs = match &asked {
         Asked::Repair(name) => Some(read_file_of_repairs(name)?),
         _ => None,
     };
-    let st = read_station(&text)?;
+    let st = read_station(&text, working_out)?;
     let rs = match &of_repairs {
         Some(text) => read_repairs(text, &st)?,
         None => Repairs::default(),
@@ -1132,8 +1315,14 @@ fn station() -> Result<(), Stop> {
         v: &mut v,
     };
     let run = start(&st)?;
+    if working_out {
+        ask_weights(&st, columns, run)?;
+    }
     let (run, steps) =
         if most == 0 { add_singly(&st, columns, run)? } else { add_seasons(&st, columns, run, most)? };
+    if working_out {
+        return print(&work_out(&st, columns, run)?);
+    }
     let run = repair_months(&st, &rs, columns, run, false)?;
     let rows = look_back(columns, run)?;
     let first = match asked {

@@ -42,6 +42,9 @@
  * A month that was added with a wrong reading, as from a gauge that was found tilted, is put right by a
  * repair, which reworks it and all months after it: see card_repair_in.
  *
+ * A station whose constants are lost has them worked out again from its own record, of ten years at least: see
+ * card_work_out_in.
+ *
  * Each call answers with a number: 0 where it did what it was asked, and otherwise the refusal, from the
  * list below. A refused call writes nothing that was lent, answers with all figures 0 and hands back the
  * run as it was given (a refused start: a run of zeros). Where several refusals hold, the first in the
@@ -89,14 +92,16 @@
  *     card_add_season      1192
  *     card_repair           840
  *     card_row              376
+ *     card_sum_month       TODO
+ *     card_work_out        TODO
  *     card_whole_series      88
  *
  * It is counted from the return address, which is included, down to the lowest word of 8 bytes that was
  * written by the call or by what it calls, memcpy and memset included. Not counted is what the caller
  * keeps: the arguments that are passed on the stack (a run alone is 288 bytes), the room for the answer
- * (card_started 296 bytes, card_added 376, card_season 384, card_repaired 296, card_shown 88) and what the
- * inline functions of this header put into the caller's frame; nor is an interrupt. The figures are the
- * deepest seen over months and refusals of all sorts: measured, not proved.
+ * (card_started 296 bytes, card_added 376, card_season 384, card_repaired 296, card_shown 88, card_summed 40,
+ * card_worked_out 292) and what the inline functions of this header put into the caller's frame; nor is an
+ * interrupt. The figures are the deepest seen over months and refusals of all sorts: measured, not proved.
  */
 #ifndef CARD_H
 #define CARD_H
@@ -114,20 +119,26 @@ enum {
     CARD_LENGTHS = 1,        /* the columns, or the lists of a whole series, not all of one length, or
                                 length 0 or above CARD_MOST_MONTHS; the two lists of a season not of one
                                 length; the report of a repair not as long as the columns */
-    CARD_NOT_SIXTY = 2,      /* constants not sixty numbers */
-    CARD_CONSTANT = 3,       /* a constant outside its range */
+    CARD_NOT_SIXTY = 2,      /* constants not sixty numbers; weights not twelve */
+    CARD_CONSTANT = 3,       /* a constant outside its range; a weight outside 0 to 100,000 */
     CARD_CAPACITY = 4,       /* capacity outside its range, 100 to 30,000 */
     CARD_STORAGE = 5,        /* a start storage negative or above its layer: see card_soil */
-    CARD_START_MONTH = 6,    /* start month not 1 to 12 */
+    CARD_START_MONTH = 6,    /* start month, or calendar month to be summed, not 1 to 12 */
     CARD_NOT_A_RUN = 7,      /* not a run, or not the run of these columns: see card_run; of a repair also
-                                a recorded figure outside its range: see card_repair_in */
+                                a recorded figure outside its range: see card_repair_in; of a sum and of
+                                working constants out also a month of water that no add gives: see
+                                card_sum_month_in */
     CARD_MISSING_READING = 8,/* reading missing */
     CARD_BAD_READING = 9,    /* reading not acceptable */
     CARD_FULL = 10,          /* months already equal the column length */
     CARD_NO_ROW = 11,        /* row number not below the months added */
     CARD_BAD_Z = 12,         /* Z outside its range */
     CARD_WATERLESS = 17,     /* no water in that month: it was added as a Z, and has no reading to repair */
-    CARD_ZERO_K = 21         /* a K of 0: every such month would count for nothing */
+    CARD_FEW_YEARS = 18,     /* fewer than ten years, January to December, in the run; or a month of one of
+                                them had no water: see card_sum_month_in */
+    CARD_GAMMA = 19,         /* a gamma worked out is above 50,000 */
+    CARD_K = 20,             /* no departures to weigh, or a K worked out is above 100,000 */
+    CARD_ZERO_K = 21         /* a K of 0, given or worked out: every such month would count for nothing */
 };
 
 /* What a number means, in words. */
@@ -147,14 +158,19 @@ static inline const char *card_meaning(uint8_t number) {
     case CARD_NO_ROW: return "row number not below the months added";
     case CARD_BAD_Z: return "Z outside its range";
     case CARD_WATERLESS: return "no water in that month";
+    case CARD_FEW_YEARS: return "fewer than ten whole years, or one with a month without water";
+    case CARD_GAMMA: return "a gamma worked out is outside its range";
+    case CARD_K: return "no departures to weigh, or a K worked out is outside its range";
     case CARD_ZERO_K: return "a K of 0, by which a month counts for nothing";
     default: return "no number of this library";
     }
 }
 
-/* What a column holds at most, and how many constants a station has. */
+/* What a column holds at most, how many constants a station has, and with how many weights they are worked
+ * out. */
 #define CARD_MOST_MONTHS 12000
 #define CARD_CONSTANTS 60
+#define CARD_WEIGHTS 12
 
 /* The two marks of a month. */
 enum { CARD_OPEN = 1, CARD_SETTLED = 2 };
@@ -273,7 +289,8 @@ typedef struct card_values {
  * months; a constant, the capacity or a storage out of range; a K of 0; a calendar month not 1 to 12; an X
  * beyond 13,000,000 in size; X1 negative or X2 positive; V beyond 4,000,150 x months in size; V above 0
  * without X3 below 0, or V below 0 without X3 above 0; after any month, the last record's storages at its
- * end are not the run's. Nothing else of what the columns hold is asked, but by a repair: see card_repair_in.
+ * end are not the run's. Nothing else of what the columns hold is asked, but by a repair (see card_repair_in),
+ * by a sum and where constants are worked out (see card_sum_month_in).
  *
  * A card may hold a run that was started with a K of 0 before that was refused. Every call refuses it now,
  * card_row too: not even its rows are shown. Where run.constants[5 * month - 1] is 0, month 1 to 12, put
@@ -314,9 +331,10 @@ typedef struct card_started {
  * A run to which Z alone will be added is started with sixty ones and any soil: a Z that is given is not
  * reckoned with them. It is for no month of water.
  *
- * The constants are those that were worked out with this capacity: another capacity needs others. A thin soil
- * keeps little of the months before. With a capacity of 100, a month whose PE passes its rain by a tenth of
- * an inch leaves the soil empty, and one whose rain passes its PE by as much leaves it full, whatever it held. */
+ * The constants are those that were worked out with this capacity: another capacity needs others. A lost set is
+ * worked out again by card_work_out_in, and a start takes what that answers with. A thin soil keeps little of the
+ * months before. With a capacity of 100, a month whose PE passes its rain by a tenth of an inch leaves the soil
+ * empty, and one whose rain passes its PE by as much leaves it full, whatever it held. */
 card_started card_start(const int32_t *constants, size_t constants_length,
                         int32_t capacity, int32_t surface, int32_t underlying, int32_t month);
 
@@ -382,9 +400,9 @@ typedef struct card_record {
  * run.months - 1. That is the least, and all else in the two lists may be 0. A row then shows these months
  * without water and with a Z, a V, a modified index and a kind of 0, and that says nothing of them. V after the
  * last one is run.values.v; the rest is had only by adding all months again, to a new run in other columns.
- * None of these months can be repaired (17). Of the months added since, those after the first that settled any
- * can be, as if all had records; up to that one the lists do not tell where the run stood, and a repair takes
- * their zeros for it.
+ * None of these months can be repaired (17), nor constants be worked out where one of them is in a whole year
+ * (18). Of the months added since, those after the first that settled any can be repaired, as if all had records;
+ * up to that one the lists do not tell where the run stood, and a repair takes their zeros for it.
  *
  * A card may hold records of 52 bytes, from before the kind of the precipitation was kept: the first thirteen
  * numbers of a record as it is now. Copy each into the beginning of a longer one and put 0 (CARD_NONE) for
@@ -405,7 +423,8 @@ typedef struct card_record {
  * is not looked at. At CARD_MOST_MONTHS a new run is needed, in other columns.
  *
  * The calls whose names end in _in take the columns so, and are the usual way. The same calls with each
- * list by itself stand further down. card_row_in and card_row only read; card_row takes const columns. */
+ * list by itself stand further down. card_row_in, card_sum_month_in and card_work_out_in only read; with each
+ * list by itself these three take const columns. */
 typedef struct card_columns {
     int32_t *x1;
     size_t x1_length;
@@ -556,7 +575,8 @@ static inline card_season card_add_season_in(card_columns columns, card_run run,
  *   of themselves, a spell in force abates, and one whose X3 is at most 613 in size ends. A drought may
  *   seem to weaken or to end that did not. Such a month cannot be repaired (17): should its reading turn up
  *   later, the card is put right only by starting again with it, from the first month or from a copy of run
- *   and columns from before that month.
+ *   and columns from before that month. Nor can constants be worked out from a run that has one in a whole
+ *   year (18).
  * - Start a new run, in other columns: in the same ones it would write over the past months. It knows no
  *   spell (X1, X2, X3 all 0) and needs start storages; months must pass before its index says anything.
  * - Never give 0 for a missing reading, nor a trace. A month without rain is a dry month that nobody measured,
@@ -616,7 +636,7 @@ typedef struct card_repaired {
  * both as they were is not in it, though its water or its modified index may be another. What the list held
  * before is not looked at.
  *
- * 7 asks more here than of the other calls. Of every row below run.months, those before the month too, each
+ * 7 asks more here than of an add or a row. Of every row below run.months, those before the month too, each
  * figure is to be in its range:
  * - X1 0 to 13,000,000, X2 -13,000,000 to 0, X3, index and modified at most 13,000,000 in size; mark CARD_OPEN
  *   or CARD_SETTLED;
@@ -656,6 +676,132 @@ static inline card_shown card_row_in(card_columns columns, card_run run, size_t 
 uint8_t card_whole_series(const int32_t *z, size_t z_length,
                           int32_t *index, size_t index_length,
                           uint8_t *mark, size_t mark_length);
+
+/* ---- Working the constants out again -------------------------------------------------------------- */
+
+/* Sums over the years of one calendar month, in thousandths of an inch. They are 32 bytes without gaps. */
+typedef struct card_sums {
+    uint32_t et;  /* evapotranspiration */
+    uint32_t pe;  /* potential evapotranspiration */
+    uint32_t r;   /* recharge */
+    uint32_t pr;  /* potential recharge */
+    uint32_t ro;  /* runoff */
+    uint32_t pro; /* potential runoff */
+    uint32_t l;   /* loss from both layers, Ls + Lu */
+    uint32_t pl;  /* potential loss */
+} card_sums;
+
+typedef struct card_summed {
+    uint8_t number;
+    uint32_t years; /* how many years were summed */
+    card_sums sums;
+} card_summed;
+
+/* Sums the water of a calendar month over the years of the run, from which alpha, beta, gamma and delta are
+ * worked out: see card_work_out_in. Refusals, in this order: 1, 7, 6, 18. It writes nothing. Refused, years and
+ * sums are 0.
+ *
+ * month: 1 to 12, January is 1 (6).
+ *
+ * The years are every January to December of which all twelve months are in the run. A run that starts in April
+ * has its first year from its first January on. The months before the first year and after the last are summed
+ * nowhere. The years are to be ten at least, and all their months to have water (18): a year with an added Z is
+ * not left out, it refuses the call, and so does a month from before there were records (see card_columns). An
+ * added Z before the first year or after the last does not matter.
+ *
+ * ET, PE, R, RO and L are summed as the records have them. The potentials are not recorded. They are worked out
+ * again from each record's storages at its start and its PE, with C = run.soil.capacity:
+ *
+ *     PR = C - ss - su      PRO = ss + su      PL = PLs + PLu
+ *     PLs = smaller of pe and ss      PLu = nearest to (pe - PLs) x su / C, at most su
+ *
+ * The sum of the precipitation is et + r + ro - l.
+ *
+ * 7 asks more here than of an add or a row. Every record below run.months whose water is CARD_HAD_WATER, those
+ * before the first year and after the last too, is to be one that an add of water gives:
+ * - p and pe 0 to 100,000; ss and su within their layers, by run.soil.capacity (see card_soil);
+ * - et, r, l, ro, surface and underlying what an add of p and pe comes to from ss, su and that capacity.
+ * Beyond that, and what every call asks (see card_run), nothing is asked: not z, modified or kind, no X, V, index
+ * or mark, not that a month starts where the one before it ended, and of a record without water nothing at all.
+ * What a run's own calls have written is so, and so are records from before, copied as card_columns says. Most
+ * records that were damaged are found, but 7 is no checksum here either.
+ *
+ * The time is linear in the months. */
+static inline card_summed card_sum_month_in(card_columns columns, card_run run, int32_t month);
+
+typedef struct card_worked_out {
+    uint8_t number;
+    int32_t constants[CARD_CONSTANTS]; /* January first, alpha, beta, gamma, delta, K: as card_start takes them */
+    uint32_t departures[CARD_WEIGHTS]; /* D of each calendar month, January first, in thousandths of an inch */
+} card_worked_out;
+
+/* Works out the sixty constants of the run's station from the years of the run, with twelve first weights.
+ * Refusals, in this order: 1, 7, 2, 3, 18, 19, 20, 21, where 7 and 18 are as of card_sum_month_in. It writes
+ * nothing. Refused, constants and departures are 0. Constants that come with the number 0 are always taken by
+ * card_start.
+ *
+ * For each calendar month, with the sums that card_sum_month_in gives of it,
+ *
+ *     alpha = 10,000 ET / PE      beta = 10,000 R / PR      gamma = 10,000 RO / PRO      delta = 10,000 L / PL
+ *
+ * nearest, and 0 where the divisor is 0. Alpha, beta and delta are never above 10,000; a gamma above 50,000 is
+ * refused (19). D, the departure, is the mean size of P - CAFEC over the years, nearest, where CAFEC is the whole
+ * number that an add of the month answers with under the new constants. With S, the sum of D x weight over the
+ * twelve months,
+ *
+ *     K = 176,700,000 x weight / S
+ *
+ * nearest. It is 20 where S is 0, as where no month ever departed, or where some K is above 100,000; it is 21
+ * where none is and some K is 0.
+ *
+ * weights: twelve numbers (2), January first, 0 to 100,000 each (3): Palmer's K' in ten-thousandths. Only their
+ * proportions matter: twelve that are all so many times as large give the same constants. Equal weights weigh all
+ * months alike: K is the same in all twelve. A weight of 0 passes 3 and can never succeed: K is 0 too, which is
+ * 21, where no other refusal comes first. K is 0 also where a weight is very small beside the others, below S /
+ * 353,400,000: 1 beside eleven of 100,000 is so where the eleven departures come to more than 3,534 together.
+ *
+ * Palmer's own K' of a calendar month is, by his equation (26), with the means of that month and D in inches,
+ *
+ *     1.5 log10(((PE + R + RO) / (P + L) + 2.80) / D) + 0.50
+ *
+ * The means come from card_sum_month_in, D from a call with equal weights. That call is never refused with 21,
+ * and with 20 only where the twelve departures come to less than 1,767 together. The equation gives no weight
+ * where D is 0, or so large that it comes out at 0 or below.
+ *
+ * How a lost set is worked out again, from the months' readings:
+ * - Start a run with the station's capacity and storages and any constants that a start takes, as 0 0 0 0 1
+ *   twelve times, and add the months to it. What water and soil come to does not hang on the constants; Z and
+ *   all indexes do, and mean nothing yet.
+ * - Call this with the weights.
+ * - Start anew with the constants that it answers with, and add the months again.
+ *
+ *     card_worked_out found = card_work_out_in(columns, run, weights, CARD_WEIGHTS);
+ *     if (found.number != CARD_DONE) return complain(card_meaning(found.number));
+ *     start = card_start(found.constants, CARD_CONSTANTS, 6000, 0, 1330, 6);
+ *
+ * A run that stands needs no first start. Its own constants are not reckoned with, though 7 wants them in range
+ * and no K of 0: where they were lost in the run, put 0 0 0 0 1 there twelve times.
+ *
+ * The time is linear in the months.
+ *
+ * When not to use it. The call takes the record for the climate of its place. Whether it is that, no call can
+ * tell:
+ * - Ten years are few. Palmer asks for a long series of years, and took 71 for western Kansas, 27 for central
+ *   Iowa, 30 for northwestern North Dakota. In ten, one very wet May is a tenth of all that is known of May.
+ * - A drought in most years of the record makes drought normal: the next one like it hardly shows. Rain that was
+ *   plenty in most years makes an ordinary year a drought.
+ * - A gauge that was moved, or long stood wrong, has the record of two stations. Repair the wrong months, or take
+ *   those since it was moved.
+ * - Wrong storages at the start go on into the months until the soil is once full or once empty. Where they have
+ *   to be guessed, start in a month when it is surely one of these; or add the months before to a run of their
+ *   own, and start with the storages that it ends with.
+ * - Estimates are taken as if they had been measured. Months filled in with the normal of their name depart too
+ *   little, and every K comes out too large.
+ * - Where every PE of a calendar month was 0 its alpha is 0, where Palmer takes 1. The PE of a later month of
+ *   that name then counts for nothing in its CAFEC.
+ * Whoever has the station's own set keeps it. */
+static inline card_worked_out card_work_out_in(card_columns columns, card_run run,
+                                               const int32_t *weights, size_t weights_length);
 
 /* ---- The same calls, each list by itself ---------------------------------------------------------- */
 
@@ -717,6 +863,24 @@ card_shown card_row(card_run run, size_t row,
                     const uint8_t *mark, size_t mark_length,
                     const card_record *records, size_t records_length,
                     const int64_t *v, size_t v_length);
+
+card_summed card_sum_month(card_run run, int32_t month,
+                           const int32_t *x1, size_t x1_length,
+                           const int32_t *x2, size_t x2_length,
+                           const int32_t *x3, size_t x3_length,
+                           const int32_t *index, size_t index_length,
+                           const uint8_t *mark, size_t mark_length,
+                           const card_record *records, size_t records_length,
+                           const int64_t *v, size_t v_length);
+
+card_worked_out card_work_out(card_run run, const int32_t *weights, size_t weights_length,
+                              const int32_t *x1, size_t x1_length,
+                              const int32_t *x2, size_t x2_length,
+                              const int32_t *x3, size_t x3_length,
+                              const int32_t *index, size_t index_length,
+                              const uint8_t *mark, size_t mark_length,
+                              const card_record *records, size_t records_length,
+                              const int64_t *v, size_t v_length);
 
 /* ---- NULL beside the length 0 --------------------------------------------------------------------- */
 
@@ -802,6 +966,19 @@ static inline card_shown card_row_in(card_columns columns, card_run run, size_t 
     card_none none = card_nothing();
     columns = card_not_null(columns, &none);
     return (card_row)(run, row, CARD_EACH(columns));
+}
+
+static inline card_summed card_sum_month_in(card_columns columns, card_run run, int32_t month) {
+    card_none none = card_nothing();
+    columns = card_not_null(columns, &none);
+    return (card_sum_month)(run, month, CARD_EACH(columns));
+}
+
+static inline card_worked_out card_work_out_in(card_columns columns, card_run run,
+                                               const int32_t *weights, size_t weights_length) {
+    card_none none = card_nothing();
+    columns = card_not_null(columns, &none);
+    return (card_work_out)(run, weights_length ? weights : &none.number, weights_length, CARD_EACH(columns));
 }
 
 static inline card_added card_add_water_lent(card_run run, card_reading precipitation, card_reading pe,
@@ -904,6 +1081,44 @@ static inline card_shown card_row_lent(card_run run, size_t row,
                       v_length ? v : &none.v, v_length);
 }
 
+static inline card_summed card_sum_month_lent(card_run run, int32_t month,
+                                              const int32_t *x1, size_t x1_length,
+                                              const int32_t *x2, size_t x2_length,
+                                              const int32_t *x3, size_t x3_length,
+                                              const int32_t *index, size_t index_length,
+                                              const uint8_t *mark, size_t mark_length,
+                                              const card_record *records, size_t records_length,
+                                              const int64_t *v, size_t v_length) {
+    card_none none = card_nothing();
+    return (card_sum_month)(run, month,
+                            x1_length ? x1 : &none.number, x1_length,
+                            x2_length ? x2 : &none.number, x2_length,
+                            x3_length ? x3 : &none.number, x3_length,
+                            index_length ? index : &none.number, index_length,
+                            mark_length ? mark : &none.mark, mark_length,
+                            records_length ? records : &none.record, records_length,
+                            v_length ? v : &none.v, v_length);
+}
+
+static inline card_worked_out card_work_out_lent(card_run run, const int32_t *weights, size_t weights_length,
+                                                 const int32_t *x1, size_t x1_length,
+                                                 const int32_t *x2, size_t x2_length,
+                                                 const int32_t *x3, size_t x3_length,
+                                                 const int32_t *index, size_t index_length,
+                                                 const uint8_t *mark, size_t mark_length,
+                                                 const card_record *records, size_t records_length,
+                                                 const int64_t *v, size_t v_length) {
+    card_none none = card_nothing();
+    return (card_work_out)(run, weights_length ? weights : &none.number, weights_length,
+                           x1_length ? x1 : &none.number, x1_length,
+                           x2_length ? x2 : &none.number, x2_length,
+                           x3_length ? x3 : &none.number, x3_length,
+                           index_length ? index : &none.number, index_length,
+                           mark_length ? mark : &none.mark, mark_length,
+                           records_length ? records : &none.record, records_length,
+                           v_length ? v : &none.v, v_length);
+}
+
 static inline card_started card_start_lent(const int32_t *constants, size_t constants_length,
                                            int32_t capacity, int32_t surface,
                                            int32_t underlying, int32_t month) {
@@ -930,6 +1145,8 @@ static inline uint8_t card_whole_series_lent(const int32_t *z, size_t z_length,
 #define card_add_season(...) card_add_season_lent(__VA_ARGS__)
 #define card_repair(...) card_repair_lent(__VA_ARGS__)
 #define card_row(...) card_row_lent(__VA_ARGS__)
+#define card_sum_month(...) card_sum_month_lent(__VA_ARGS__)
+#define card_work_out(...) card_work_out_lent(__VA_ARGS__)
 
 #ifdef __cplusplus
 }

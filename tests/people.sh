@@ -1,6 +1,7 @@
 #!/bin/sh
-# What people touch: the two station programs on good and bad files (station.py) and on files of repairs (repairs.py), the
-# wrappers of host/ (wrappers.py), and what README.md says and shows (readme.py).
+# What people touch: the two station programs on good and bad files (station.py), on files of repairs (repairs.py) and on
+# files of which the constants are worked out (constants.py), the wrappers of host/ (wrappers.py), and what README.md says and
+# shows (readme.py).
 set -eu
 cd "$(dirname "$0")/.."
 . host/setup.sh
@@ -15,5 +16,6 @@ export STATION_C="$RUN $OUT/station-c" STATION_RUST="$RUN $OUT/station-rust"
 export STATION_Z_C="$RUN $OUT/station-z-c" STATION_Z_RUST="$RUN $OUT/station-z-rust"
 python3 tests/station.py
 python3 tests/repairs.py
+python3 tests/constants.py
 python3 tests/wrappers.py
 CC="$CC" RUN="$RUN" python3 tests/readme.py

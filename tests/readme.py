@@ -1,12 +1,15 @@
 #!/usr/bin/env python3
 """Holds README.md to what it says and shows: its commands print what it shows of them, its C compiles without a warning
-and prints what it says, its way from a CSV comes to the sample's own figures, a trace and repairs are printed as it shows,
-its table of refusals has the words of the header and of the programs. And docs/MIRROR.md: every command of it prints what
+and prints what it says, its way from a CSV comes to the sample's own figures, a trace, repairs and lost constants are printed
+as it shows, a month's constants come out by hand as it reckons them, its table of refusals has the words of the header and
+of the programs. And docs/MIRROR.md: every command of it prints what
 stands below it. And docs/RULES.md: every definition that it names is in the file that it names, with the number that it
 says. And the two groups of each crate's specs/Lib.antt: nothing that must be believed uses what only a proof wants. CC and
 RUN, from the environment, are how C is compiled and run (host/setup.sh).
 """
+import contextlib
 import glob
+import math
 import os
 import re
 import shlex
@@ -139,12 +142,18 @@ def c_program():
         sys.exit('readme: the program in C has grown')
 
 
-def station():
-    """From a CSV to an index, in a folder with nothing but links; the line that is told of a comma; and the two rows of a
-    trace."""
+@contextlib.contextmanager
+def links():
+    """A folder with nothing but links."""
     with tempfile.TemporaryDirectory() as folder:
         for name in ('host', 'samples', 'include', 'crates', 'target', 'crates.txt'):
             os.symlink(os.path.join(TOP, name), os.path.join(folder, name))
+        yield folder
+
+
+def station():
+    """From a CSV to an index; the line that is told of a comma; and the two rows of a trace."""
+    with links() as folder:
         out = printed(block('host/csv samples'), cwd=folder)[0]
         if out != printed('host/station samples/western-kansas-station.txt')[0]:
             sys.exit('readme: the way from a CSV does not come to the figures of the sample')
@@ -161,6 +170,34 @@ def station():
             sys.exit('readme: a trace is not printed as README.md shows')
 
 
+def constants():
+    """The month that README reckons by hand: its figures are those of the output, and the quotients come to its constants;
+    so do its K' and, from the months as they are added anew, its D."""
+    rows = [line.split() for line in printed(block('host/constants samples/thirty-years-station.txt\n'))[0].split('\n')]
+    (_, *sums), (_, d, weight, _), (_, *wanted) = [[row[0], *map(int, row[1:])] for row in rows if row[0:1] == ['May']]
+    et, pe, r, _, ro, _, _, _ = sums
+    total = next(int(row[1]) for row in rows if row[0:1] == ['sum'])
+    reckoned = [(10000, *sums[at:at + 2]) for at in range(0, 8, 2)] + [(176700000, weight, total)]
+    by_hand = [body for language, body in BLOCKS if body.startswith('alpha ')][0]
+    said = re.findall(r'^\w+ +(\d+) x (\d+) / (\d+) = (\d+)\.(\d)  ', by_hand, re.M)
+    if [tuple(map(int, line[:3])) for line in said] != reckoned:
+        sys.exit('readme: the figures that README.md reckons May from are not those that are printed')
+    for (scale, a, b), (_, _, _, whole, tenth), constant in zip(reckoned, said, wanted):
+        tenths, nearest = ((2 * times * scale * a + b) // (2 * b) for times in (10, 1))
+        if (tenths, nearest) != (10 * int(whole) + int(tenth), constant):
+            sys.exit('readme: %d x %d / %d does not come to %d' % (scale, a, b, constant))
+    first_weight = 1.5 * math.log10(((pe + r + ro) / (et + r + ro) + 2.80) / (d / 1000)) + 0.50
+    if "May it comes to %.4f, which is written %.0f." % (first_weight, 10000 * first_weight) not in README:
+        sys.exit("readme: the K' of May is %f" % first_weight)
+    years = range(int(rows[0][2]), int(rows[0][4]) + 1)
+    with links() as folder:
+        out = printed(block('tail -n 13'), cwd=folder)[0]
+    added = [line.split() for line in out.split('month X1')[0].split('\n')[1:-1]]
+    sizes = [abs(int(row[1]) - int(row[3])) for row in added if row[0][5:] == '05' and int(row[0][:4]) in years]
+    if (2 * sum(sizes) + len(sizes)) // (2 * len(sizes)) != d or 'the D of May, %d.' % d not in README:
+        sys.exit('readme: the D of May is not that of the months added anew')
+
+
 def refusals():
     """README's table has the header's words, for 13 the program's, and 14 to 16, which are the division file's."""
     table = {int(number): words for number, words in re.findall(r'^\| (\d+) \| (.*) \|$', README, re.M)}
@@ -168,7 +205,7 @@ def refusals():
     header = {int(names[name]): words for name, words in re.findall(r'case (CARD_\w+): return "(.*)";', text('include', 'card.h'))}
     numbers = dict(re.findall(r'^pub const (\w+): u8 = (\d+);$', text('host', 'card.rs'), re.M))
     rust = {int(numbers[name]): words for name, words in re.findall(r'^\s*([A-Z]\w+) => "(.*)",$', text('host', 'card.rs'), re.M)}
-    if sorted(table) != list(range(18)) + [21] or {k: v for k, v in table.items() if k not in range(13, 17)} != header or header != rust:
+    if sorted(table) != list(range(22)) or {k: v for k, v in table.items() if k not in range(13, 17)} != header or header != rust:
         sys.exit('readme: the table of refusals differs from card_meaning of include/card.h, or meaning of host/card.rs')
     if not program.MEANS[13].endswith(b'13 means: ' + table[13].encode() + b'\n'):
         sys.exit('readme: 13 is told otherwise by palmer')
@@ -180,8 +217,10 @@ def main():
     shown(block('host/division 14 07'), next(lines for lines in blocks if lines[0].startswith('2019')))
     shown('host/station samples/western-kansas-station.txt', next(lines for lines in blocks if lines[0].startswith('1932-06 5560')))
     shown(block('host/repair samples'), next(lines for lines in blocks if lines[0].startswith('repair 1934-02')))
+    shown(block('host/constants samples/thirty-years-station.txt\n'), next(lines for lines in blocks if lines[0].startswith('years 30')))
     c_program()
     station()
+    constants()
     refusals()
     mirror()
     print('readme: its commands, its C, its way from a CSV and its table are as it says, and so is docs/MIRROR.md; the %d definitions that docs/RULES.md names are there' % rules())

@@ -341,6 +341,7 @@ def bad_files():
         ('inches for millimetres', WHOLE, metric, b'repairs, line 1, column 9: "inches" is not the station file\'s unit; expected: repairs millimetres\n'),
         # the station file's format, then that of the repairs, then what the library refuses of either
         ('both files bad', b'x\n', b'y\n', b'line 1, column 1: "y" is not known here'),
+        ('weights', WHOLE, GOOD.replace(b'constants alpha beta gamma delta K', b'weights'), b'line 4: weights and no constants; host/constants works the constants out of this file\n'),
         ('a month too many before a bad repair', b'x\n', station.months(MOST + 1), b'repairs, line 1, column 1: "x" is not known here'),
         ('a month too many', joined([b'repairs inches', b'1700-01 - -', b'end']), station.months(MOST + 1), b'line %d, column 1: 2700-01 is refused (10: ' % (FIRST + MOST)),
         ('a repair of every month, and more of them than a run holds', joined([b'repairs inches'] + [date(12 * 1700 + i) + b' = =' for i in range(MOST + 1)] + [b'end']), station.months(MOST + 1), b'line %d, column 1: 2700-01 is refused (10: ' % (FIRST + MOST)),

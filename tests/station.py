@@ -5,7 +5,7 @@ Both must print the same on standard output and on standard error and end with t
 asked that every month is as tests/source_tables.py reckons it, T where its precipitation was a trace. Of a bad file it is
 asked that the status is 1, that standard output is empty, and that standard error is one closed line with the line and
 the column of the fault and the words that tell it from the others. It prints how many cases were run. The same programs
-with --repair are for tests/repairs.py.
+with --repair are for tests/repairs.py, and with --constants for tests/constants.py.
 
 How the programs are started is told by STATION_C and STATION_RUST, in words as the shell has them; without them
 target/host/station-c and target/host/station-rust are run, as host/run builds them. STATION_Z_C and STATION_Z_RUST
@@ -329,6 +329,16 @@ def order_cases():
     yield 'an empty line after 9999-12', last.replace(b'end', b'\nend'), FIRST + 2, None, b'it is empty; expected: end\n'
 
 
+def weights_cases():
+    """Weights in the place of the constants, which only --constants takes (tests/constants.py), whatever follows them."""
+    words = b'weights and no constants; host/constants works the constants out of this file\n'
+    weights = [b'weights'] + [text.split(b' ')[0] + b' 10000' for text in LINES[CONSTANTS:DECEMBER]]
+    yield 'weights', b''.join(line + b'\n' for line in LINES[:CONSTANTS - 1] + weights + LINES[DECEMBER:]), CONSTANTS, None, words
+    yield 'the heading of weights', changed(CONSTANTS, b'  weights 1'), CONSTANTS, None, words
+    yield 'weights and a comment', inserted(CONSTANTS, b'# lost', b'weights'), CONSTANTS + 1, None, words
+    yield 'weights after the constants', inserted(MONTHS, *weights), MONTHS, 1, b'"weights" is not known here; expected: months inches, or months millimetres\n'
+
+
 def end_cases():
     """Files that are cut short, or go on after their end."""
     cut = b'the file ends without its last line, end; it may be cut short'
@@ -613,7 +623,7 @@ def refused(name, arguments, printed, status, begins, words):
 
 def bad_files(count):
     seen = {}
-    for group, ways in ((number_cases, WAYS[:1]), (byte_cases, WAYS[:1]), (line_cases, WAYS[:1]), (order_cases, WAYS[:1]), (end_cases, WAYS[::2]), (library_cases, WAYS)):
+    for group, ways in ((number_cases, WAYS[:1]), (byte_cases, WAYS[:1]), (line_cases, WAYS[:1]), (order_cases, WAYS[:1]), (weights_cases, WAYS), (end_cases, WAYS[::2]), (library_cases, WAYS)):
         for name, data, line, column, words in group():
             begins = b'station: line %d: ' % line if column is None else b'station: line %d, column %d: ' % (line, column)
             # the same file is told in the same words, whatever it is called
@@ -708,7 +718,7 @@ def arguments_cases(count):
     for data in (b'', GOOD):
         out, err, status = agree('help', ('--help',), data)
         tables = (SINGLY[0], ROWS[0], WATER[0], SEASONS[0])
-        if err or status or not all(words in out for words in (b'[MONTHS] <FILE', b'--repair REPAIRS <FILE', b'samples/western-kansas-station.txt', b'samples/western-kansas-repairs.txt', b'README.md', b'1 to %d' % MOST, b'Status: 0 ', b'T for a month', *tables)):
+        if err or status or not all(words in out for words in (b'[MONTHS] <FILE', b'--repair REPAIRS <FILE', b'--constants <FILE', b'samples/western-kansas-station.txt', b'samples/western-kansas-repairs.txt', b'README.md', b'1 to %d' % MOST, b'Status: 0 ', b'T for a month', *tables)):
             sys.exit('station: --help: status %d, %r, %r' % (status, out, err))
         count['arguments'] += 1
 

@@ -26,6 +26,7 @@ def kept(*path):
 STATION = kept('samples', 'western-kansas-station.txt')
 REPAIRS = kept('samples', 'western-kansas-repairs.txt')
 REPAIRS_FILE = os.path.join(TOP, 'samples', 'western-kansas-repairs.txt')
+LOST = kept('samples', 'thirty-years-station.txt')
 SERIES = kept('samples', 'western-kansas.txt')
 ROWS = kept('crates', 'palmer', 'stdout')
 DIVISION = kept('crates', 'division', 'stdin')
@@ -261,7 +262,76 @@ def repairs(singly):
     asked('repair: a folder', ran(['repair', TOP], STATION), 2, b'', b' is a folder')
 
 
-HELP = [['palmer'], ['division'], ['station'], ['repair'], ['run'], ['start'], ['csv']]
+def put_back(data, section):
+    """A station file with these thirteen lines in the place of its constants or weights."""
+    lines = data.split(b'\n')
+    at = next(i for i, line in enumerate(lines) if line.split(b' ')[0] in (b'weights', b'constants'))
+    return b'\n'.join(lines[:at] + section + lines[at + 13:])
+
+
+# a line of the station file with weights, another in its place, and what is said of it
+NO_WEIGHTS = [
+    (b'weights', b'weight', b'column 1: "weight" is not known here; expected: constants alpha beta gamma delta K, or weights'),
+    (b'weights', b"weights K'", b'column 9: a second word, "K\'"; expected: weights'),
+    (b'March 16000', b'March 1,6', b'column 8: a comma in "1,6"'),
+    (b'March 16000', b'March 1.6', b'column 8: a point in "1.6"; expected: a whole number of ten-thousandths'),
+    (b'March 16000', b'March 160000', b'column 7: weight 160000 is refused (3: a constant outside its range), weight is 0 to 100000'),
+    (b'March 16000', b'March 0', b'column 7: weight 0 is refused (21: a K of 0, by which a month counts for nothing), the K of March comes to 0'),
+    (b'March 16000', b'April 16000', b'column 1: April here, and March was to follow; the weights stand from January to December'),
+    (b'1930-08 2.03 4.98', b'1930-08 - 4.98', b'column 9: precipitation is missing (8: reading missing); README.md, "Missing months", says what to do'),
+]
+
+
+def constants():
+    """Constants worked out of a record, from any folder and by any way; put back they serve; a file with weights serves for
+    nothing else; and files of which none come."""
+    status, worked, err = ran(['constants'], LOST)
+    lines = worked.split(b'\n')
+    if (status, err, len(lines)) != (0, b'', 42) or (lines[0], lines[-14]) != (b'years 30 1931 to 1960', b'constants alpha beta gamma delta K'):
+        sys.exit('wrappers: constants: %r' % ((status, worked[:200], err),))
+    again = put_back(LOST, lines[-14:-1])
+    with tempfile.TemporaryDirectory() as folder:
+        inner = os.path.join(folder, 'a folder')
+        os.mkdir(inner)
+
+        def write(name, data):
+            with open(os.path.join(inner, name), 'wb') as f:
+                f.write(data)
+
+        write('-lost.txt', LOST)
+        for place, prefix in ((inner, './'), (folder, 'a folder/')):
+            asked('constants in a folder', ran(['constants', prefix + '-lost.txt'], cwd=place), 0, worked, None)
+        linked = os.path.join(folder, 'linked')
+        os.symlink(os.path.join(HOST, 'constants'), linked)
+        asked('constants by a link', ran([linked, './-lost.txt'], cwd=inner), 0, worked, None)
+        told = b'station: line %d: weights and no constants; host/constants works the constants out of this file' % (LOST.split(b'\n').index(b'weights') + 1)
+        for words in (['station'], ['station', '--season', '6'], ['repair', REPAIRS_FILE], ['run']):
+            asked('%s of weights' % words[0], ran(words + ['./-lost.txt'], cwd=inner), 1, b'', told)
+        write('found.txt', again)
+        status, out, err = ran(['station', 'found.txt'], cwd=inner)
+        if (status, err, out.count(b'\n')) != (0, b'', 3 * 367 + 3):
+            sys.exit('wrappers: station of the constants: %r' % ((status, out[:200], err),))
+        status, both, err = ran(['run', 'found.txt'], cwd=inner)
+        if (status, err) != (0, b'') or not both.startswith(out):
+            sys.exit('wrappers: run of the constants: %r' % ((status, both[:200], err),))
+        status, out, err = ran(['constants', 'found.txt'], cwd=inner)
+        if (status, err) != (0, b'') or out.split(b'\n')[:14] != lines[:14]:
+            sys.exit('wrappers: constants of the constants: %r' % ((status, out[:200], err),))
+        # a CSV of the same months, beside a soil with weights
+        months = [line.replace(b' ', b',') for line in LOST.split(b'\n') if line[:2] == b'19']
+        write('months.csv', HEADING + b''.join(line + b'\n' for line in months))
+        asked('csv of weights', ran(['csv', './-lost.txt', 'months.csv', 'made.txt'], cwd=inner), 0, b'', None)
+        asked('constants of a csv', ran(['constants', 'made.txt'], cwd=inner), 0, worked, None)
+    for old, new, words in NO_WEIGHTS:
+        at = LOST.split(b'\n').index(old) + 1
+        asked('constants: %s' % new.decode(), ran(['constants'], LOST.replace(b'\n' + old + b'\n', b'\n' + new + b'\n')), 1, b'', b'station: line %d, %s' % (at, words))
+    asked('constants: cut short', ran(['constants'], LOST[:-4]), 1, b'', b'the file ends without its last line, end; it may be cut short')
+    asked('constants: too few years', ran(['constants'], STATION), 1, b'', b'station: the constants are refused (18: fewer than ten whole years, or one with a month without water), 1932-06 to 1935-05 has 2 whole years, January to December, and ten are needed')
+    asked('constants: a thin soil', ran(['constants'], LOST.replace(b'capacity 6000', b'capacity 100').replace(b'surface 400', b'surface 0').replace(b'underlying 2120', b'underlying 0')), 1, b'', b'station: the gamma of February is refused (19: a gamma worked out is outside its range), 10000 x RO 15620 / PRO 2890 is 54048, and gamma is 0 to 50000')
+    asked('constants: one weight large', ran(['constants'], put_back(LOST, [b'weights'] + [line.split(b' ')[0] + (b' 100000' if line.startswith(b'May') else b' 1') for line in lines[-13:-1]])), 1, b'', b'station: the constants are refused (20: no departures to weigh, or a K worked out is outside its range), every D x weight is 0, or a K is above 100000')
+
+
+HELP = [['palmer'], ['division'], ['station'], ['repair'], ['constants'], ['run'], ['start'], ['csv']]
 WRONG = [
     (['palmer', '-x'], b'there is no option -x'),
     (['palmer', 'a', 'b'], b'one FILE at most'),
@@ -287,6 +357,10 @@ WRONG = [
     (['repair', REPAIRS_FILE, ''], b'the name of FILE is empty'),
     (['repair', 'a', 'b', 'c'], b'one FILE at most'),
     (['repair', '--season', '6'], b'there is no option --season'),
+    (['constants', 'a', 'b'], b'one FILE at most'),
+    (['constants', ''], b'the name of FILE is empty'),
+    (['constants', '--season', '6'], b'there is no option --season'),
+    (['station', '--constants'], b'there is no option --constants'),
     (['run', 'a', 'b'], b'one FILE at most'),
     (['run', '--season', '6'], b'there is no option --season'),
     (['start'], b'a PROGRAM is asked for'),
@@ -312,6 +386,10 @@ def arguments():
     for heading in (b'month index_before index_after mark_before mark_after', b'month X1 X2 X3 index modified mark', b'month P PE ET R L RO surface underlying', b'samples/western-kansas-repairs.txt'):
         if heading not in help_text:
             sys.exit('wrappers: repair --help does not have %r' % heading)
+    help_text = ran(['constants', '--help'])[1]
+    for heading in (b'month ET PE R PR RO PRO L PL', b'month D weight product', b'constants alpha beta gamma delta K', b'samples/thirty-years-station.txt', b'K = 176700000 x weight / SUM'):
+        if heading not in help_text:
+            sys.exit('wrappers: constants --help does not have %r' % heading)
     for words, said in WRONG:
         asked(' '.join(words), ran(words), 2, b'', said)
     with open(os.path.join(TOP, 'samples', 'western-kansas-station.txt'), 'rb') as f:
@@ -319,7 +397,7 @@ def arguments():
 
 
 def unreadable():
-    for words in (['palmer'], ['division', '1', '1'], ['station'], ['repair', REPAIRS_FILE], ['run']):
+    for words in (['palmer'], ['division', '1', '1'], ['station'], ['repair', REPAIRS_FILE], ['constants'], ['run']):
         asked('no file', ran(words + ['there-is-none']), 2, b'', b'the input cannot be read: there-is-none: there is no such file')
         asked('a folder', ran(words + [TOP]), 2, b'', b' is a folder')
         if words[0] != 'run':
@@ -331,7 +409,7 @@ def unreadable():
 
 def unwritten():
     """Output that is closed, full, or that nobody reads, of good input and of bad."""
-    cases = [(['palmer'], SERIES), (['palmer'], b'x\n'), (['division', '14', '7'], DIVISION), (['division', '1', '1'], b''), (['station'], STATION), (['repair', REPAIRS_FILE], STATION), (['run'], b''), (['palmer', '--help'], b''), (['csv', '-h'], b'')]
+    cases = [(['palmer'], SERIES), (['palmer'], b'x\n'), (['division', '14', '7'], DIVISION), (['division', '1', '1'], b''), (['station'], STATION), (['repair', REPAIRS_FILE], STATION), (['constants'], LOST), (['run'], b''), (['palmer', '--help'], b''), (['csv', '-h'], b'')]
     for words, data in cases:
         with open('/dev/full', 'wb') as full:
             asked('full', ran(words, data, out=full), 3, b'', b'output cannot be written')
@@ -354,6 +432,7 @@ def built_once():
     ran(['division', '1', '1'])
     ran(['station'])
     ran(['repair', REPAIRS_FILE])
+    ran(['constants'])
     ran(['run'])
     if before != [os.stat(path).st_mtime_ns for path in made]:
         sys.exit('wrappers: a second run builds again')
@@ -371,6 +450,7 @@ def main():
     from_csv(singly)
     traces()
     repairs(singly)
+    constants()
     stories()
     arguments()
     unreadable()

@@ -32,6 +32,7 @@ pub fn calls(c: &mut Check, run: &Run, lists: &mut Lists) {
     for row in [0, run.months.wrapping_sub(1) as usize, run.months as usize] {
         c.row(run, row, lists);
     }
+    c.both(run, lists);
     c.untouched(run, lists);
 }
 

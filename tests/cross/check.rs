@@ -2,6 +2,7 @@
 
 use crate::add::Add;
 use crate::card::{Added, Run, Values};
+use crate::constants::Worked;
 use crate::mirror::Turned;
 use crate::modified::{self, Mixed};
 use crate::random::Random;
@@ -21,14 +22,27 @@ pub enum Call {
     AddSeason,
     Repair,
     Row,
+    SumMonth,
+    WorkOut,
     WholeSeries,
 }
 
-const CALLS: [&str; 9] =
-    ["read", "start", "add water", "add inches", "add Z", "add season", "repair", "row", "whole series"];
+const CALLS: [&str; 11] = [
+    "read",
+    "start",
+    "add water",
+    "add inches",
+    "add Z",
+    "add season",
+    "repair",
+    "row",
+    "sum month",
+    "work out",
+    "whole series",
+];
 
 /// The numbers that a call may answer with.
-const NUMBERS: [usize; 15] = [0, 1, 2, 3, 4, 5, 6, 7, 8, 9, 10, 11, 12, 17, 21];
+const NUMBERS: [usize; 18] = [0, 1, 2, 3, 4, 5, 6, 7, 8, 9, 10, 11, 12, 17, 18, 19, 20, 21];
 
 pub fn differ(call: Call, inputs: &dyn Debug, library: &dyn Debug, reference: &dyn Debug) -> ! {
     println!("difference at {}", CALLS[call as usize]);
@@ -61,6 +75,8 @@ pub struct Seasons {
 
 pub struct Check {
     pub random: Random,
+    /// A second one, from the same seed.
+    pub apart: Random,
     kinds: Vec<(&'static str, u64)>,
     kind: usize,
     refused: [[u64; 22]; CALLS.len()],
@@ -71,12 +87,14 @@ pub struct Check {
     pub mixed: Mixed,
     pub told: Told,
     pub repairs: Repairs,
+    pub worked: Worked,
 }
 
 impl Check {
     pub fn new(seed: u64) -> Check {
         Check {
             random: Random(seed),
+            apart: Random(seed),
             kinds: Vec::new(),
             kind: 0,
             refused: [[0; 22]; CALLS.len()],
@@ -87,6 +105,7 @@ impl Check {
             mixed: Mixed::default(),
             told: Told::default(),
             repairs: Repairs::default(),
+            worked: Worked::default(),
         }
     }
 
@@ -164,6 +183,7 @@ impl Check {
         self.mixed.print();
         self.told.print();
         self.repairs.print();
+        self.worked.print();
         println!();
         let cases: u64 = self.kinds.iter().map(|kind| kind.1).sum();
         println!("cross-check: {cases} cases, no difference");

@@ -60,6 +60,12 @@ pub fn record(numbers: [i32; NUMBERS]) -> Record {
     Record { z, p, pe, et, r, l, ro, ss, su, surface, underlying, water, modified, kind }
 }
 
+/// The numbers of a record, in their order.
+pub fn in_order(record: &Record) -> [i32; NUMBERS] {
+    let Record { z, p, pe, et, r, l, ro, ss, su, surface, underlying, water, modified, kind } = *record;
+    [z, p, pe, et, r, l, ro, ss, su, surface, underlying, water, modified, kind]
+}
+
 /// All numbers of these records in a row, as they lie in memory: to be compared at one go.
 fn in_a_row(records: &[Record]) -> &[i32] {
     // A record is fourteen i32 and nothing between them.

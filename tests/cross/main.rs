@@ -1,10 +1,10 @@
 //! Calls the library and the reference on the same inputs and compares everything: every field of the answer, the
 //! run handed back, and every place of every list lent, with some places before and after it that nobody lent; the
 //! records and V of long columns not all of them each time (`Lists::agree_after`). A season is compared with the
-//! library's single adds of its months as well, a repair with a fresh run over the corrected months, readings are held
-//! to the exact computation, and so are the kinds of those that are added, and modified indexes to one in 128 bits. At the
-//! first difference it prints the call, its inputs and the outcomes, and ends with status 1. An argument multiplies the
-//! random cases.
+//! library's single adds of its months as well, a repair with a fresh run over the corrected months, constants worked out with
+//! the adds that they are worked out of, readings are held to the exact computation, and so are the kinds of those that are
+//! added, and modified indexes to one in 128 bits. At the first difference it prints the call, its inputs and the outcomes, and
+//! ends with status 1. An argument multiplies the random cases.
 
 mod add;
 mod add_inches;
@@ -14,6 +14,12 @@ mod all_calls;
 #[path = "../../host/card.rs"]
 mod card;
 mod check;
+mod constants;
+mod constants_asked;
+mod constants_exact;
+mod constants_refusals;
+mod constants_rows;
+mod constants_runs;
 mod conversion;
 mod ends;
 mod lists;
@@ -85,5 +91,11 @@ fn main() {
     repair_runs::repairs(&mut check, times);
     repair_rows::rows(&mut check, times);
     repair_refusals::refusals(&mut check, times);
+    constants_runs::runs(&mut check, times);
+    constants_rows::rows(&mut check, times);
+    constants_asked::asked(&mut check);
+    constants_exact::exact(&mut check);
+    constants_refusals::refusals(&mut check);
+    check.worked.assert_many();
     check.print();
 }

@@ -1,8 +1,9 @@
 //! Document 01 in plain Rust and in its order, with document 02's season in one call (E2), modified index (E4), thin soils
-//! (E5), rows that show the water (E6), trace rain (E7), repaired months (E8, in reference_repair.rs), longer lists (E9) and
-//! refused zero K (E11), written from these two alone, but for the repair, for the library to be compared with and measured
-//! against. The sentences quoted in the comments are the documents'. It shares the library's data types and nothing else. A
-//! call borrows the run and changes it only where it does what it was asked, a season month by month.
+//! (E5), rows that show the water (E6), trace rain (E7), repaired months (E8, in reference_repair.rs), longer lists (E9),
+//! station constants (E10, in reference_constants.rs) and refused zero K (E11), written from these two alone, but for the
+//! repair, for the library to be compared with and measured against. The sentences quoted in the comments are the documents'.
+//! It shares the library's data types and nothing else. A call borrows the run and changes it only where it does what it was
+//! asked, a season month by month.
 #![allow(dead_code)]
 
 use crate::card::{
@@ -10,6 +11,8 @@ use crate::card::{
 };
 use std::ops::RangeInclusive;
 
+#[path = "reference_constants.rs"]
+pub mod constants;
 #[path = "reference_repair.rs"]
 pub mod repairing;
 
@@ -60,6 +63,9 @@ pub enum Refusal {
     NoRow = 11,
     BadZ = 12,
     Waterless = 17,
+    FewYears = 18,
+    Gamma = 19,
+    K = 20,
     ZeroK = 21,
 }
 

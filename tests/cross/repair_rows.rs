@@ -4,7 +4,7 @@
 use crate::add_water::pick_reading;
 use crate::card::{Columns, Reading, Record, Run, Soil};
 use crate::check::{differ, Call, Check};
-use crate::lists::{record, Fill, Lists, Seven, NUMBERS};
+use crate::lists::{in_order, record, Fill, Lists, Seven, NUMBERS};
 use crate::random::Random;
 use crate::reference::{layers, MOST_MONTHS, MOST_Z};
 use crate::repair::Repair;
@@ -123,12 +123,12 @@ fn in_turn(c: &mut Check, mut run: Run, mut lists: Lists, spoiled: bool) {
 // ---- Figures at their ends ---------------------------------------------------------------------------------
 
 /// The figures of a row: X1, X2, X3, index, mark, V and the numbers of the record.
-const FIGURES: usize = 6 + NUMBERS;
-const V: usize = 5;
-const RECORD: usize = 6;
+pub const FIGURES: usize = 6 + NUMBERS;
+pub const V: usize = 5;
+pub const RECORD: usize = 6;
 
 /// Sets a figure of a row to as much of the value as it takes.
-fn set(k: &mut Columns, row: usize, figure: usize, value: i64) {
+pub fn set(k: &mut Columns, row: usize, figure: usize, value: i64) {
     let number = value as i32;
     match figure {
         0 => k.x1[row] = number,
@@ -138,9 +138,7 @@ fn set(k: &mut Columns, row: usize, figure: usize, value: i64) {
         4 => k.mark[row] = value as u8,
         V => k.v[row] = value,
         _ => {
-            let Record { z, p, pe, et, r, l, ro, ss, su, surface, underlying, water, modified, kind } =
-                k.records[row];
-            let mut all = [z, p, pe, et, r, l, ro, ss, su, surface, underlying, water, modified, kind];
+            let mut all = in_order(&k.records[row]);
             all[figure - RECORD] = number;
             k.records[row] = record(all);
         }

@@ -1,8 +1,8 @@
 /* Tries what include/card.h adds to the library for C: NULL beside the length 0, the columns as one struct, the
  * meanings of the numbers, and what it says of records, of the modified index, of traces, of runs and columns that
- * do not belong together, of missing months and of repairs, which repairs.h has. The library's own functions, asked
- * with valid pointers, are what the header's are held to. It is linked so that every call of the library is watched
- * for NULL: see tests/header/run. */
+ * do not belong together, of missing months, of repairs, which repairs.h has, and of constants that are worked out
+ * again, which constants.h has. The library's own functions, asked with valid pointers, are what the header's are held
+ * to. It is linked so that every call of the library is watched for NULL: see tests/header/run. */
 #include "card.h"
 
 #include <stddef.h>
@@ -53,11 +53,14 @@ static void watch(const char *where, int good) {
 #define HANDED x1, n1, x2, n2, x3, n3, i, ni, m, nm, r, nr, v, nv
 #define NONE_NULL (x1 && x2 && x3 && i && m && r && v)
 
-/* The columns that the last call of the library was handed, and their lengths; and the report of the last repair. */
+/* The columns that the last call of the library was handed, and their lengths; the report of the last repair, and the
+ * weights of the last constants. */
 static const void *handed[7];
 static size_t handed_lengths[7];
 static const card_change *handed_report;
 static size_t handed_report_length;
+static const int32_t *handed_weights;
+static size_t handed_weights_length;
 
 static void note(LENT_TO_READ) {
     const void *at[7] = {x1, x2, x3, i, m, r, v};
@@ -118,6 +121,22 @@ card_shown __wrap_card_row(card_run run, size_t row, LENT_TO_READ) {
     return __real_card_row(run, row, HANDED);
 }
 
+card_summed __real_card_sum_month(card_run, int32_t, READ);
+card_summed __wrap_card_sum_month(card_run run, int32_t month, LENT_TO_READ) {
+    watch("card_sum_month", NONE_NULL);
+    note(HANDED);
+    return __real_card_sum_month(run, month, HANDED);
+}
+
+card_worked_out __real_card_work_out(card_run, const int32_t *, size_t, READ);
+card_worked_out __wrap_card_work_out(card_run run, const int32_t *w, size_t nw, LENT_TO_READ) {
+    watch("card_work_out", NONE_NULL && w);
+    note(HANDED);
+    handed_weights = w;
+    handed_weights_length = nw;
+    return __real_card_work_out(run, w, nw, HANDED);
+}
+
 uint8_t __real_card_whole_series(const int32_t *, size_t, int32_t *, size_t, uint8_t *, size_t);
 uint8_t __wrap_card_whole_series(const int32_t *z, size_t nz, int32_t *i, size_t ni, uint8_t *m, size_t nm) {
     watch("card_whole_series", z && i && m);
@@ -162,9 +181,10 @@ static lists fresh_lists(void) {
 
 /* ---- Calls and their answers ---------------------------------------------------------------------- */
 
-enum { WATER, INCHES, Z, SEASON, ROW, REPAIR, KINDS };
+enum { WATER, INCHES, Z, SEASON, ROW, REPAIR, SUM, WORK_OUT, KINDS };
 
-static const char *const KIND_NAMES[KINDS] = {"add water", "add inches", "add Z", "add season", "row", "repair"};
+static const char *const KIND_NAMES[KINDS] = {"add water", "add inches", "add Z",     "add season",
+                                              "row",       "repair",     "sum month", "work out"};
 
 /* A call that takes columns: its kind, and what that kind is asked with. */
 typedef struct call {
@@ -175,6 +195,9 @@ typedef struct call {
     const int32_t *list_p, *list_pe;
     size_t list_p_length, list_pe_length;
     size_t row;
+    int32_t month;
+    const int32_t *weights;
+    size_t weights_length;
 } call;
 
 /* What a call of any kind answered; what its kind does not answer is 0. */
@@ -186,6 +209,8 @@ typedef struct answer {
     card_shown shown;
     uint32_t changed;
     card_change report[MONTHS]; /* as far as it is that long, and all 0 where the call is refused */
+    card_summed summed;
+    card_worked_out worked_out;
 } answer;
 
 static answer of_added(card_added a) {
@@ -207,11 +232,27 @@ static answer of_season(card_season s) {
     return made;
 }
 
-/* A row hands back no run: the one it was asked with stands there. */
+/* A row hands back no run: the one it was asked with stands there. So it is with the next two. */
 static answer of_shown(card_shown s, card_run run) {
     answer made = {0};
     made.number = s.number;
     made.shown = s;
+    made.run = run;
+    return made;
+}
+
+static answer of_summed(card_summed s, card_run run) {
+    answer made = {0};
+    made.number = s.number;
+    made.summed = s;
+    made.run = run;
+    return made;
+}
+
+static answer of_worked_out(card_worked_out w, card_run run) {
+    answer made = {0};
+    made.number = w.number;
+    made.worked_out = w;
     made.run = run;
     return made;
 }
@@ -248,6 +289,7 @@ static answer of_repaired(card_repaired a, size_t length) {
                 (k).index, (k).index_length, (k).mark, (k).mark_length, \
                 (k).records, (k).records_length, (k).v, (k).v_length
 #define SEASON_OF(c) (c).list_p, (c).list_p_length, (c).list_pe, (c).list_pe_length
+#define WEIGHTS_OF(c) (c).weights, (c).weights_length
 
 /* By the library's own functions, which take no NULL. */
 static answer by_library(call c, card_run run, card_columns k) {
@@ -258,6 +300,8 @@ static answer by_library(call c, card_run run, card_columns k) {
     case Z: return of_added((card_add_z)(run, c.z, EACH(k)));
     case SEASON: return of_season((card_add_season)(run, SEASON_OF(c), EACH(k)));
     case REPAIR: return of_repaired((card_repair)(run, c.row, c.p, c.pe, EACH(k), lent_report(n), n), n);
+    case SUM: return of_summed((card_sum_month)(run, c.month, EACH(k)), run);
+    case WORK_OUT: return of_worked_out((card_work_out)(run, WEIGHTS_OF(c), EACH(k)), run);
     default: return of_shown((card_row)(run, c.row, EACH(k)), run);
     }
 }
@@ -271,6 +315,8 @@ static answer by_lists(call c, card_run run, card_columns k) {
     case Z: return of_added(card_add_z(run, c.z, EACH(k)));
     case SEASON: return of_season(card_add_season(run, SEASON_OF(c), EACH(k)));
     case REPAIR: return of_repaired(card_repair(run, c.row, c.p, c.pe, EACH(k), lent_report(n), n), n);
+    case SUM: return of_summed(card_sum_month(run, c.month, EACH(k)), run);
+    case WORK_OUT: return of_worked_out(card_work_out(run, WEIGHTS_OF(c), EACH(k)), run);
     default: return of_shown(card_row(run, c.row, EACH(k)), run);
     }
 }
@@ -284,6 +330,8 @@ static answer by_columns(call c, card_run run, card_columns k) {
     case Z: return of_added(card_add_z_in(k, run, c.z));
     case SEASON: return of_season(card_add_season_in(k, run, SEASON_OF(c)));
     case REPAIR: return of_repaired(card_repair_in(k, run, c.row, c.p, c.pe, lent_report(n)), n);
+    case SUM: return of_summed(card_sum_month_in(k, run, c.month), run);
+    case WORK_OUT: return of_worked_out(card_work_out_in(k, run, WEIGHTS_OF(c)), run);
     default: return of_shown(card_row_in(k, run, c.row), run);
     }
 }
@@ -316,6 +364,16 @@ static int same_shown(const card_shown *a, const card_shown *b) {
            a->index == b->index && a->mark == b->mark && same_record(&a->month, &b->month) && a->v == b->v;
 }
 
+/* The sums are without gaps; before them is one, after the number. */
+static int same_summed(const card_summed *a, const card_summed *b) {
+    return a->number == b->number && a->years == b->years && memcmp(&a->sums, &b->sums, sizeof a->sums) == 0;
+}
+
+static int same_worked_out(const card_worked_out *a, const card_worked_out *b) {
+    return a->number == b->number && memcmp(a->constants, b->constants, sizeof a->constants) == 0 &&
+           memcmp(a->departures, b->departures, sizeof a->departures) == 0;
+}
+
 static void check_same(const char *where, const answer *a, const answer *b) {
     check_number(where, a->number, b->number);
     check(where, a->added == b->added, "another count of months added");
@@ -325,6 +383,8 @@ static void check_same(const char *where, const answer *a, const answer *b) {
     check(where, same_shown(&a->shown, &b->shown), "another row");
     check(where, a->changed == b->changed && memcmp(a->report, b->report, sizeof a->report) == 0,
           "another report");
+    check(where, same_summed(&a->summed, &b->summed), "other sums");
+    check(where, same_worked_out(&a->worked_out, &b->worked_out), "other constants or departures");
 }
 
 /* An answer that refuses: the number, the run as it was given and all else 0. */
@@ -333,6 +393,8 @@ static void check_refused(const char *where, const answer *a, uint8_t number, ca
     expected.number = number;
     expected.run = given;
     if (a->shown.number != 0) expected.shown.number = number;
+    if (a->summed.number != 0) expected.summed.number = number;
+    if (a->worked_out.number != 0) expected.worked_out.number = number;
     check_same(where, a, &expected);
 }
 
@@ -361,6 +423,10 @@ static int32_t drawn(int32_t low, int32_t high) {
 static const int32_t SEASON_P[3] = {1780, 1530, 1280};
 static const int32_t SEASON_PE[3] = {7040, 5970, 3410};
 
+/* Western Kansas' own, by Palmer's table 9. */
+static const int32_t WEIGHTS[CARD_WEIGHTS] = {22500, 19200, 16000, 13400, 12000, 11200,
+                                              12000, 14500, 16300, 15900, 17800, 19700};
+
 /* A call of this kind that a run of some months accepts. One in four of its readings is a trace. */
 static call good_call(int kind) {
     call c = {0};
@@ -375,6 +441,9 @@ static call good_call(int kind) {
     c.list_p_length = 3;
     c.list_pe = SEASON_PE;
     c.list_pe_length = 3;
+    c.month = drawn(1, 12);
+    c.weights = WEIGHTS;
+    c.weights_length = CARD_WEIGHTS;
     return c;
 }
 
@@ -390,6 +459,9 @@ static void try_meanings(void) {
     for (int i = 0; i < 256; i++) {
         const char *expected = i < 13 ? words[i] : "no number of this library";
         if (i == 17) expected = "no water in that month";
+        if (i == 18) expected = "fewer than ten whole years, or one with a month without water";
+        if (i == 19) expected = "a gamma worked out is outside its range";
+        if (i == 20) expected = "no departures to weigh, or a K worked out is outside its range";
         if (i == 21) expected = "a K of 0, by which a month counts for nothing";
         check("card_meaning", strcmp(card_meaning((uint8_t)i), expected) == 0, expected);
     }
@@ -404,13 +476,18 @@ static void try_sizes(void) {
     check("sizes", sizeof(card_repaired) == 296, "card_repaired is not 296 bytes");
     check("sizes", sizeof(card_change) == 20, "a change is not 20 bytes");
     check("sizes", sizeof(card_shown) == 88, "card_shown is not 88 bytes");
+    check("sizes", sizeof(card_summed) == 40, "card_summed is not 40 bytes");
+    check("sizes", sizeof(card_sums) == 32, "the sums are not 32 bytes");
+    check("sizes", sizeof(card_worked_out) == 292, "card_worked_out is not 292 bytes");
+    check("sizes", CARD_WEIGHTS == 12, "not twelve weights");
     check("sizes", sizeof(card_record) == 56, "a record is not 56 bytes");
     check("sizes", sizeof(lists) == 81 * MONTHS, "a month is not 81 bytes in the columns");
     check("sizes", CARD_MOST_MONTHS == 12000 && 81 * CARD_MOST_MONTHS == 972000, "the longest columns");
     check("sizes", sizeof(card_change) * CARD_MOST_MONTHS == 240000, "the longest report");
 }
 
-/* Where the fields of a record, of the columns, of an answer, of a row, of the figures and of a repair stand. */
+/* Where the fields of a record, of the columns, of an answer, of a row, of the figures, of a repair, of sums and of
+ * constants stand. */
 static void try_offsets(void) {
     static const size_t of_record[14] = {
         offsetof(card_record, z), offsetof(card_record, p), offsetof(card_record, pe), offsetof(card_record, et),
@@ -442,6 +519,14 @@ static void try_offsets(void) {
           offsetof(card_change, mark_after) == 16, "a change in another order");
     check("offsets", offsetof(card_repaired, number) == 0 && offsetof(card_repaired, changed) == 4 &&
           offsetof(card_repaired, run) == 8, "a repair's answer in another order");
+    static const size_t of_sums[8] = {
+        offsetof(card_sums, et), offsetof(card_sums, pe), offsetof(card_sums, r), offsetof(card_sums, pr),
+        offsetof(card_sums, ro), offsetof(card_sums, pro), offsetof(card_sums, l), offsetof(card_sums, pl)};
+    for (size_t i = 0; i < 8; i++) check("offsets", of_sums[i] == 4 * i, "the sums in another order");
+    check("offsets", offsetof(card_summed, number) == 0 && offsetof(card_summed, years) == 4 &&
+          offsetof(card_summed, sums) == 8, "a sum's answer in another order");
+    check("offsets", offsetof(card_worked_out, number) == 0 && offsetof(card_worked_out, constants) == 4 &&
+          offsetof(card_worked_out, departures) == 244, "the answer with constants in another order");
 }
 
 /* The columns with length 0 for each in the set, at the address that they have, or at NULL. */
@@ -516,6 +601,28 @@ static void try_null_season(void) {
         check_refused("season, all NULL", &all_null, CARD_LENGTHS, run);
         check("season, lists NULL", same_lists(&held, &before), "a column was written");
     }
+}
+
+/* The weights: NULL beside 0 is no twelve, after 1 and 7. */
+static void try_null_weights(void) {
+    lists held = fresh_lists();
+    const lists before = held;
+    card_run run = station(), none = run;
+    call c = good_call(WORK_OUT);
+    none.calendar = 0;
+    c.weights_length = 0;
+    answer expected = by_library(c, run, lent(&held, MONTHS));
+    c.weights = NULL;
+    answer lists_null = by_lists(c, run, lent(&held, MONTHS));
+    answer columns_null = by_columns(c, run, lent(&held, MONTHS));
+    answer no_run = by_columns(c, none, lent(&held, MONTHS));
+    answer all_null = by_columns(c, run, emptied(lent(&held, MONTHS), 127, 1));
+    check_refused("work out, weights NULL", &expected, CARD_NOT_SIXTY, run);
+    check_same("work out, weights NULL", &lists_null, &expected);
+    check_same("work out, weights NULL", &columns_null, &expected);
+    check_refused("work out, weights NULL", &no_run, CARD_NOT_A_RUN, none);
+    check_refused("work out, all NULL", &all_null, CARD_LENGTHS, run);
+    check("work out, weights NULL", same_lists(&held, &before), "a column was written");
 }
 
 static void try_null_series(void) {
@@ -646,6 +753,13 @@ static void try_refusals(three *t) {
     refused(t, again, MONTHS, CARD_NO_ROW);
     again.row = SIZE_MAX;
     refused(t, again, MONTHS, CARD_NO_ROW);
+    call sum = good_call(SUM), out = good_call(WORK_OUT);
+    refused(t, sum, MONTHS, CARD_FEW_YEARS);
+    refused(t, out, MONTHS, CARD_FEW_YEARS);
+    sum.month = 13;
+    refused(t, sum, MONTHS, CARD_START_MONTH);
+    out.weights_length = 11;
+    refused(t, out, MONTHS, CARD_NOT_SIXTY);
 }
 
 /* A season that stops at its second month. */
@@ -790,6 +904,8 @@ static void check_not_a_run(const char *where, card_run run, lists *held) {
             c.z = 4000001;
             c.list_p_length = c.list_pe_length = 0;
             c.row = SIZE_MAX;
+            c.month = 0;
+            c.weights_length = 0;
         }
         answer a = by_columns(c, run, lent(held, MONTHS)), b = by_library(c, run, lent(held, MONTHS));
         check_refused(where, &a, CARD_NOT_A_RUN, run);
@@ -1295,13 +1411,15 @@ static void try_lengths(void) {
     static const size_t lengths[] = {2399, 2400, 2401, 11999, 12000, 12001};
     static long_lists held;
     static int32_t z[CARD_MOST_MONTHS + 1];
+    /* a run of no months has no row, and no year */
+    static const uint8_t good[KINDS] = {CARD_DONE,   CARD_DONE,   CARD_DONE,      CARD_DONE,
+                                        CARD_NO_ROW, CARD_NO_ROW, CARD_FEW_YEARS, CARD_FEW_YEARS};
     card_run run = station();
     for (size_t i = 0; i < sizeof lengths / sizeof *lengths; i++) {
         size_t n = lengths[i];
         for (int kind = 0; kind < KINDS; kind++) {
             answer a = by_columns(good_call(kind), run, lent_long(&held, n));
-            uint8_t good = kind >= ROW ? CARD_NO_ROW : CARD_DONE;
-            check_number(KIND_NAMES[kind], a.number, n > 12000 ? CARD_LENGTHS : good);
+            check_number(KIND_NAMES[kind], a.number, n > 12000 ? CARD_LENGTHS : good[kind]);
         }
         uint8_t number = card_whole_series(z, n, held.index, n, held.mark, n);
         check_number("whole series", number, n > 12000 ? CARD_LENGTHS : CARD_DONE);
@@ -1372,6 +1490,8 @@ static card_season (*const add_season)(card_run, const int32_t *, size_t, const 
 static card_repaired (*const repair)(card_run, size_t, card_reading, card_reading, WRITTEN, card_change *, size_t) =
     card_repair;
 static card_shown (*const row_of)(card_run, size_t, READ) = &card_row;
+static card_summed (*const sum_month)(card_run, int32_t, READ) = card_sum_month;
+static card_worked_out (*const work_out)(card_run, const int32_t *, size_t, READ) = &card_work_out;
 static uint8_t (*const series)(const int32_t *, size_t, int32_t *, size_t, uint8_t *, size_t) =
     card_whole_series;
 
@@ -1388,6 +1508,8 @@ static void try_pointers(void) {
     check("function pointers", row_of(run, 0, EACH(k)).x3 == 1000, "X3 is not 1,000 after a Z of 2,999");
     card_repaired same = repair(run, 1, card_whole(5560), card_whole(4800), EACH(k), lent_report(MONTHS), MONTHS);
     check("function pointers", same.number == CARD_DONE && same.changed == 0, "the same readings change a month");
+    check_number("function pointers", sum_month(run, 1, EACH(k)).number, CARD_FEW_YEARS);
+    check_number("function pointers", work_out(run, WEIGHTS, CARD_WEIGHTS, EACH(k)).number, CARD_FEW_YEARS);
     check_number("function pointers", series(SEASON_P, 3, held.index, 3, held.mark, 3), CARD_DONE);
 }
 
@@ -1603,6 +1725,7 @@ static void try_new_run_and_no_rain(void) {
 }
 
 #include "repairs.h"
+#include "constants.h"
 
 int main(void) {
     try_meanings();
@@ -1611,6 +1734,7 @@ int main(void) {
     try_null_columns();
     try_null_constants();
     try_null_season();
+    try_null_weights();
     try_null_series();
     try_zeros();
     try_unequal();
@@ -1641,6 +1765,7 @@ int main(void) {
     try_z_0();
     try_new_run_and_no_rain();
     try_repairs_all();
+    try_constants_all();
     check("linking", watched > 0, "the calls of the library were not watched");
     printf("header: %lu comparisons, all as include/card.h says\n", checks);
     return 0;

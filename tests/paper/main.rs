@@ -1,13 +1,15 @@
-//! Holds the card's library to the figures that Palmer's paper prints: `main TABLES EXPECTED` works the paper's months
-//! out with the library, lists each figure that is off by more than is allowed, and holds that listing to the expected
-//! one, line by line. Status: 0 they are the same; 1 they are not, the tables are not such as can be compared, or the
+//! Holds the card's library to the figures that Palmer's paper prints: `main TABLES EXPECTED RECORD CONSTANTS` works the
+//! paper's months out with the library, lists each figure that is off by more than is allowed, and holds that listing to the
+//! expected one, line by line; then it works the station constants out of a record, and holds them to those expected, line
+//! by line. Status: 0 they are the same; 1 they are not, the tables or the record are not such as can be compared, or the
 //! library refuses a month; 2 wrong arguments, or a file that cannot be read; 3 output that cannot be written.
 //!
 //! A line has the part, year, month, figure, what the paper prints and what the library gives; `sign` where they differ
-//! in the sign alone. docs/SOURCE.md says what each is.
+//! in the sign alone. docs/SOURCE.md says what each is, and what comes of the record.
 
 #[path = "../../host/card.rs"]
 mod card;
+mod constants;
 mod listing;
 mod runs;
 mod spells;
@@ -20,11 +22,11 @@ use tables::{unreadable, Fault, Tables};
 
 fn main() {
     let words: Vec<String> = std::env::args().skip(1).collect();
-    let [tables, expected] = words.as_slice() else {
-        eprintln!("paper: wanted are two files, the tables and the expected listing");
+    let [tables, expected, record, constants] = words.as_slice() else {
+        eprintln!("paper: wanted are four files: tables, expected listing, record and expected constants");
         std::process::exit(2);
     };
-    let (text, status) = match compare(tables, expected) {
+    let (text, status) = match compare(tables, expected, record, constants) {
         Ok(told) => told,
         Err(fault) => {
             eprintln!("paper: {}", fault.words);
@@ -49,23 +51,28 @@ fn parts(tables: &Tables) -> Result<Vec<Part>, Fault> {
 }
 
 /// What is to be printed, and the status.
-fn compare(tables: &str, expected: &str) -> Result<(String, i32), Fault> {
+fn compare(tables: &str, expected: &str, record: &str, constants: &str) -> Result<(String, i32), Fault> {
     let parts = parts(&Tables::read(tables)?)?;
+    let tallies: String = listing::tallies(&parts).iter().map(|line| format!("{line}\n")).collect();
+    let (figures, differ) = held_to("what differs", &listing::listing(&parts), expected)?;
+    let answers = constants::answers(record)?;
+    let (worked_out, others) = held_to("what the library makes of the record", &answers, constants)?;
+    Ok((tallies + &figures + &worked_out, differ.max(others)))
+}
+
+/// Holds lines to those of a file; what is to be said of it, and the status.
+fn held_to(what: &str, held: &[String], expected: &str) -> Result<(String, i32), Fault> {
     let wanted = std::fs::read_to_string(expected).map_err(|error| unreadable(expected, error))?;
     let wanted: Vec<&str> = wanted.lines().collect();
-    let held = listing::listing(&parts);
-    let mut text = String::new();
-    for line in listing::tallies(&parts) {
-        text += &format!("{line}\n");
-    }
     if held == wanted {
-        return Ok((text + &format!("paper: what differs is what {expected} lists\n"), 0));
+        return Ok((format!("paper: {what} is what {expected} lists\n"), 0));
     }
+    let mut text = String::new();
     for line in held.iter().filter(|line| !wanted.contains(&line.as_str())) {
         text += &format!("not expected: {line}\n");
     }
     for line in wanted.iter().filter(|line| !held.iter().any(|other| other == *line)) {
         text += &format!("expected, and not so: {line}\n");
     }
-    Ok((text + &format!("paper: what differs is not what {expected} lists, line for line\n"), 1))
+    Ok((text + &format!("paper: {what} is not what {expected} lists, line for line\n"), 1))
 }

@@ -1,6 +1,6 @@
 //! Runs of the card's library over the paper's months.
 
-use crate::card::{self, Added, Columns, Reading, Record, Run};
+use crate::card::{self, Added, Columns, Reading, Record, Run, Sums, WorkedOut};
 use crate::tables::{bad, Fault, Table, When};
 
 /// Sixty constants from table 3.
@@ -85,5 +85,19 @@ impl Card {
         let shown = card::row(run, month, &self.columns());
         done(shown.number, "the month's row", when)?;
         Ok(shown.index)
+    }
+
+    /// The constants that come of the run's own record.
+    pub fn work_out(&mut self, weights: &[i32]) -> WorkedOut {
+        let run = self.run;
+        card::work_out(run, weights, &self.columns())
+    }
+
+    /// The sums of a calendar month.
+    pub fn sums(&mut self, when: When, month: i32) -> Result<Sums, Fault> {
+        let run = self.run;
+        let summed = card::sum_month(run, month, &self.columns());
+        done(summed.number, "a month's sums", when)?;
+        Ok(summed.sums)
     }
 }

@@ -16,7 +16,8 @@ use Rattle.outline.proofs.Tests.{if-so}
 use Rattle.water.specs.Bounds.{ConstantsFit}
 use Rattle.ranges.specs.Ranges.{limitOf, constantsFitTo, constantsFit, calendarFits}
 use Rattle.ranges.specs.Five.{fiveFit}
-use Rattle.ranges.proofs.RangeLaws.{calendar-is, is-calendar, not-both, fits-five, each-fits, constant-is}
+use Rattle.outline.proofs.Every.{not-both}
+use Rattle.ranges.proofs.RangeLaws.{calendar-is, is-calendar, fits-five, each-fits, constant-is}
 use Rattle.calendar.specs.Calendar.{placeOf, constantsAt, zeroKWithin, someZeroK, ZeroK, nextCalendar}
 use Rattle.calendar.specs.Serve.{serveTo, fiveServe}
 

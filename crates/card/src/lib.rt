@@ -1,8 +1,10 @@
-// The card's library: every call of `drought`, of `season` and of `repair`, for C to link. include/card.h is its manual.
+// The card's library: every call of `drought`, of `season`, of `repair` and of `constants`, for C to link. include/card.h is its manual.
 //
 // A reading comes in as a struct, and its answer goes out as one (the crate `kinds`). All else is handed on as it came, and
 // so is each promise.
 use adding::Added;
+use constants::Summed;
+use constants::WorkedOut;
 use door::MonthInches;
 use door::Told;
 use drought::Shown;
@@ -23,6 +25,7 @@ ghost use Rattle.drought.specs.Calls.{addWater, addInches, addZ, rowOfRun};
 ghost use Rattle.adding.specs.Taken.{result};
 ghost use Rattle.season.specs.Season.{seasonResult, addSeason};
 ghost use Rattle.repair.specs.Repair.{repairResult, repair};
+ghost use Rattle.constants.specs.WorkOut.{workOut, sumMonth};
 ghost use Rattle.kinds.specs.FromC.{readingOfC};
 
 // Reads a reading: 8 or 9.
@@ -184,4 +187,40 @@ pub extern "C" fn card_whole_series(z: &[i32], index: &mut [i32], mark: &mut [u8
     ensures { λ r. ⌜ filled r (now (index .exit)) (now (mark .exit)) ≡ wholeSeries (now (z .entry)) (now (index .entry)) (now (mark .entry)) ⌝ }
 {
     drought::whole_series(z, index, mark)
+}
+
+// Works the sixty constants out again from the run's whole years, with twelve first weights: 1, 7, 2 or 3, 18, 19, 20, 21.
+#[no_mangle]
+pub extern "C" fn card_work_out(
+    run: Run,
+    weights: &[i32],
+    x1: &[i32],
+    x2: &[i32],
+    x3: &[i32],
+    index: &[i32],
+    mark: &[u8],
+    records: &[RecordNumbers],
+    v: &[i64],
+) -> WorkedOut
+    ensures { λ r. ⌜ r ≡ workOut run (now (weights .entry)) (book (now (x1 .entry)) (now (x2 .entry)) (now (x3 .entry)) (now (index .entry)) (now (mark .entry)) (now (records .entry)) (now (v .entry))) ⌝ }
+{
+    constants::work_out(run, weights, x1, x2, x3, index, mark, records, v)
+}
+
+// Sums a calendar month, 1 to 12, over the run's whole years: 1, 7, 6, 18.
+#[no_mangle]
+pub extern "C" fn card_sum_month(
+    run: Run,
+    month: i32,
+    x1: &[i32],
+    x2: &[i32],
+    x3: &[i32],
+    index: &[i32],
+    mark: &[u8],
+    records: &[RecordNumbers],
+    v: &[i64],
+) -> Summed
+    ensures { λ r. ⌜ r ≡ sumMonth run month (book (now (x1 .entry)) (now (x2 .entry)) (now (x3 .entry)) (now (index .entry)) (now (mark .entry)) (now (records .entry)) (now (v .entry))) ⌝ }
+{
+    constants::sum_month(run, month, x1, x2, x3, index, mark, records, v)
 }

@@ -30,7 +30,8 @@ use Rattle.adding.specs.declared.WaterFigures.{WaterFigures}
 use Rattle.adding.proofs.Readiness.{run-is}
 use Rattle.reopening.specs.Before.{opensBefore, runBefore, shownFrom, reopened}
 use Rattle.reopening.proofs.Laws.{opens-most, shown-long}
-use Rattle.reworking.specs.Reworked.{Left, again, hadWater, renewed, renewedIn, reworked, reworkedFrom}
+use Rattle.records.specs.Water.{hadWater}
+use Rattle.reworking.specs.Reworked.{Left, again, renewed, renewedIn, reworked, reworkedFrom}
 use Rattle.reworking.specs.Workable.{Workable, Stands, Kept as Workable-record}
 use Rattle.reworking.proofs.Steps.{next-again}
 use Rattle.reworking.proofs.Passes.{Recorded}

@@ -159,7 +159,7 @@ values-tests n r h =
     )
 
 -- ---- a month's record
-amount : (most n : ℕ) → n ≤ most → amountFits most (pos n) ≡ true
+pub amount : (most n : ℕ) → n ≤ most → amountFits most (pos n) ≡ true
 unfolding amountFits
 amount most n h = both (le-leb 0 n (omega arith)) (le-leb n most h)
 

@@ -37,6 +37,15 @@ pub mod InRange
 pub mod NoStart
 pub mod Repaired
 pub mod RepairHelpers
+pub mod ConstantsYears
+pub mod ConstantsOwn
+pub mod ConstantsGiven
+pub mod ConstantsRange
+pub mod ConstantsReached
+pub mod ConstantsMade
+pub mod ConstantsLost
+pub mod ConstantsWorked
+pub mod ConstantsHelpers
 pub mod Table
 pub mod Rejected
 pub mod SeasonRejected

@@ -79,12 +79,12 @@ shown-at cs i (suc k) zero h = let e : i ≡ i + 0 = omega arith in ap (λ (x : 
 shown-at cs i (suc k) (suc j) h = let e : suc i + j ≡ i + suc j = omega arith in shown-at cs (suc i) k j (omega arith) ∙ ap (λ (x : ℕ). provisional (valuesAt cs x)) e
 
 -- ---- what no month changes
-capacity-stays : (d : Station) (a : Ask) → soilFor d a .capacity ≡ d .soil .capacity
+pub capacity-stays : (d : Station) (a : Ask) → soilFor d a .capacity ≡ d .soil .capacity
 capacity-stays d (water p pe) = refl
 capacity-stays d (inches q) = refl
 capacity-stays d (anomaly z) = refl
 
-capacity-all : (d : Station) (asks : List Ask) → stateAfter stationNext d asks .soil .capacity ≡ d .soil .capacity
+pub capacity-all : (d : Station) (asks : List Ask) → stateAfter stationNext d asks .soil .capacity ≡ d .soil .capacity
 capacity-all d [] = refl
 capacity-all d (a ∷ later) = capacity-all (stationNext d a) later ∙ capacity-stays d a
 

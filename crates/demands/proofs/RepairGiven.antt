@@ -19,7 +19,8 @@ use Rattle.refusals.specs.Book.{Book, long, columnsFit}
 use Rattle.refusals.specs.Refusals.{isRunOf}
 use Rattle.refusals.specs.Good.{Good}
 use Rattle.kept_rows.specs.KeptRows.{rowsFit}
-use Rattle.reworking.specs.Reworked.{Left, hadWater, reworkedFrom}
+use Rattle.records.specs.Water.{hadWater}
+use Rattle.reworking.specs.Reworked.{Left, reworkedFrom}
 use Rattle.repair.specs.Repair.{repairRefusal, repaired, notRepaired, repairOutcomes, repair}
 use Rattle.demands.specs.Given.{MonthGives}
 use Rattle.demands.specs.Repairs.{Repairable, Watery, RepairGives, repair-0, repair-1, repair-1-report, repair-7, repair-7-row, repair-11, repair-17, repair-8, repair-9}

@@ -1,5 +1,5 @@
 -- What must be believed: the words in which the demands are said (Months), which number each call gives and exactly when (Given, Table), the demands,
--- the programs that they reject (Rejected), the requests said in the same words (Seasons, Mirror, Longer, Recorded, Modified, Traces, Repairs), and the worked months with the
+-- the programs that they reject (Rejected), the requests said in the same words (Seasons, Mirror, Longer, Recorded, Modified, Traces, Repairs, WorkedOut), and the worked months with the
 -- outline's numbers (Pinned) and whole answers (Answered) beside them (Worked).
 pub mod Months
 pub mod Given
@@ -13,6 +13,7 @@ pub mod Recorded
 pub mod Modified
 pub mod Traces
 pub mod Repairs
+pub mod WorkedOut
 pub mod Pinned
 pub mod Answered
 pub mod Worked

@@ -25,7 +25,7 @@ use Rattle.season.specs.Season.{addSeason}
 use Rattle.kept_rows.specs.KeptRows.{rowsFit}
 use Rattle.reopening.specs.Before.{opensBefore}
 use Rattle.report.specs.Report.{noChange}
-use Rattle.reworking.specs.Reworked.{hadWater}
+use Rattle.records.specs.Water.{hadWater}
 use Rattle.repair.specs.Repair.{RepairResult, repairResult, notRepaired, repair}
 use Rattle.demands.specs.Months.{Ask, water, asked, State, standing, after, afterAll, Accepted, monthsOf, leftOf}
 use Rattle.demands.specs.Given.{MonthGives}

@@ -1,11 +1,8 @@
--- The tests of the rows, list by list. A test passed at all of the first places is passed at each, and the other way round (`all-at`, `all-of`); the
--- rows fit exactly where the columns, the marks and what is left of each row do (`rows-are`). Assumes nothing.
+-- The tests of the rows, list by list: the rows fit exactly where the columns, the marks and what is left of each row do (`rows-are`). Assumes
+-- nothing.
 use mathlib.Core.Path.{_≡_, refl, sym, _∙_}
-use mathlib.Core.Bool.{Bool, true, false, not, _&&_, _||_, and-false}
-use mathlib.Core.Logic.{⊎-elim}
-use Prim.Native.Nat.{ℕ, zero, suc, _+_, _*_, _≤_, _<_}
-use native.Mathlib.Nat.{not-suc-le-zero, le-of-suc-le-suc, eq-or-lt-of-le}
-use native.Mathlib.Numerals.{add-one}
+use mathlib.Core.Bool.{Bool, true, false, _&&_, _||_}
+use Prim.Native.Nat.{ℕ, suc, _*_, _≤_, _<_}
 use native.Mathlib.Omega.{arith}
 use borrow.Author.Tests.{leb-true, le-leb}
 use lib.Dec.{leb}
@@ -13,15 +10,16 @@ use lib.IntN.{ℤ, pos, negsuc, natAbs}
 use lib.ListN.{getD}
 use lib.Signed.{leZ, ltZ}
 use Rattle.outline.specs.Numbers.{mostX, mostU}
+use Rattle.outline.specs.Every.{allOf}
 use Rattle.outline.proofs.Tests.{first, second, each, both}
+use Rattle.outline.proofs.Every.{all-at, all-of}
 use Rattle.exact.proofs.Z.{zs, is-Z}
-use Rattle.ranges.proofs.RangeLaws.{not-both}
 use Rattle.spells.specs.declared.Running.{Running}
 use Rattle.runs.specs.Runs.{sizesFit, signsFit, vFits}
 use Rattle.records.specs.Record.{recordAt}
 use Rattle.refusals.specs.Book.{Book, valuesAt}
 use Rattle.kept_rows.specs.KeptRows.{indexFits, markFits, recordFits, rowFits, rowsFit}
-use Rattle.kept_rows.specs.Lists.{allOf, betweenAt, markAt, opposedTo, vRowFits, restAt}
+use Rattle.kept_rows.specs.Lists.{betweenAt, markAt, opposedTo, vRowFits, restAt}
 use Rattle.kept_rows.proofs.Ranges.{three, four, six, row-fits-at, rows-fit-all}
 
 -- two tests that are passed together
@@ -49,48 +47,6 @@ index-is x =
     (leb (natAbs x) mostX)
     (λ h. le-leb (natAbs x) mostX (in-size x (first (leZ (negsuc 12999999) x) (leZ x (pos mostX)) h) (second (leZ (negsuc 12999999) x) (leZ x (pos mostX)) h)))
     (λ h. both (not-low x (leb-true (natAbs x) mostX h)) (not-high x (leb-true (natAbs x) mostX h)))
-
--- ---- a test at each of the first places
-module _ (test : ℕ → Bool) where
-  pub all-none : allOf test 0 ≡ true
-  unfolding allOf
-  all-none = refl
-
-  -- the next one
-  all-last : (k : ℕ) → allOf test (suc k) ≡ (allOf test k && test k)
-  unfolding allOf
-  all-last k = refl
-
-  pub all-more : (k : ℕ) → allOf test k ≡ true → test k ≡ true → allOf test (k + 1) ≡ true
-  all-more k p q = rw (add-one k) (all-last k ∙ both p q)
-
-  -- what is known to be bad, by one place more
-  pub bad-on : (k : ℕ) (bad more : Bool) → bad ≡ not (allOf test k) → more ≡ not (test k) → (bad || more) ≡ not (allOf test (k + 1))
-  bad-on k bad more p q = rw (add-one k, all-last k, p, q) (sym (not-both (allOf test k) (test k)))
-
-  -- where it is passed at all, it is at each
-  pub all-at : (k i : ℕ) → allOf test k ≡ true → i < k → test i ≡ true
-  all-at zero i h b = absurd (not-suc-le-zero b)
-  all-at (suc k) i h b =
-      let g : (allOf test k && test k) ≡ true = sym (all-last k) ∙ h in
-      ⊎-elim
-      (λ (e : i ≡ k). rw e (second (allOf test k) (test k) g))
-      (λ (l : i < k). all-at k i (first (allOf test k) (test k) g) l)
-      (eq-or-lt-of-le (le-of-suc-le-suc b))
-
-  -- and where at each, at all
-  pub all-of : (k : ℕ) → ((i : ℕ) → i < k → test i ≡ true) → allOf test k ≡ true
-  all-of zero f = all-none
-  all-of (suc k) f = all-last k ∙ both (all-of k (λ i h. f i (omega arith))) (f k (omega arith))
-
-  -- one place where it is not spoils all
-  pub all-spoilt : (k i : ℕ) → i < k → test i ≡ false → allOf test k ≡ false
-  all-spoilt zero i b e = absurd (not-suc-le-zero b)
-  all-spoilt (suc k) i b e =
-      ⊎-elim
-      (λ (s : i ≡ k). all-last k ∙ rw (rw s at e) (and-false (allOf test k)))
-      (λ (l : i < k). all-last k ∙ rw (all-spoilt k i l e))
-      (eq-or-lt-of-le (le-of-suc-le-suc b))
 
 -- ---- the rows
 x1-size : (x : ℤ) → leZ (pos 0) x ≡ true → leZ x (pos mostX) ≡ true → natAbs x ≤ mostX

@@ -78,10 +78,10 @@ or-else : (a b c d : ℤ) → (leZ a b || ltZ c d) ≡ true → b <ℤ a → c <
 or-else a b c d h g = lt-yes c d (rw (le-not a b g) at h)
 
 -- ---- an amount
-abbrev Amount : ℕ → ℤ → Type 0
+abbrev pub Amount : ℕ → ℤ → Type 0
 Amount most n = (pos 0 ≤ℤ n) × (natAbs n ≤ most)
 
-amount-is : (most : ℕ) (n : ℤ) → amountFits most n ≡ true → Amount most n
+pub amount-is : (most : ℕ) (n : ℤ) → amountFits most n ≡ true → Amount most n
 unfolding amountFits
 amount-is most n h =
     let low = first (leZ (pos 0) n) (leZ n (pos most)) h in

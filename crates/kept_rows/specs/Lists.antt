@@ -1,6 +1,6 @@
 -- A proof's vocabulary, which contracts cite: the tests of the rows, list by list. Assumes nothing.
-use Prim.Native.Nat.{ℕ, zero, suc, _*_}
-use mathlib.Core.Bool.{Bool, true, _&&_, _||_}
+use Prim.Native.Nat.{ℕ, suc, _*_}
+use mathlib.Core.Bool.{Bool, _&&_, _||_}
 use mathlib.Core.List.{List}
 use lib.IntN.{ℤ, pos, natAbs}
 use lib.Signed.{leZ, ltZ}
@@ -9,11 +9,6 @@ use lib.ListN.{getD}
 use Rattle.outline.specs.Numbers.{mostU}
 use Rattle.records.specs.Record.{recordAt}
 use Rattle.kept_rows.specs.KeptRows.{markFits, recordFits}
-
--- a test is passed at each of the first k places
-unfoldable pub allOf : (ℕ → Bool) → ℕ → Bool
-allOf test zero = true
-allOf test (suc k) = allOf test k && test k
 
 -- the number at a place is from a least to a most
 unfoldable pub betweenAt : ℤ → ℤ → List ℤ → ℕ → Bool

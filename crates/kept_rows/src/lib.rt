@@ -11,10 +11,11 @@ ghost use Prim.Native.Nat.{_≤_, _<_};
 ghost use lib.IntN.{pos};
 ghost use lib.ListN.{length};
 ghost use Rattle.outline.specs.Numbers.{mostMonths};
+ghost use Rattle.outline.specs.Every.{allOf};
 ghost use Rattle.water.specs.Layers.{mostCapacity};
 ghost use Rattle.refusals.specs.Book.{book};
 ghost use Rattle.kept_rows.specs.KeptRows.{waterFits, storagesFit, recordFits, rowsFit};
-ghost use Rattle.kept_rows.specs.Lists.{allOf, betweenAt, markAt, opposedTo, vRowFits, restAt};
+ghost use Rattle.kept_rows.specs.Lists.{betweenAt, markAt, opposedTo, vRowFits, restAt};
 
 // The most of an X and of an index, in size.
 const MOST_INDEX: i32 = 13_000_000;

@@ -58,6 +58,18 @@ notANumber = 13
 abbrev pub waterless : ℕ
 waterless = 17
 
+-- 18: document 02, E10, "fewer than ten such years or one with a Z-only month"
+abbrev pub fewYears : ℕ
+fewYears = 18
+
+-- 19: E10, "gamma out of range"
+abbrev pub badGamma : ℕ
+badGamma = 19
+
+-- 20: E10, "the sum of D K' is 0 or a K out of range"
+abbrev pub badK : ℕ
+badK = 20
+
 -- 21: document 02, E11, "zero K, at a start right after 3"
 abbrev pub zeroK : ℕ
 zeroK = 21

@@ -72,4 +72,10 @@ pub const NOT_A_NUMBER: u8 = 13;
 
 pub const WATERLESS: u8 = 17;
 
+pub const FEW_YEARS: u8 = 18;
+
+pub const BAD_GAMMA: u8 = 19;
+
+pub const BAD_K: u8 = 20;
+
 pub const ZERO_K: u8 = 21;

@@ -1,6 +1,6 @@
 -- The laws of the ranges: what the tests of the sixty constants and of the calendar say, place by place. Assumes nothing.
 use mathlib.Core.Path.{_≡_, refl, sym, _∙_}
-use mathlib.Core.Bool.{Bool, true, false, not, _&&_, _||_, and-false, and-assoc}
+use mathlib.Core.Bool.{true, false, _&&_, and-false, and-assoc}
 use mathlib.Core.List.{List}
 use mathlib.Core.Logic.{⊎-elim}
 use Prim.Native.Nat.{ℕ, zero, suc, _+_, _-_, _%_, _≤_, _<_}
@@ -28,12 +28,6 @@ calendar-is m h = (leb-true 1 m (first (leb 1 m) (leb m lastMonth) h), leb-true 
 pub is-calendar : (m : ℕ) → 1 ≤ m → m ≤ lastMonth → calendarFits m ≡ true
 unfolding calendarFits
 is-calendar m l h = both (le-leb 1 m l) (le-leb m lastMonth h)
-
--- ---- tests
--- not both: the one not, or the other not
-pub not-both : (a b : Bool) → not (a && b) ≡ (not a || not b)
-not-both true b = refl
-not-both false b = refl
 
 -- ---- signed numbers
 -- one that is not below zero can be read as an unsigned one

@@ -17,6 +17,8 @@ use Rattle.water.specs.declared.Constants.{Constants}
 use Rattle.water.proofs.LayerLaws.{soil-sum}
 use Rattle.water.proofs.Theorems.{losses-within, water-within, ends-within}
 use Rattle.records.specs.Ends.{amounts}
+use Rattle.records.specs.Water.{hadWater}
+use Rattle.records.specs.declared.Record.{Record}
 use Rattle.records.specs.Recordable.{Recordable}
 
 -- what the layers store is at most the largest capacity
@@ -43,7 +45,11 @@ recordable s p pe k f hp hpe hk =
     }
 
 -- `n == k as i32`
-pub amounts-is : (n : ℤ) (k : ℕ) → SFits w32 n → k ≤ mostCapacity → eqb (ofZ w32 n) k ≡ amounts n k
+pub amounts-is : (n : ℤ) (k : ℕ) → SFits w32 n → k ≤ mostReading → eqb (ofZ w32 n) k ≡ amounts n k
 unfolding amounts
 amounts-is (pos m) k f g = refl
 amounts-is (negsuc m) k f g = ne-eqb (2 ^ 32 - suc m) k (λ e. omega (arith, e, f .sfits))
+
+-- `m.water == 1`
+pub water-is : (m : Record) → SFits w32 (m .water) → eqb (ofZ w32 (m .water)) 1 ≡ hadWater m
+water-is m f = amounts-is (m .water) 1 f (omega arith)

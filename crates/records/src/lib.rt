@@ -10,7 +10,8 @@ use water::Soil;
 ghost use mathlib.Core.Path.{_≡_};
 ghost use Prim.Native.Nat.{_≤_, _<_};
 ghost use lib.ListN.{length, set};
-ghost use Rattle.water.specs.Layers.{mostCapacity, SoilFits};
+ghost use Rattle.door.specs.Readings.{mostReading};
+ghost use Rattle.water.specs.Layers.{SoilFits};
 ghost use Rattle.records.specs.Record.{waterRecord, zRecord, noRecord, numbersOf, recordAt};
 ghost use Rattle.records.specs.Ends.{amounts, endsMeet};
 ghost use Rattle.records.specs.Recordable.{Recordable};
@@ -29,7 +30,7 @@ const UNDERLYING: usize = 10;
 // What a record's `water` says.
 const NO_WATER: i32 = 0;
 
-const WATER: i32 = 1;
+pub const WATER: i32 = 1;
 
 // What a record's `kind` says of a month that was added as a Z.
 const NONE: i32 = 0;
@@ -196,8 +197,8 @@ pub fn ends_meet(months: u32, s: Soil, records: &[RecordNumbers]) -> bool
 }
 
 // Whether a number of a record is this amount.
-fn amounts(n: i32, k: u32) -> bool
-    requires { ⌜ k ≤ mostCapacity ⌝ }
+pub fn amounts(n: i32, k: u32) -> bool
+    requires { ⌜ k ≤ mostReading ⌝ }
     ensures { λ r. ⌜ r ≡ amounts n k ⌝ }
 {
     n == k as i32

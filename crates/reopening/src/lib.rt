@@ -98,7 +98,7 @@ fn values_before(m: usize, x1: &[i32], x2: &[i32], x3: &[i32], v: &[i64]) -> Run
 }
 
 // The calendar month so many months before this one.
-fn calendar_back(calendar: u32, since: u32) -> u32
+pub fn calendar_back(calendar: u32, since: u32) -> u32
     requires { ⌜ calendarFits calendar ≡ true ⌝ }
     ensures { λ c. ⌜ c ≡ calendarBack calendar since ⌝ }
 {

@@ -21,7 +21,7 @@ use Rattle.refusals.specs.Refusals.{isRunOf, runRefusal}
 use Rattle.refusals.proofs.Refused.{good-passes}
 use Rattle.refusals.proofs.Lent.{lent-long, or-nothing}
 use Rattle.kept_rows.specs.KeptRows.{rowsFit}
-use Rattle.reworking.specs.Reworked.{hadWater}
+use Rattle.records.specs.Water.{hadWater}
 use Rattle.reworking.specs.Workable.{Workable}
 use Rattle.repair.specs.Repair.{repairRefusal}
 

@@ -16,7 +16,8 @@ use Rattle.refusals.specs.Book.{Book, long, columnsFit}
 use Rattle.refusals.specs.Refusals.{isRunOf}
 use Rattle.kept_rows.specs.KeptRows.{rowsFit}
 use Rattle.report.specs.Report.{changes, reported}
-use Rattle.reworking.specs.Reworked.{Left, hadWater, reworkedFrom}
+use Rattle.records.specs.Water.{hadWater}
+use Rattle.reworking.specs.Reworked.{Left, reworkedFrom}
 use Rattle.repair.specs.declared.Repaired.{Repaired}
 
 -- what a repair leaves: its answer, with the run, what is lent, and the report

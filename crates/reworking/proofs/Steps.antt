@@ -29,7 +29,8 @@ use Rattle.adding.specs.Ready.{Ready, Watered}
 use Rattle.adding.specs.Taken.{Result, taken, takenWater, takenZ, soilAfter, waterOf}
 use Rattle.adding.specs.declared.WaterFigures.{WaterFigures}
 use Rattle.run_laws.proofs.Keeps.{columns-kept, run-stays}
-use Rattle.reworking.specs.Reworked.{again, keptKinds, hadWater}
+use Rattle.records.specs.Water.{hadWater}
+use Rattle.reworking.specs.Reworked.{again, keptKinds}
 use Rattle.reworking.specs.Workable.{Stands, Kept}
 
 -- ---- which way a month is worked again, of the record as it was read

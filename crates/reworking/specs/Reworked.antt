@@ -2,14 +2,14 @@
 -- crate `adding`), on the run and the columns that the month before left; the kind of its precipitation stays as it is recorded. The month that is repaired gets
 -- its new readings into its record first. Assumes nothing.
 use Prim.Native.Nat.{ℕ, zero, suc, _-_}
-use mathlib.Core.Bool.{Bool, cond}
+use mathlib.Core.Bool.{cond}
 use lib.IntN.{pos, natAbs}
 use lib.ListN.{set}
 use Rattle.door.specs.Outcome.{none}
 use Rattle.door.specs.declared.MonthKinds.{MonthKinds}
 use Rattle.runs.specs.declared.Run.{Run}
-use Rattle.records.specs.Ends.{amounts}
 use Rattle.records.specs.Record.{numbersOf, recordAt}
+use Rattle.records.specs.Water.{hadWater}
 use Rattle.records.specs.declared.Record.{Record}
 use Rattle.refusals.specs.Book.{Book, book}
 use Rattle.adding.specs.Taken.{Result, takenZ, takenWater}
@@ -22,10 +22,6 @@ pub record Left : Type 0 where
 
 abbrev pub left : Run → Book → Left
 left r cs = record { run = r; columns = cs }
-
--- a month had water: "a mark that it had no water", 0, and 1 where it had
-abbrev pub hadWater : Record → Bool
-hadWater m = amounts (m .water) 1
 
 -- the kinds of a month's readings, as far as they are recorded; what kind its PE was is kept nowhere, and nothing that is kept hangs on it
 abbrev pub keptKinds : Record → MonthKinds

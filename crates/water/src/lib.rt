@@ -161,7 +161,8 @@ fn wet_month(s: Soil, p: u32, pe: u32) -> Balance
     }
 }
 
-fn balance_of(s: Soil, p: u32, pe: u32) -> Balance
+// The balance of a month. For the crates above, which hold the soil and the readings in range.
+pub fn balance_of(s: Soil, p: u32, pe: u32) -> Balance
     requires { ⌜ SoilFits s ⌝ }
     requires { ⌜ (p ≤ mostReading) × (pe ≤ mostReading) ⌝ }
     ensures { λ r. ⌜ r ≡ balanceOf s p pe ⌝ }
@@ -173,8 +174,8 @@ fn balance_of(s: Soil, p: u32, pe: u32) -> Balance
     }
 }
 
-// The potentials, from the start storages.
-fn potentials_of(s: Soil, pe: u32) -> Potentials
+// The potentials, from the start storages. For the crates above, as `balance_of`.
+pub fn potentials_of(s: Soil, pe: u32) -> Potentials
     requires { ⌜ SoilFits s ⌝ }
     requires { ⌜ pe ≤ mostReading ⌝ }
     ensures { λ r. ⌜ r ≡ potentialsOf s pe ⌝ }
@@ -188,8 +189,8 @@ fn potentials_of(s: Soil, pe: u32) -> Potentials
     }
 }
 
-// N, in the thousandths of an inch times the ten-thousandths of a constant.
-fn n_of(k: Constants, pe: u32, q: Potentials) -> i64
+// N, in the thousandths of an inch times the ten-thousandths of a constant. For the crates above, as `balance_of`.
+pub fn n_of(k: Constants, pe: u32, q: Potentials) -> i64
     requires { ⌜ ConstantsFit k ⌝ }
     requires { ⌜ pe ≤ mostReading ⌝ }
     requires { ⌜ (q .pr + q .pro ≤ mostCapacity) × (q .pl ≤ q .pro) ⌝ }

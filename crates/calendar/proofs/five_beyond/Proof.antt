@@ -19,7 +19,7 @@ use Rattle.outline.specs.Numbers.{manyOfAMonth}
 use Rattle.water.specs.Constants.{mostShare, mostGamma, mostK}
 use Rattle.ranges.specs.Ranges.{limitOf, constantFits}
 use Rattle.ranges.specs.Five.{fiveFit}
-use Rattle.ranges.proofs.RangeLaws.{not-both}
+use Rattle.outline.proofs.Every.{not-both}
 use Rattle.calendar.specs.Serve.{fiveServe}
 use Rattle.calendar.proofs.five_beyond.Statement.{statement}
 use Rattle.calendar.proofs.five_beyond.Tie as tie

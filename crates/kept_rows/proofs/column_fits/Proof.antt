@@ -10,9 +10,10 @@ use mir.Val.{SFits, toZ, ofZ}
 use mir.Facts.{toZ-ofZ}
 use borrow.Author.Needs.{needs}
 use denote.Ref.{now}
+use Rattle.outline.specs.Every.{allOf}
+use Rattle.outline.proofs.Every.{all-none, bad-on}
 use Rattle.exact.proofs.Held.{held}
-use Rattle.kept_rows.specs.Lists.{allOf, betweenAt}
-use Rattle.kept_rows.proofs.Lists.{all-none, bad-on}
+use Rattle.kept_rows.specs.Lists.{betweenAt}
 use Rattle.kept_rows.proofs.column_fits.Statement.{statement}
 use Rattle.kept_rows.proofs.column_fits.Tie as tie
 

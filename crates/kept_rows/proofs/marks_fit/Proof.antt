@@ -10,9 +10,10 @@ use mir.Val.{SFits}
 use mir.Facts.{toZ-pos}
 use borrow.Author.Needs.{needs}
 use denote.Ref.{now}
+use Rattle.outline.specs.Every.{allOf}
+use Rattle.outline.proofs.Every.{all-none, bad-on}
 use Rattle.kept_rows.specs.KeptRows.{markFits}
-use Rattle.kept_rows.specs.Lists.{allOf, markAt}
-use Rattle.kept_rows.proofs.Lists.{all-none, bad-on}
+use Rattle.kept_rows.specs.Lists.{markAt}
 use Rattle.kept_rows.proofs.marks_fit.Statement.{statement}
 use Rattle.kept_rows.proofs.marks_fit.Tie as tie
 

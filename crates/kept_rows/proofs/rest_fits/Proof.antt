@@ -11,11 +11,12 @@ use mir.Val.{SFits}
 use mir.Facts.{toZ-ofZ}
 use borrow.Author.Needs.{needs}
 use denote.Ref.{now}
+use Rattle.outline.specs.Every.{allOf}
+use Rattle.outline.proofs.Every.{all-none, all-more, all-spoilt}
 use Rattle.outline.proofs.Tests.{fails, passes, both}
 use Rattle.records.specs.Record.{recordAt}
 use Rattle.kept_rows.specs.KeptRows.{recordFits}
-use Rattle.kept_rows.specs.Lists.{allOf, vRowFits, restAt}
-use Rattle.kept_rows.proofs.Lists.{all-none, all-more, all-spoilt}
+use Rattle.kept_rows.specs.Lists.{vRowFits, restAt}
 use Rattle.kept_rows.proofs.rest_fits.Statement.{statement}
 use Rattle.kept_rows.proofs.rest_fits.Tie as tie
 

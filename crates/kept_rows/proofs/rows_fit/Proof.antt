@@ -6,11 +6,12 @@ use Prim.Native.Nat.{ℕ}
 use borrow.Author.Needs.{needs}
 use lib.IntN.{pos, negsuc}
 use denote.Ref.{now}
+use Rattle.outline.specs.Every.{allOf}
 use Rattle.outline.specs.Numbers.{mostX}
 use Rattle.outline.proofs.Tests.{fails, passes, both}
 use Rattle.refusals.specs.Book.{Book, book}
 use Rattle.kept_rows.specs.KeptRows.{rowsFit}
-use Rattle.kept_rows.specs.Lists.{allOf, betweenAt, markAt, restAt}
+use Rattle.kept_rows.specs.Lists.{betweenAt, markAt, restAt}
 use Rattle.kept_rows.proofs.Lists.{rows-are}
 use Rattle.kept_rows.proofs.rows_fit.Statement.{statement}
 use Rattle.kept_rows.proofs.rows_fit.Tie as tie

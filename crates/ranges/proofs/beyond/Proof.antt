@@ -7,7 +7,7 @@ use mir.Facts.{toZ-ofZ}
 use Rattle.outline.proofs.Tests.{if-so}
 use Rattle.exact.proofs.Z.{le-yes, le-no}
 use Rattle.exact.proofs.Orders.{lt-is, lt-not}
-use Rattle.ranges.proofs.RangeLaws.{not-both}
+use Rattle.outline.proofs.Every.{not-both}
 use Rattle.ranges.proofs.beyond.Statement.{statement}
 use Rattle.ranges.proofs.beyond.Tie as tie
 

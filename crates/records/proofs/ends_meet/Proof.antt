@@ -1,6 +1,7 @@
 -- `records::ends_meet` meets its contract: after no month nothing is asked, and otherwise both storages of the last record. Assumes nothing.
 use mathlib.Core.Path.{_≡_, sym}
 use Prim.Native.Nat.{_-_}
+use native.Mathlib.Omega.{arith}
 use mir.Syntax.{w32}
 use mir.Val.{SFits}
 use mir.Facts.{toZ-ofZ}
@@ -43,7 +44,7 @@ index-2-amounts : tie.Need-index-2-amounts
 index-2-amounts c = search needs
 
 amounts-requires : tie.Need-amounts-requires
-amounts-requires c κs = let s = c .before .before in stored-most (s .args .s) (s .pre .1) .0
+amounts-requires c κs = let s = c .before .before in omega (arith, stored-most (s .args .s) (s .pre .1) .0)
 
 returns-2 : tie.Need-returns-2
 returns-2 c =
@@ -62,7 +63,7 @@ index-2-amounts-2 : tie.Need-index-2-amounts-2
 index-2-amounts-2 c = search needs
 
 amounts-requires-2 : tie.Need-amounts-requires-2
-amounts-requires-2 c κs = let s = c .before .before .before .before .before in stored-most (s .args .s) (s .pre .1) .1
+amounts-requires-2 c κs = let s = c .before .before .before .before .before in omega (arith, stored-most (s .args .s) (s .pre .1) .1)
 
 returns-3 : tie.Need-returns-3
 returns-3 c =

@@ -1,0 +1,2 @@
+-- What is proved of the two calls: what passed refusals say (Passes).
+pub mod Passes

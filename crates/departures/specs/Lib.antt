@@ -1,0 +1,2 @@
+-- What must be believed: the departures of a calendar month, and D (Departures).
+pub mod Departures

@@ -1,0 +1,18 @@
+-- A proof's vocabulary, which `requires` cite: sums over so many years, each part within its whole. Assumes nothing.
+use Prim.Native.Nat.{ℕ, _*_, _≤_}
+use Rattle.door.specs.Readings.{mostReading}
+use Rattle.sums.specs.declared.Sums.{Sums}
+
+pub record SumsFit (s : Sums) (k : ℕ) : Type 0 where
+  pub et : s .et ≤ s .pe
+  pub pe : s .pe ≤ mostReading * k
+  pub r : s .r ≤ s .pr
+  pub pr : s .pr ≤ mostReading * k
+  pub ro : s .ro ≤ mostReading * k
+  pub pro : s .pro ≤ mostReading * k
+  pub l : s .l ≤ s .pl
+  pub pl : s .pl ≤ mostReading * k
+
+-- the most years before the last
+abbrev pub mostBefore : ℕ
+mostBefore = 999
