@@ -92,8 +92,8 @@
  *     card_add_season      1192
  *     card_repair           840
  *     card_row              376
- *     card_sum_month       TODO
- *     card_work_out        TODO
+ *     card_sum_month        504
+ *     card_work_out        1432
  *     card_whole_series      88
  *
  * It is counted from the return address, which is included, down to the lowest word of 8 bytes that was

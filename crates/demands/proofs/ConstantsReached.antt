@@ -77,6 +77,16 @@ numbers :
 unfolding workOut workOutRefusal recordRefusal weightsRefusal yearsRefusal setRefusal lengthsFit lengthFits isRunFor isRun limitOf constantFits constantsFitTo constantsAt zeroKWithin soilFits surfaceHolds underlyingHolds calendarFits sizesFit signsFit vFits endsMeet amounts allOf rowGiven givenByAdd addable amountFits holds nearest nearestℕ underLoss lossSurface lossUnderlying dryMonth toSurface toUnderlying wetMonth balanceOf potentialSurface potentialUnderlying potentialsOf nOf cafecOf calendarBack firstJanuary yearsFrom plus sumsOf departureOf departuresOf meanOf sumsIn sharesIn departureIn products kOf monthly
 numbers = (refl, refl, refl, refl, refl, refl)
 
+-- the whole answer of the first, so that no number of the rule can be changed alike in the definitions and in the code. In half of the years nothing falls and in half
+-- 60,000, which runs off: gamma is 1, D 30,000, and K 176,700,000 x 10,000 / (12 x 30,000 x 10,000), which is 490.8
+abbrev fives : ℕ → List ℤ
+fives zero = []
+fives (suc n) = pos 0 ∷ pos 0 ∷ pos 10000 ∷ pos 0 ∷ pos 491 ∷ fives n
+
+pinned : workOut (full 30000 120) equal (lists 30000 0 60000) ≡ record { number = 0; constants = fives lastMonth; departures = replicate lastMonth 30000 }
+unfolding workOut workOutRefusal recordRefusal weightsRefusal yearsRefusal setRefusal lengthsFit lengthFits isRunFor isRun limitOf constantFits constantsFitTo constantsAt zeroKWithin soilFits surfaceHolds underlyingHolds calendarFits sizesFit signsFit vFits endsMeet amounts allOf rowGiven givenByAdd addable amountFits holds nearest nearestℕ underLoss lossSurface lossUnderlying dryMonth toSurface toUnderlying wetMonth balanceOf potentialSurface potentialUnderlying potentialsOf nOf cafecOf calendarBack firstJanuary yearsFrom plus sumsOf departureOf departuresOf meanOf sumsIn sharesIn departureIn products kOf monthly
+pinned = refl
+
 pub none-empty : Reached 0 × Reached fewYears × Reached badGamma × Reached badK × Reached zeroK
 none-empty = (
   reached (full 30000 120) equal (lists 30000 0 60000) (numbers .0),

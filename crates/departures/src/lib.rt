@@ -6,7 +6,10 @@ use outline::LAST_MONTH;
 use records::RecordNumbers;
 use water::Constants;
 ghost use mathlib.Core.Path.{_≡_};
-ghost use Rattle.water.specs.Bounds.{ConstantsFit};
+ghost use Prim.Native.Nat.{_≤_};
+ghost use lib.IntN.{natAbs};
+ghost use Rattle.water.specs.Expected.{cafecOf};
+ghost use Rattle.water.specs.Bounds.{ConstantsFit, mostN};
 ghost use Rattle.given_rows.specs.Facts.{RowFits, Watered};
 ghost use Rattle.sums.specs.Sums.{rowIn};
 ghost use Rattle.departures.specs.Departures.{departureOf, departuresOf, meanOf};
@@ -14,7 +17,15 @@ ghost use Rattle.departures.specs.Departures.{departureOf, departuresOf,
 // One, in the ten-thousandths of a constant.
 const ONE: i64 = 10_000;
 
-// The size of P - CAFEC, with these constants. CAFEC is the rounded figure.
+// CAFEC, the rounded figure, from N.
+fn cafec_of(n: i64) -> i64
+    requires { ⌜ natAbs n ≤ mostN ⌝ }
+    ensures { λ r. ⌜ r ≡ cafecOf n ⌝ }
+{
+    exact::nearest_signed(n, ONE)
+}
+
+// The size of P - CAFEC, with these constants.
 fn departure_of(k: Constants, w: WaterRow) -> u32
     requires { ⌜ ConstantsFit k ⌝ }
     requires { ⌜ RowFits w ⌝ }
@@ -23,7 +34,7 @@ fn departure_of(k: Constants, w: WaterRow) -> u32
     let soil = w.soil;
     let q = water::potentials_of(soil, w.pe);
     let n = water::n_of(k, w.pe, q);
-    let short = (w.p as i64) - exact::nearest_signed(n, ONE);
+    let short = (w.p as i64) - cafec_of(n);
     if short < 0 {
         (0 - short) as u32
     } else {

@@ -2,7 +2,7 @@
 -- (`holds-is`), and so each is within its potential (`row-fits`); and each of the rows that pass is one that an add gives (`given-at`).
 -- Assumes nothing.
 use mathlib.Core.Path.{_≡_}
-use mathlib.Core.Bool.{true}
+use mathlib.Core.Bool.{true, false}
 use mathlib.Core.List.{List}
 use Prim.Native.Nat.{ℕ, _+_, _≤_, _<_}
 use native.Mathlib.Omega.{arith}
@@ -48,7 +48,7 @@ pub record Held (m : Record) (b : Balance) : Type 0 where
   pub surface : m .surface ≡ pos (b .surface)
   pub underlying : m .underlying ≡ pos (b .underlying)
 
--- what is read of a row is not below zero
+-- no amount of a row is below zero
 pub record Signs (m : Record) : Type 0 where
   pub p : pos 0 ≤ℤ m .p
   pub pe : pos 0 ≤ℤ m .pe
@@ -58,6 +58,8 @@ pub record Signs (m : Record) : Type 0 where
   pub ro : pos 0 ≤ℤ m .ro
   pub ss : pos 0 ≤ℤ m .ss
   pub su : pos 0 ≤ℤ m .su
+  pub surface : pos 0 ≤ℤ m .surface
+  pub underlying : pos 0 ≤ℤ m .underlying
 
 -- an `i32` that is not below zero is read as it stands
 pub counted : (x : ℤ) → pos 0 ≤ℤ x → SFits w32 x → T (nonNeg (toZ w32 (ofZ w32 x))) × Fits w32 (natAbs (toZ w32 (ofZ w32 x)))
@@ -121,6 +123,8 @@ module _ (capacity : ℕ) (m : Record) where
         ro = above (m .ro) _ (b .ro);
         ss = a .ss .0;
         su = a .su .0;
+        surface = above (m .surface) _ (b .surface);
+        underlying = above (m .underlying) _ (b .underlying);
       }
 
   module _ (least : leastCapacity ≤ capacity) (most : capacity ≤ mostCapacity) where
@@ -157,6 +161,20 @@ module _ (capacity : ℕ) (m : Record) where
           l = rw (b .l) (w .1);
           ro = rw (b .ro) (k .ro);
         }
+
+-- ---- whether a row is given: without water, one that could not be added, and one that is held to its balance
+module _ (capacity : ℕ) (m : Record) where
+  pub none-given : hadWater m ≡ false → true ≡ rowGiven capacity m
+  unfolding rowGiven
+  none-given w = rw w
+
+  pub not-added : hadWater m ≡ true → addable capacity m ≡ false → false ≡ rowGiven capacity m
+  unfolding rowGiven givenByAdd
+  not-added w a = rw (w, a)
+
+  pub held-given : hadWater m ≡ true → addable capacity m ≡ true → holds m (balanceFrom capacity m) ≡ rowGiven capacity m
+  unfolding rowGiven givenByAdd
+  held-given w a = rw (w, a)
 
 -- ---- the rows: one of water that passes is one that an add gives
 pub given-at : (capacity : ℕ) (records : List (List ℤ)) (k i : ℕ) → rowsGiven capacity records k ≡ true → i < k → hadWater (recordAt records i) ≡ true → givenByAdd capacity (recordAt records i) ≡ true

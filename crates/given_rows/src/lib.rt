@@ -3,8 +3,14 @@
 //
 // For the crates `sums`, `departures` and `constants`, which have asked for 1 and for the rest of 7: what has a `requires` is for
 // them alone.
+use records::ET;
+use records::L;
+use records::R;
+use records::RO;
 use records::Record;
 use records::RecordNumbers;
+use records::SURFACE;
+use records::UNDERLYING;
 use records::WATER;
 use water::Balance;
 use water::Soil;
@@ -18,7 +24,7 @@ ghost use Rattle.records.specs.Record.{recordAt};
 ghost use Rattle.given_rows.specs.GivenRows.{waterOf, addable, holds, givenByAdd, rowGiven, rowsGiven};
 
 // The most of a month's precipitation and PE, in thousandths of an inch.
-const MOST_READING: u32 = 100_000;
+const MOST_READING: i32 = 100_000;
 
 // A month of water as its record has it, without the signs: what fell, what was asked for, what the balance made of it, and the
 // soil from which it started.
@@ -39,8 +45,7 @@ pub fn rows_given(capacity: u32, months: u32, records: &[RecordNumbers]) -> bool
 {
     let mut row: u32 = 0;
     while row < months {
-        let m = records::record_at(records, row as usize);
-        if !row_given(capacity, m) {
+        if !row_given(capacity, row as usize, records) {
             return false;
         }
         row += 1;
@@ -48,63 +53,75 @@ pub fn rows_given(capacity: u32, months: u32, records: &[RecordNumbers]) -> bool
     true
 }
 
-// A row is one that an add gives, or had no water.
-fn row_given(capacity: u32, m: Record) -> bool
-    requires { ⌜ (leastCapacity ≤ capacity) × (capacity ≤ mostCapacity) ⌝ }
-    ensures { λ r. ⌜ r ≡ rowGiven capacity m ⌝ }
+// A row is one that an add gives, or had no water. The two kinds of a month are told apart here and not in the balance, so that what
+// is 0 in each is compared with 0.
+fn row_given(capacity: u32, i: usize, records: &[RecordNumbers]) -> bool
+    requires { ⌜ (leastCapacity ≤ capacity) × (capacity ≤ mostCapacity) × (i < length (now records)) ⌝ }
+    ensures { λ r. ⌜ r ≡ rowGiven capacity (recordAt (now (records .entry)) i) ⌝ }
 {
+    let m = records::record_at(records, i);
     if m.water != WATER {
         return true;
     }
     if !addable(capacity, m) {
         return false;
     }
+    let surface = m.ss as u32;
+    let underlying = m.su as u32;
     let soil = Soil {
         capacity,
-        surface: m.ss as u32,
-        underlying: m.su as u32,
+        surface,
+        underlying,
     };
-    holds(m, water::balance_of(soil, m.p as u32, m.pe as u32))
+    let p = m.p as u32;
+    let pe = m.pe as u32;
+    if p < pe {
+        holds(water::dry_month(soil, p, pe), i, records)
+    } else {
+        holds(water::wet_month(soil, p, pe), i, records)
+    }
 }
 
 // What an add can start from: its readings and both storages are in their ranges.
 fn addable(capacity: u32, m: Record) -> bool
+    requires { ⌜ capacity ≤ mostCapacity ⌝ }
     ensures { λ r. ⌜ r ≡ addable capacity m ⌝ }
 {
-    if !ranges::signed_between(0, m.p, MOST_READING) {
+    if ranges::beyond(0, m.p, MOST_READING) {
         return false;
     }
-    if !ranges::signed_between(0, m.pe, MOST_READING) {
+    if ranges::beyond(0, m.pe, MOST_READING) {
         return false;
     }
-    if !ranges::signed_between(0, m.ss, water::surface_holds(capacity)) {
+    if ranges::beyond(0, m.ss, kept_rows::limit(water::surface_holds(capacity))) {
         return false;
     }
-    ranges::signed_between(0, m.su, water::underlying_holds(capacity))
+    !ranges::beyond(0, m.su, kept_rows::limit(water::underlying_holds(capacity)))
 }
 
-// A record holds this balance: ET, R, L, RO and both storages at the end.
-fn holds(m: Record, b: Balance) -> bool
+// A record holds this balance: ET, R, L, RO and both storages at the end. Each number is read where it is compared.
+fn holds(b: Balance, i: usize, records: &[RecordNumbers]) -> bool
     requires { ⌜ (b .et ≤ mostReading) × (b .r ≤ mostReading) × (b .ls + b .lu ≤ mostReading) × (b .ro ≤ mostReading) ⌝ }
     requires { ⌜ (b .surface ≤ mostReading) × (b .underlying ≤ mostReading) ⌝ }
-    ensures { λ r. ⌜ r ≡ holds m b ⌝ }
+    requires { ⌜ i < length (now records) ⌝ }
+    ensures { λ r. ⌜ r ≡ holds (recordAt (now (records .entry)) i) b ⌝ }
 {
-    if !records::amounts(m.et, b.et) {
+    if !records::amounts(records[i][ET], b.et) {
         return false;
     }
-    if !records::amounts(m.r, b.r) {
+    if !records::amounts(records[i][R], b.r) {
         return false;
     }
-    if !records::amounts(m.l, b.ls + b.lu) {
+    if !records::amounts(records[i][L], b.ls + b.lu) {
         return false;
     }
-    if !records::amounts(m.ro, b.ro) {
+    if !records::amounts(records[i][RO], b.ro) {
         return false;
     }
-    if !records::amounts(m.surface, b.surface) {
+    if !records::amounts(records[i][SURFACE], b.surface) {
         return false;
     }
-    records::amounts(m.underlying, b.underlying)
+    records::amounts(records[i][UNDERLYING], b.underlying)
 }
 
 // The row of water at a place, which is one that an add gives.
@@ -113,7 +130,7 @@ pub fn water_at(capacity: u32, i: usize, records: &[RecordNumbers]) -> WaterRow
     ensures { λ w. ⌜ w ≡ waterOf capacity (recordAt (now (records .entry)) i) ⌝ }
 {
     let m = records::record_at(records, i);
-    let soil = Soil {
+    let start = Soil {
         capacity,
         surface: m.ss as u32,
         underlying: m.su as u32,
@@ -125,6 +142,6 @@ pub fn water_at(capacity: u32, i: usize, records: &[RecordNumbers]) -> WaterRow
         r: m.r as u32,
         l: m.l as u32,
         ro: m.ro as u32,
-        soil,
+        soil: start,
     }
 }

@@ -192,7 +192,7 @@ fn amounts_fit(capacity: u32, m: Record) -> bool
 
 // What a layer holds, as the end of a range. It is never beyond the capacity's end, and is held to it so that the compiler sees that
 // it is not below zero: a number and both its ends are then one comparison.
-fn limit(holds: u32) -> i32
+pub fn limit(holds: u32) -> i32
     requires { ⌜ holds ≤ mostCapacity ⌝ }
     ensures { λ r. ⌜ r ≡ pos holds ⌝ }
 {

@@ -22,10 +22,18 @@ pub const NUMBERS: usize = 14;
 // A record as it stands at its place in the lent list: its numbers, in the order of its fields.
 pub type RecordNumbers = [i32; NUMBERS];
 
-// Where the storages at a month's end stand among them.
-const SURFACE: usize = 9;
+// Where ET, R, L, RO and the storages at a month's end stand among them.
+pub const ET: usize = 3;
 
-const UNDERLYING: usize = 10;
+pub const R: usize = 4;
+
+pub const L: usize = 5;
+
+pub const RO: usize = 6;
+
+pub const SURFACE: usize = 9;
+
+pub const UNDERLYING: usize = 10;
 
 // What a record's `water` says.
 const NO_WATER: i32 = 0;
@@ -167,10 +175,10 @@ pub fn record_at(records: &[RecordNumbers], i: usize) -> Record
         z: n[0],
         p: n[1],
         pe: n[2],
-        et: n[3],
-        r: n[4],
-        l: n[5],
-        ro: n[6],
+        et: n[ET],
+        r: n[R],
+        l: n[L],
+        ro: n[RO],
         ss: n[7],
         su: n[8],
         surface: n[SURFACE],

@@ -4,6 +4,7 @@
 use mathlib.Core.Path.{_≡_, refl}
 use mathlib.Core.List.{List}
 use Prim.Native.Nat.{ℕ, zero, suc, _+_, _*_, _≤_, _<_}
+use native.Mathlib.Nat.{mul-suc}
 use native.Mathlib.Numerals.{add-one}
 use native.Mathlib.Omega.{arith}
 use lib.IntN.{ℤ}
@@ -12,13 +13,13 @@ use Rattle.exact.specs.Nearest.{nearestℕ}
 use Rattle.exact.proofs.Nearest.{near-none, near-within}
 use Rattle.water.specs.Constants.{one, mostShare, mostGamma}
 use Rattle.water.specs.Bounds.{ConstantsFit}
-use Rattle.water.proofs.WaterLaws.{potentials-fit}
+use Rattle.water.proofs.WaterLaws.{potentials-fit, potential-shares}
 use Rattle.records.specs.Record.{recordAt}
 use Rattle.given_rows.specs.Facts.{RowFits, Watered}
 use Rattle.given_rows.specs.declared.WaterRow.{WaterRow}
 use Rattle.given_rows.proofs.RowLaws.{row-fits}
 use Rattle.sums.specs.Sums.{noSums, plus, rowIn, sumsOf, alphaOf, betaOf, gammaOf, deltaOf, sharesOf}
-use Rattle.sums.specs.SumsFit.{SumsFit}
+use Rattle.sums.specs.SumsFit.{SumsFit, Within, withoutPr}
 use Rattle.sums.specs.declared.Sums.{Sums}
 
 -- ---- the rows of a calendar month, each of which an add gives
@@ -56,7 +57,7 @@ plus-fit s w k f g =
     }
 
 module _ (row : ℕ → WaterRow) where
-  pub sums-none : noSums ≡ sumsOf row 0
+  pub sums-none : noSums ≡ withoutPr (sumsOf row 0)
   unfolding sumsOf
   sums-none = refl
 
@@ -64,12 +65,37 @@ module _ (row : ℕ → WaterRow) where
   unfolding sumsOf
   sums-last k = refl
 
-  pub sums-more : (k : ℕ) (s t : Sums) → s ≡ sumsOf row k → t ≡ plus s (row k) → t ≡ sumsOf row (k + 1)
+  -- all but PR's, with one month more
+  pub sums-more : (k : ℕ) (s t : Sums) → s ≡ withoutPr (sumsOf row k) → t ≡ withoutPr (plus s (row k)) → t ≡ withoutPr (sumsOf row (k + 1))
+  unfolding plus
   sums-more k s t p q = rw (add-one k, sums-last k, q, p) refl
 
+  -- PR and PRO share the capacity of every month
+  pub pr-rest : (capacity : ℕ) → ((y : ℕ) → row y .soil .capacity ≡ capacity) → (k : ℕ) → ((y : ℕ) → y < k → RowFits (row y)) → sumsOf row k .pr + sumsOf row k .pro ≡ capacity * k
+  unfolding sumsOf plus
+  pr-rest capacity c zero f = omega arith
+  pr-rest capacity c (suc k) f =
+      let h = pr-rest capacity c k (λ y b. f y (omega arith)) in
+      let p = potential-shares (row k .soil) (row k .pe) (f k (omega arith) .soil) in
+      omega (arith, h, p, c k, mul-suc capacity k)
+
   pub sums-fit : (k : ℕ) → ((y : ℕ) → y < k → RowFits (row y)) → SumsFit (sumsOf row k) k
-  sums-fit zero f = rw (sums-none) at none-fit
+  unfolding sumsOf
+  sums-fit zero f = none-fit
   sums-fit (suc k) f = rw (sums-last k) (plus-fit (sumsOf row k) (row k) k (sums-fit k (λ y h. f y (omega arith))) (f k (omega arith)))
+
+-- each of them is low
+pub fit-within : (s : Sums) (k n : ℕ) → k ≤ n → SumsFit s k → Within (withoutPr s) n
+fit-within s k n h f =
+    record {
+      et = omega (arith, f .et, f .pe);
+      pe = omega (arith, f .pe);
+      r = omega (arith, f .r, f .pr);
+      ro = omega (arith, f .ro);
+      pro = omega (arith, f .pro);
+      l = omega (arith, f .l, f .pl);
+      pl = omega (arith, f .pl);
+    }
 
 -- sums over fewer years are within those over more
 pub fit-more : (s : Sums) (k n : ℕ) → k ≤ n → SumsFit s k → SumsFit s n

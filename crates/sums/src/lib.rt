@@ -6,12 +6,12 @@ use outline::LAST_MONTH;
 use records::RecordNumbers;
 use water::Constants;
 ghost use mathlib.Core.Path.{_≡_};
-ghost use Prim.Native.Nat.{_*_, _≤_};
+ghost use Prim.Native.Nat.{_-_, _*_, _≤_};
 ghost use Rattle.exact.specs.Nearest.{nearestℕ};
 ghost use Rattle.water.specs.Constants.{one, mostGamma};
 ghost use Rattle.given_rows.specs.Facts.{RowFits, Watered, mostYears};
 ghost use Rattle.sums.specs.Sums.{plus, rowIn, sumsOf, gammaOf, sharesOf};
-ghost use Rattle.sums.specs.SumsFit.{SumsFit, mostBefore};
+ghost use Rattle.sums.specs.SumsFit.{SumsFit, Within, withPr, withoutPr, mostBefore};
 
 // One, in the ten-thousandths of a constant.
 const ONE: u64 = 10_000;
@@ -29,11 +29,11 @@ pub struct Sums {
     pub pl: u32,
 }
 
-// The sums with one month more. The potentials are worked out again, from the month's start storages and PE.
+// The sums with one month more, PR's apart. The potentials are worked out again, from the month's start storages and PE.
 fn plus(s: Sums, w: WaterRow) -> Sums
-    requires { ⌜ SumsFit s mostBefore ⌝ }
+    requires { ⌜ Within s mostBefore ⌝ }
     requires { ⌜ RowFits w ⌝ }
-    ensures { λ t. ⌜ t ≡ plus s w ⌝ }
+    ensures { λ t. ⌜ t ≡ withoutPr (plus s w) ⌝ }
 {
     let soil = w.soil;
     let q = water::potentials_of(soil, w.pe);
@@ -41,7 +41,7 @@ fn plus(s: Sums, w: WaterRow) -> Sums
         et: s.et + w.et,
         pe: s.pe + w.pe,
         r: s.r + w.r,
-        pr: s.pr + q.pr,
+        pr: 0,
         ro: s.ro + w.ro,
         pro: s.pro + q.pro,
         l: s.l + w.l,
@@ -49,7 +49,8 @@ fn plus(s: Sums, w: WaterRow) -> Sums
     }
 }
 
-// The sums over so many years of the calendar month whose first row stands at a place.
+// The sums over so many years of the calendar month whose first row stands at a place. PR and PRO share the capacity in every month, so
+// that PR's sum is told by PRO's.
 pub fn sums_of(capacity: u32, at: usize, years: u32, records: &[RecordNumbers]) -> Sums
     requires { ⌜ Watered capacity (now records) at years ⌝ }
     ensures { λ s. ⌜ s ≡ sumsOf (rowIn capacity (now (records .entry)) at) years ⌝ }
@@ -71,7 +72,24 @@ pub fn sums_of(capacity: u32, at: usize, years: u32, records: &[RecordNumbers]) 
         s = plus(s, w);
         y += 1;
     }
-    s
+    with_pr(s, capacity * years)
+}
+
+// The sums with PR's, which is what PRO's leaves of so much.
+fn with_pr(s: Sums, whole: u32) -> Sums
+    requires { ⌜ s .pro ≤ whole ⌝ }
+    ensures { λ t. ⌜ t ≡ withPr s (whole - s .pro) ⌝ }
+{
+    Sums {
+        et: s.et,
+        pe: s.pe,
+        r: s.r,
+        pr: whole - s.pro,
+        ro: s.ro,
+        pro: s.pro,
+        l: s.l,
+        pl: s.pl,
+    }
 }
 
 // What one sum is of another, in ten-thousandths, and 0 where the other is 0.

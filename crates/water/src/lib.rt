@@ -120,8 +120,9 @@ fn under_loss(want: u32, su: u32, capacity: u32) -> u32
     smaller(part, su)
 }
 
-// P below PE: the surface layer gives first, then the underlying one.
-fn dry_month(s: Soil, p: u32, pe: u32) -> Balance
+// P below PE: the surface layer gives first, then the underlying one. For the crates above, which hold the soil and the readings in
+// range.
+pub fn dry_month(s: Soil, p: u32, pe: u32) -> Balance
     requires { ⌜ SoilFits s ⌝ }
     requires { ⌜ (p ≤ pe) × (pe ≤ mostReading) ⌝ }
     ensures { λ r. ⌜ r ≡ dryMonth s p pe ⌝ }
@@ -140,8 +141,9 @@ fn dry_month(s: Soil, p: u32, pe: u32) -> Balance
     }
 }
 
-// P at least PE: the excess fills the surface layer, then the underlying one, and the rest runs off.
-fn wet_month(s: Soil, p: u32, pe: u32) -> Balance
+// P at least PE: the excess fills the surface layer, then the underlying one, and the rest runs off. For the crates above, as
+// `dry_month`.
+pub fn wet_month(s: Soil, p: u32, pe: u32) -> Balance
     requires { ⌜ SoilFits s ⌝ }
     requires { ⌜ (pe ≤ p) × (p ≤ mostReading) ⌝ }
     ensures { λ r. ⌜ r ≡ wetMonth s p pe ⌝ }
@@ -161,8 +163,7 @@ fn wet_month(s: Soil, p: u32, pe: u32) -> Balance
     }
 }
 
-// The balance of a month. For the crates above, which hold the soil and the readings in range.
-pub fn balance_of(s: Soil, p: u32, pe: u32) -> Balance
+fn balance_of(s: Soil, p: u32, pe: u32) -> Balance
     requires { ⌜ SoilFits s ⌝ }
     requires { ⌜ (p ≤ mostReading) × (pe ≤ mostReading) ⌝ }
     ensures { λ r. ⌜ r ≡ balanceOf s p pe ⌝ }
@@ -174,7 +175,7 @@ pub fn balance_of(s: Soil, p: u32, pe: u32) -> Balance
     }
 }
 
-// The potentials, from the start storages. For the crates above, as `balance_of`.
+// The potentials, from the start storages. For the crates above, as `dry_month`.
 pub fn potentials_of(s: Soil, pe: u32) -> Potentials
     requires { ⌜ SoilFits s ⌝ }
     requires { ⌜ pe ≤ mostReading ⌝ }
@@ -189,7 +190,7 @@ pub fn potentials_of(s: Soil, pe: u32) -> Potentials
     }
 }
 
-// N, in the thousandths of an inch times the ten-thousandths of a constant. For the crates above, as `balance_of`.
+// N, in the thousandths of an inch times the ten-thousandths of a constant. For the crates above, as `dry_month`.
 pub fn n_of(k: Constants, pe: u32, q: Potentials) -> i64
     requires { ⌜ ConstantsFit k ⌝ }
     requires { ⌜ pe ≤ mostReading ⌝ }

@@ -30,18 +30,17 @@ pub fn years_from(first: u32, months: u32) -> u32
     (months - first) / LAST_MONTH
 }
 
-// Each of so many months, from a row on, had water.
+// Each of so many months, from a row on, had water. All are looked at, whatever the first ones are.
 pub fn all_water(first: u32, many: u32, records: &[RecordNumbers]) -> bool
     requires { ⌜ (first + many ≤ length (now records)) × (first + many ≤ mostMonths) ⌝ }
     ensures { λ r. ⌜ r ≡ allWater (now (records .entry)) first many ⌝ }
 {
+    let mut bad = false;
     let mut k: u32 = 0;
     while k < many {
         let m = records::record_at(records, (first + k) as usize);
-        if m.water != WATER {
-            return false;
-        }
+        bad = bad | (m.water != WATER);
         k += 1;
     }
-    true
+    !bad
 }

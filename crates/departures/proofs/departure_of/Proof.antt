@@ -11,8 +11,6 @@ use lib.Signed.{ltZ, nonNeg}
 use mir.Syntax.{w32, w64}
 use mir.Val.{Fits, SFits, toZ, ofZ}
 use mir.Facts.{toZ-ofZ, toZ-pos}
-use Rattle.exact.specs.Bounds.{mostRounded}
-use Rattle.exact.specs.Nearest.{nearest}
 use Rattle.exact.proofs.Z.{zs, zs-abs, is-Z, fits-within}
 use Rattle.exact.proofs.Held.{held}
 use Rattle.water.specs.Bounds.{mostN}
@@ -56,45 +54,44 @@ n-is c = let a = c .before .before .before .args in c .n-of .ensures ∙ ap (nOf
 bounded : (c : tie.After-n-of) → natAbs (c .n-of .result) ≤ mostN
 bounded c = let s = c .before .before .before in rw (n-is c) (wanted-most (s .args .k) (s .args .w) (s .pre .0) (s .pre .1))
 
-nearest-signed-requires : tie.Need-nearest-signed-requires
-nearest-signed-requires c κs = let k : natAbs (c .before .n-of .result) ≤ mostRounded = omega (arith, bounded (c .before)) in search held
+cafec-of-requires : tie.Need-cafec-of-requires
+cafec-of-requires c κs = rw (toZ-ofZ (record { sfits = c .before .n-of .ok })) (bounded (c .before))
 
 -- ---- P - CAFEC
-abbrev entered : tie.After-nearest-signed → tie.Start
+abbrev entered : tie.After-cafec-of → tie.Start
 entered c = c .before .before .before .before .before
 
-abbrev short : tie.After-nearest-signed → ℤ
+abbrev short : tie.After-cafec-of → ℤ
 short c = let a = entered c .args in pos (a .w .p) -ℤ expectedIn (a .k) (a .w)
 
-cafec-is : (c : tie.After-nearest-signed) → let a = entered c .args in c .nearest-signed .result ≡ expectedIn (a .k) (a .w)
-unfolding cafecOf
+cafec-is : (c : tie.After-cafec-of) → let a = entered c .args in c .cafec-of .result ≡ expectedIn (a .k) (a .w)
 cafec-is c =
     let n = c .before .before in
-    c .nearest-signed .ensures ∙ ap (λ (z : ℤ). nearest z 10000) (toZ-ofZ (record { sfits = n .n-of .ok }) ∙ n-is n)
+    c .cafec-of .ensures ∙ ap cafecOf (toZ-ofZ (record { sfits = n .n-of .ok }) ∙ n-is n)
 
-small : (c : tie.After-nearest-signed) → natAbs (short c) ≤ mostDeparture
+small : (c : tie.After-cafec-of) → natAbs (short c) ≤ mostDeparture
 small c =
     let s = entered c in
     short-most (s .args .w .p) (expectedIn (s .args .k) (s .args .w)) (s .pre .1 .p) (expected-most (s .args .k) (s .args .w) (s .pre .0) (s .pre .1))
 
 -- as the machine reads it
-abbrev read : tie.After-nearest-signed → ℤ
-read c = toZ w64 (entered c .args .w .p) -ℤ toZ w64 (ofZ w64 (c .nearest-signed .result))
+abbrev read : tie.After-cafec-of → ℤ
+read c = toZ w64 (entered c .args .w .p) -ℤ toZ w64 (ofZ w64 (c .cafec-of .result))
 
-read-is : (c : tie.After-nearest-signed) → read c ≡ short c
-read-is c = ap₂ _-ℤ_ (toZ-pos w64 (lt-of-le-of-lt (entered c .pre .1 .p) (lit< tt))) (toZ-ofZ (record { sfits = c .nearest-signed .ok }) ∙ cafec-is c)
+read-is : (c : tie.After-cafec-of) → read c ≡ short c
+read-is c = ap₂ _-ℤ_ (toZ-pos w64 (lt-of-le-of-lt (entered c .pre .1 .p) (lit< tt))) (toZ-ofZ (record { sfits = c .cafec-of .ok }) ∙ cafec-is c)
 
 sub-short : tie.Need-sub-short
 sub-short c = rw (read-is c) (fits-within w64 (short c) mostDeparture (small c) (lit< tt))
 
 -- read back, and turned
-held-is : (c : tie.After-nearest-signed) → toZ w64 (ofZ w64 (read c)) ≡ short c
+held-is : (c : tie.After-cafec-of) → toZ w64 (ofZ w64 (read c)) ≡ short c
 held-is c = toZ-ofZ (sub-short c) ∙ read-is c
 
-turned-fits : (c : tie.After-nearest-signed) → SFits w64 (pos 0 -ℤ short c)
+turned-fits : (c : tie.After-cafec-of) → SFits w64 (pos 0 -ℤ short c)
 turned-fits c = fits-within w64 (pos 0 -ℤ short c) mostDeparture (rw (turned-same (short c)) (small c)) (lit< tt)
 
-turned-is : (c : tie.After-nearest-signed) → toZ w64 (ofZ w64 (pos 0 -ℤ toZ w64 (ofZ w64 (read c)))) ≡ pos 0 -ℤ short c
+turned-is : (c : tie.After-cafec-of) → toZ w64 (ofZ w64 (pos 0 -ℤ toZ w64 (ofZ w64 (read c)))) ≡ pos 0 -ℤ short c
 turned-is c = rw (held-is c) (toZ-ofZ (turned-fits c))
 
 sub-result : tie.Need-sub-result
@@ -125,7 +122,7 @@ departure-of-spec =
     potentials-of-requires
     n-of-requires
     cast-short
-    nearest-signed-requires
+    cafec-of-requires
     sub-short
     sub-result
     cast-result

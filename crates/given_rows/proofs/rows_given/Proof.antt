@@ -23,22 +23,19 @@ test s = let a = s .args in λ i. rowGiven (a .capacity) (recordAt (now (a .reco
 
 -- from the row's test back to the loop
 abbrev at-row : tie.After-row-given Inv-loop μ-loop → tie.At-loop Inv-loop μ-loop
-at-row c = c .before .before .before
+at-row c = c .before .before
 
 row-is : (c : tie.After-row-given Inv-loop μ-loop) → let d = at-row c in c .row-given .result ≡ test (d .before) (d .loop .row)
-row-is c = rw (c .before .record-at .ensures) at (c .row-given .ensures)
+row-is c = c .row-given .ensures
 
 loop-holds : tie.Need-loop-holds Inv-loop μ-loop
 loop-holds c = (omega arith, all-none (test c))
 
-cast-record-at : tie.Need-cast-record-at Inv-loop μ-loop
-cast-record-at c = search needs
-
-record-at-requires : tie.Need-record-at-requires Inv-loop μ-loop
-record-at-requires c κs = omega arith
+cast-row-given : tie.Need-cast-row-given Inv-loop μ-loop
+cast-row-given c = search needs
 
 row-given-requires : tie.Need-row-given-requires Inv-loop μ-loop
-row-given-requires c κs = search needs
+row-given-requires c κs = let s = c .before .before in (s .pre .0, s .pre .1, omega arith)
 
 returns : tie.Need-returns Inv-loop μ-loop
 returns c =
@@ -69,8 +66,7 @@ rows-given-spec =
     Inv-loop
     μ-loop
     loop-holds
-    cast-record-at
-    record-at-requires
+    cast-row-given
     row-given-requires
     returns
     add-row

@@ -2,18 +2,13 @@
 use borrow.Author.Needs.{needs}
 use mathlib.Core.Path.{_≡_}
 use native.Mathlib.Omega.{arith}
+use Rattle.water.proofs.WaterLaws.{potentials-fit}
 use Rattle.sums.specs.Sums.{plus, potentialsIn}
-use Rattle.sums.specs.SumsFit.{SumsFit, mostBefore}
-use Rattle.sums.proofs.SumLaws.{plus-fit}
 use Rattle.sums.proofs.plus.Statement.{statement}
 use Rattle.sums.proofs.plus.Tie as tie
 
 potentials-of-requires : tie.Need-potentials-of-requires
 potentials-of-requires c κs = search needs
-
--- the sums with the month fit
-room : (c : tie.Start) → SumsFit (plus (c .args .s) (c .args .w)) 1000
-room c = plus-fit (c .args .s) (c .args .w) mostBefore (c .pre .0) (c .pre .1)
 
 -- from each sum back to the potentials
 abbrev at-6 : tie.After-struct-known6 → tie.After-potentials-of
@@ -31,9 +26,6 @@ at-12 c = at-10 (c .before .before)
 abbrev at-14 : tie.After-struct-known14 → tie.After-potentials-of
 at-14 c = at-12 (c .before .before)
 
-abbrev at-16 : tie.After-struct-known16 → tie.After-potentials-of
-at-16 c = at-14 (c .before .before)
-
 abbrev start : tie.After-potentials-of → tie.Start
 start c = c .before .before
 
@@ -47,32 +39,37 @@ add-t6 : tie.Need-add-t6
 add-t6 c = search needs
 
 add-t7 : tie.Need-add-t7
-unfolding plus
-add-t7 c = omega (arith, room (start (at-6 c)) .r, room (start (at-6 c)) .pr)
+add-t7 c =
+    let s = start (at-6 c) in
+    let q = potentials-fit (s .args .w .soil) (s .args .w .pe) (s .pre .1 .soil) in
+    omega (arith, q, s .pre .0 .r, s .pre .1 .r)
 
 add-t8 : tie.Need-add-t8
-unfolding plus
-add-t8 c = rw (potentials-are (at-8 c)) (omega (arith, room (start (at-8 c)) .pr))
+add-t8 c =
+    let s = start (at-8 c) in
+    omega (arith, s .pre .0 .ro, s .pre .1 .ro, s .pre .1 .p)
 
 add-t9 : tie.Need-add-t9
-unfolding plus
-add-t9 c = omega (arith, room (start (at-10 c)) .ro)
+add-t9 c =
+    let s = start (at-10 c) in
+    let q = potentials-fit (s .args .w .soil) (s .args .w .pe) (s .pre .1 .soil) in
+    rw (potentials-are (at-10 c)) (omega (arith, q, s .pre .0 .pro))
 
 add-t10 : tie.Need-add-t10
-unfolding plus
-add-t10 c = rw (potentials-are (at-12 c)) (omega (arith, room (start (at-12 c)) .pro))
+add-t10 c =
+    let s = start (at-12 c) in
+    let q = potentials-fit (s .args .w .soil) (s .args .w .pe) (s .pre .1 .soil) in
+    omega (arith, q, s .pre .0 .l, s .pre .1 .l)
 
 add-t11 : tie.Need-add-t11
-unfolding plus
-add-t11 c = omega (arith, room (start (at-14 c)) .l, room (start (at-14 c)) .pl)
-
-add-t12 : tie.Need-add-t12
-unfolding plus
-add-t12 c = rw (potentials-are (at-16 c)) (omega (arith, room (start (at-16 c)) .pl))
+add-t11 c =
+    let s = start (at-14 c) in
+    let q = potentials-fit (s .args .w .soil) (s .args .w .pe) (s .pre .1 .soil) in
+    rw (potentials-are (at-14 c)) (omega (arith, q, s .pre .0 .pl))
 
 returns : tie.Need-returns
 unfolding plus
-returns c = rw (potentials-are (at-16 c))
+returns c = rw (potentials-are (at-14 c))
 
 pub plus-spec : {M : Type 1} → statement M
 plus-spec =
@@ -86,5 +83,4 @@ plus-spec =
     add-t9
     add-t10
     add-t11
-    add-t12
     returns)

@@ -1,15 +1,14 @@
--- `years::all_water` meets its contract. The loop's invariant: each month passed had water. Assumes nothing.
-use mathlib.Core.Path.{_≡_, sym, ap, _∙_}
-use mathlib.Core.Bool.{Bool, true}
+-- `years::all_water` meets its contract. The loop's invariant: whether each month passed had water is known. Assumes nothing.
+use mathlib.Core.Path.{_≡_, refl, ap, _∙_}
+use mathlib.Core.Bool.{Bool, not, Bool·not-not}
 use Prim.Native.Nat.{ℕ, _+_, _-_, _≤_}
 use native.Mathlib.Omega.{arith}
 use lib.Dec.{eqb}
 use mir.Syntax.{w32}
 use mir.Val.{SFits, ofZ}
 use borrow.Author.Needs.{needs}
-use borrow.Author.Tests.{eq-eqb, ne-eqb}
 use denote.Ref.{now}
-use Rattle.outline.proofs.Every.{all-none, all-more, all-spoilt}
+use Rattle.outline.proofs.Every.{all-none, bad-on}
 use Rattle.records.specs.Record.{recordAt}
 use Rattle.records.specs.Water.{hadWater}
 use Rattle.records.proofs.Fitting.{water-is}
@@ -18,10 +17,10 @@ use Rattle.years.proofs.all_water.Statement.{statement}
 use Rattle.years.proofs.all_water.Tie as tie
 
 abbrev Inv-loop : tie.InvT-loop
-Inv-loop first many records k₀ k = (k ≤ many) × (allWater records first k ≡ true)
+Inv-loop first many records bad₀ k₀ bad k = (k ≤ many) × (bad ≡ not (allWater records first k))
 
 abbrev μ-loop : tie.MeasureT-loop
-μ-loop first many records k₀ k = many - k
+μ-loop first many records bad₀ k₀ bad k = many - k
 
 abbrev had : tie.Start Inv-loop μ-loop → ℕ → Bool
 had s = let a = s .args in λ k. hadWater (recordAt (now (a .records)) (a .first + k))
@@ -38,7 +37,7 @@ test-is t =
     water-is (r .result) f ∙ ap hadWater (r .ensures)
 
 loop-holds : tie.Need-loop-holds Inv-loop μ-loop
-loop-holds c = (omega arith, all-none (had c))
+loop-holds c = (omega arith, rw (all-none (had c)) refl)
 
 add-record-at : tie.Need-add-record-at Inv-loop μ-loop
 add-record-at c = omega arith
@@ -49,11 +48,6 @@ cast-record-at c = search needs
 record-at-requires : tie.Need-record-at-requires Inv-loop μ-loop
 record-at-requires c κs = omega arith
 
-returns : tie.Need-returns Inv-loop μ-loop
-returns c =
-    let d = at-month (c .before) in
-    sym (all-spoilt (had (d .before)) (d .before .args .many) (d .loop .k) (omega arith) (sym (test-is (c .before)) ∙ ne-eqb _ 1 (c .if1 .taken)))
-
 add-k : tie.Need-add-k Inv-loop μ-loop
 add-k c = omega arith
 
@@ -62,14 +56,15 @@ loop-less c = omega arith
 
 loop-again : tie.Need-loop-again Inv-loop μ-loop
 loop-again c =
-    let d = at-month (c .before) in
-    (omega arith, all-more (had (d .before)) (d .loop .k) (d .loop .inv .1) (sym (test-is (c .before)) ∙ eq-eqb _ 1 (c .if1 .left)))
+    let d = at-month c in
+    (omega arith, bad-on (had (d .before)) (d .loop .k) (d .loop .bad) _ (d .loop .inv .1) (ap not (test-is c)))
 
-returns-2 : tie.Need-returns-2 Inv-loop μ-loop
-returns-2 c =
+returns : tie.Need-returns Inv-loop μ-loop
+returns c =
     let s = c .before .before in
     let e : c .before .loop .k ≡ s .args .many = omega arith in
-    sym (rw e at (c .before .loop .inv .1))
+    let b : c .before .loop .bad ≡ not (allWater (now (s .args .records)) (s .args .first) (s .args .many)) = rw e at (c .before .loop .inv .1) in
+    rw b (Bool·not-not _)
 
 pub all-water-spec : {M : Type 1} → statement M
 all-water-spec =
@@ -81,8 +76,7 @@ all-water-spec =
     add-record-at
     cast-record-at
     record-at-requires
-    returns
     add-k
     loop-less
     loop-again
-    returns-2)
+    returns)
