@@ -33,7 +33,7 @@
  *   January 22500                        twelve lines, January to December, ten-thousandths: the first weights, of
  *                                        which the K are made; 0 to 100000, though one of 0 comes to no K
  *
- * Where the file has constants, their K are the weights, and the others are not looked at.
+ * Where the file has constants, their K are the weights; of the others it is asked only that they are in range.
  *
  * A file of repairs is written by the same rules, and its lines are:
  *
