@@ -1,7 +1,7 @@
 -- The refusals of the two calls: what a number of 0 says of the run and the columns (`record-good`), of the weights (`weights-good`) and of the years
 -- (`years-good`), and that every row of the years is one that an add gives (`watered`). Assumes nothing.
 use mathlib.Core.Path.{_≡_, refl, sym, ap, _∙_}
-use mathlib.Core.Bool.{Bool, true, false, cond, _&&_, false≢true}
+use mathlib.Core.Bool.{Bool, true, false, cond, false≢true}
 use mathlib.Core.List.{List}
 use Prim.Native.Nat.{ℕ, _+_, _-_, _*_, _≤_, _<_}
 use native.Mathlib.Omega.{arith}

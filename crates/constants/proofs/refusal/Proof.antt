@@ -1,15 +1,14 @@
 -- `constants::refusal` meets its contract: 1 and 7, what else is handed in, and 18, each where those before it are 0. Assumes nothing.
-use mathlib.Core.Path.{_≡_, sym, ap, _∙_}
+use mathlib.Core.Path.{_≡_, sym, _∙_}
 use native.Mathlib.Omega.{arith}
 use borrow.Author.Needs.{needs}
 use denote.Ref.{now}
-use Rattle.outline.specs.Refusals.{orElse}
 use Rattle.outline.proofs.Refusals.{or-first, or-second}
 use Rattle.runs.specs.Progress.{runOf}
 use Rattle.runs.specs.declared.Run.{Run}
 use Rattle.refusals.specs.Book.{Book, book}
 use Rattle.refusals.specs.Good.{Good}
-use Rattle.constants.specs.WorkOut.{spanOf, recordRefusal, yearsRefusal}
+use Rattle.constants.specs.WorkOut.{recordRefusal}
 use Rattle.constants.specs.Asked.{askedRefusal}
 use Rattle.constants.proofs.Passes.{record-good, calendar-good, years-room, some-first}
 use Rattle.constants.proofs.refusal.Statement.{statement}

@@ -9,8 +9,7 @@ use denote.Ref.{now}
 use Rattle.given_rows.specs.Facts.{RowFits}
 use Rattle.given_rows.specs.declared.WaterRow.{WaterRow}
 use Rattle.sums.specs.Sums.{rowIn, sumsOf}
-use Rattle.sums.specs.SumsFit.{withPr, withoutPr, mostBefore}
-use Rattle.sums.specs.declared.Sums.{Sums}
+use Rattle.sums.specs.SumsFit.{withoutPr, mostBefore}
 use Rattle.sums.proofs.SumLaws.{rows-fit, sums-none, sums-more, pr-rest, sums-fit, fit-within}
 use Rattle.sums.proofs.sums_of.Statement.{statement}
 use Rattle.sums.proofs.sums_of.Tie as tie

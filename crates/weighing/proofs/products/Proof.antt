@@ -4,7 +4,6 @@ use mathlib.Core.Path.{_≡_, sym, ap, ap₂, _∙_}
 use Prim.Native.Nat.{ℕ, _+_, _-_, _*_, _≤_}
 use native.Mathlib.Omega.{arith}
 use lib.ListN.{getD}
-use borrow.Author.Needs.{needs}
 use denote.Ref.{now}
 use Rattle.outline.specs.Numbers.{lastMonth}
 use Rattle.weighing.specs.Weighing.{products}

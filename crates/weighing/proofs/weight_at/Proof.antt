@@ -1,6 +1,5 @@
 -- `weighing::weight_at` meets its contract: a weight in its range is not below zero. Assumes nothing.
 use borrow.Author.Needs.{needs}
-use mathlib.Core.Path.{_≡_}
 use native.Mathlib.Omega.{arith}
 use lib.IntN.{pos}
 use lib.ListN.{getD}
