@@ -40,7 +40,6 @@ GROWN = (2400, 12000)
 MOST = Fraction(1)
 MOST_OF = dict.fromkeys(('season-6', 'start', 'division'), Fraction(102, 100))
 MOST_OF.update(dict.fromkeys(('repair-2400', 'repair-12000'), Fraction(101, 100)))
-MOST_OF.update(dict.fromkeys(('work-out-2400', 'work-out-12000'), Fraction(102, 100)))
 MOST_GROWTH = Fraction(52, 10)
 STACK_UNDER = {'add water': 1000, 'repair': 1000, 'whole series': 1000}
 

@@ -190,8 +190,8 @@ pub fn potentials_of(s: Soil, pe: u32) -> Potentials
     }
 }
 
-// N, in the thousandths of an inch times the ten-thousandths of a constant. For the crates above, as `dry_month`.
-pub fn n_of(k: Constants, pe: u32, q: Potentials) -> i64
+// N, in the thousandths of an inch times the ten-thousandths of a constant.
+fn n_of(k: Constants, pe: u32, q: Potentials) -> i64
     requires { ⌜ ConstantsFit k ⌝ }
     requires { ⌜ pe ≤ mostReading ⌝ }
     requires { ⌜ (q .pr + q .pro ≤ mostCapacity) × (q .pl ≤ q .pro) ⌝ }

@@ -15,7 +15,7 @@ use Rattle.exact.proofs.Z.{zs, zs-abs, is-Z, fits-within}
 use Rattle.exact.proofs.Held.{held}
 use Rattle.water.specs.Bounds.{mostN}
 use Rattle.water.specs.Expected.{nOf, cafecOf}
-use Rattle.water.proofs.WaterLaws.{potentials-fit}
+use Rattle.water.proofs.WaterLaws.{potential-shares, potential-loss}
 use Rattle.sums.specs.Sums.{potentialsIn}
 use Rattle.departures.specs.Departures.{expectedIn, departureOf}
 use Rattle.departures.proofs.DepartureLaws.{mostDeparture, short-most, wanted-most, expected-most}
@@ -42,7 +42,8 @@ n-of-requires : tie.Need-n-of-requires
 n-of-requires c κs =
     let s = c .before .before in
     let w = s .args .w in
-    (s .pre .0, (s .pre .1 .pe, rw (c .potentials-of .ensures) (potentials-fit (w .soil) (w .pe) (s .pre .1 .soil))))
+    let f = s .pre .1 .soil in
+    (s .pre .0, (s .pre .1 .pe, f .most, rw (c .potentials-of .ensures) (potential-shares (w .soil) (w .pe) f), rw (c .potentials-of .ensures) (potential-loss (w .soil) (w .pe))))
 
 cast-short : tie.Need-cast-short
 cast-short c = search held
