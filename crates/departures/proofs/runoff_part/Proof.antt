@@ -5,7 +5,7 @@ use native.Mathlib.Nat.{lt-of-le-of-lt}
 use lib.Dec.{lit<}
 use lib.IntN.{pos, _-ℤ_, _*ℤ_}
 use mir.Syntax.{w64}
-use mir.Val.{SFits, toZ, ofZ}
+use mir.Val.{toZ, ofZ}
 use mir.Facts.{toZ-ofZ, toZ-pos}
 use Rattle.exact.proofs.Z.{fits-within}
 use Rattle.departures.proofs.DepartureLaws.{slope-most, part-most}
