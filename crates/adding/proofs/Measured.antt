@@ -30,7 +30,7 @@ use Rattle.adding.specs.Figures.{water_figures}
 use Rattle.adding.specs.Progress.{added_of, month_added}
 use Rattle.adding.specs.Ready.{Watered}
 use Rattle.adding.specs.Spelled.{Spells}
-use Rattle.adding.specs.Taken.{result, soil_after, taken_water, water_of}
+use Rattle.adding.specs.Taken.{result_of, soil_after, taken_water, water_of}
 use Rattle.adding.specs.declared.MonthAdded.{MonthAdded}
 use Rattle.adding.specs.declared.Spelled.{Spelled}
 use Rattle.adding.proofs.Taken.{taken_is}
@@ -58,6 +58,6 @@ module _ (at : Progress) (ks : List ℤ) where
       → (records : List (List ℤ)) → records ≡ set cs.records at.months (numbers_of (water_record at.soil p pe m s.modified kinds.p))
       → (v : List ℤ) → v ≡ set cs.v at.months s.values.v
       → (t : MonthAdded) → t ≡ month_added at (soil_after at.soil m) (water_figures p pe kinds m) m.z s
-      → result (added_of t ks) (book_of ds records v) ≡ taken_water (run_of at ks) p pe kinds cs
+      → result_of (added_of t ks) (book_of ds records v) ≡ taken_water (run_of at ks) p pe kinds cs
   unfolding taken_water
   measured-is p pe kinds m i cs ds s h records f v g t e = rw (← i.is, e) (taken_is at (soil_after at.soil m) (water_figures p pe kinds m) m.z (water_record at.soil p pe m (modified_of at.values m.z) kinds.p) cs s ds records v h (rw h.modified_is at f) g ks)

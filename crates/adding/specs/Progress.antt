@@ -6,7 +6,7 @@ use Rattle.calendar.specs.Calendar.{next_calendar}
 use Rattle.records.specs.declared.Record.{Record}
 use Rattle.refusals.specs.Book.{Book}
 use Rattle.adding.specs.Figures.{no_figures}
-use Rattle.adding.specs.Taken.{result, taken}
+use Rattle.adding.specs.Taken.{result_of, taken}
 use Rattle.adding.specs.declared.WaterFigures.{WaterFigures}
 use Rattle.adding.specs.declared.Added.{Added}
 use Rattle.runs.specs.Progress.{run_of}
@@ -52,4 +52,4 @@ not_added k at = record { number = k; settled = 0; figures = no_figures; progres
 
 -- a month that is added, whatever the run's constants: its answer and the columns that it leaves are those of `taken`
 abbrev pub Takes : Progress → Soil → WaterFigures → ℤ → Record → Book → MonthAdded → Book → Type 0
-Takes at soil w z kept cs t ds = (k : List ℤ) → result (added_of t k) ds ≡ taken (run_of at k) soil w z kept cs
+Takes at soil w z kept cs t ds = (k : List ℤ) → result_of (added_of t k) ds ≡ taken (run_of at k) soil w z kept cs

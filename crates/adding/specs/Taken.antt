@@ -27,8 +27,8 @@ pub record Result : Type 0 where
   pub answer : Added
   pub columns : Book
 
-abbrev pub result : Added → Book → Result
-result a cs = record { answer = a; columns = cs }
+abbrev pub result_of : Added → Book → Result
+result_of a cs = record { answer = a; columns = cs }
 
 -- "A refusal returns its number with all figures 0 and the run given .. and writes nothing lent."
 abbrev pub refusal : ℕ → Run → Added
@@ -66,7 +66,7 @@ run_after r soil s after =
 -- a month that is added: the storages at its end, its water, its Z, its record
 unfoldable pub taken : Run → Soil → WaterFigures → ℤ → Record → Book → Result
 taken r soil w z kept cs =
-    result
+    result_of
     (record {
       number = 0;
       settled = settled_count (held_by r cs) (row_for (step_of r.values z));
@@ -95,4 +95,4 @@ taken_water r p pe kinds cs =
 
 -- the result, or where the number k is not 0 its refusal
 abbrev pub answered : ℕ → Run → Book → Result → Result
-answered k r cs done = unless_refused k done (result (refusal k r) cs)
+answered k r cs done = unless_refused k done (result_of (refusal k r) cs)

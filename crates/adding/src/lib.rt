@@ -3,6 +3,8 @@
 // For the crates that add a month, `taking` and `season_month`, and those that make the calls, `drought` and `season`, which ask for every refusal first: what has a `requires` is
 // for them alone. A run goes through here without its sixty constants, and an answer is put together once, where a call
 // hands it back.
+#![tactic(auto)]
+
 ghost use Rattle.std.specs.Prelude.{◌≡◌, true, ◌≤◌, ◌<◌, nat_abs};
 ghost use Rattle.outline.specs.Numbers.{most_z, most_months};
 ghost use Rattle.ranges.specs.Ranges.{calendar_fits};

@@ -3,6 +3,8 @@
 //
 // `constants_at` and `next_calendar` are for the crate above, which holds the constants and the month in range before it
 // calls.
+#![tactic(auto)]
+
 ghost use Rattle.std.specs.Prelude.{◌≡◌, true, not, ◌&&◌, ◌+◌, ◌%◌, ◌≤◌, ◌<◌, pos, nat_abs, get_or};
 ghost use Rattle.outline.specs.Numbers.{many_constants, many_of_a_month};
 ghost use Rattle.ranges.specs.Ranges.{constants_fit, calendar_fits};

@@ -3,6 +3,8 @@
 //
 // A reading comes in as a struct, and its answer goes out as one (the crate `kinds`). All else is handed on as it came, and
 // so is each promise.
+#![tactic(auto)]
+
 ghost use Rattle.std.specs.Prelude.{◌≡◌};
 ghost use Rattle.door.specs.Outcome.{told_as};
 ghost use Rattle.door.specs.Readings.{reading};
@@ -10,7 +12,7 @@ ghost use Rattle.starts.specs.Start.{start_of};
 ghost use Rattle.series.specs.Series.{filled, whole_series};
 ghost use Rattle.refusals.specs.Book.{book};
 ghost use Rattle.drought.specs.Calls.{add_water, add_inches, add_z, row_of_run};
-ghost use Rattle.adding.specs.Taken.{result};
+ghost use Rattle.adding.specs.Taken.{result_of};
 ghost use Rattle.season.specs.Season.{season_result, add_season};
 ghost use Rattle.repair.specs.Repair.{repair_result, repair};
 ghost use Rattle.constants.specs.WorkOut.{work_out, sum_month};
@@ -37,7 +39,7 @@ use starts::Started;
 // Reads a reading: 8 or 9.
 #[unsafe(no_mangle)]
 pub extern "C" fn card_read(g: CReading) -> Told
-    ensures* { λ t. ⌜ told_as t ≡ reading (reading_of_c g) ⌝ }
+    ensures { told_as result ≡ reading (reading_of_c g) }
 {
     door::tell(drought::read(kinds::reading_of(g)))
 }
@@ -51,7 +53,7 @@ pub extern "C" fn card_start(
     underlying: i32,
     month: i32,
 ) -> Started
-    ensures* { λ r. ⌜ r ≡ start_of constants.now capacity surface underlying month ⌝ }
+    ensures { result ≡ start_of constants.now capacity surface underlying month }
 {
     drought::start(constants, capacity, surface, underlying, month)
 }
@@ -70,7 +72,7 @@ pub extern "C" fn card_add_water(
     records: &mut [RecordNumbers],
     v: &mut [i64],
 ) -> Added
-    ensures* { λ a. ⌜ result a (book x1.new x2.new x3.new index.new mark.new records.new v.new) ≡ add_water run (reading_of_c p) (reading_of_c pe) (book x1.old x2.old x3.old index.old mark.old records.old v.old) ⌝ }
+    ensures { result_of result (book x1.new x2.new x3.new index.new mark.new records.new v.new) ≡ add_water run (reading_of_c p) (reading_of_c pe) (book x1.old x2.old x3.old index.old mark.old records.old v.old) }
 {
     let a = kinds::reading_of(p);
     let b = kinds::reading_of(pe);
@@ -90,7 +92,7 @@ pub extern "C" fn card_add_inches(
     records: &mut [RecordNumbers],
     v: &mut [i64],
 ) -> Added
-    ensures* { λ a. ⌜ result a (book x1.new x2.new x3.new index.new mark.new records.new v.new) ≡ add_inches run q (book x1.old x2.old x3.old index.old mark.old records.old v.old) ⌝ }
+    ensures { result_of result (book x1.new x2.new x3.new index.new mark.new records.new v.new) ≡ add_inches run q (book x1.old x2.old x3.old index.old mark.old records.old v.old) }
 {
     drought::add_inches(run, q, x1, x2, x3, index, mark, records, v)
 }
@@ -108,7 +110,7 @@ pub extern "C" fn card_add_z(
     records: &mut [RecordNumbers],
     v: &mut [i64],
 ) -> Added
-    ensures* { λ a. ⌜ result a (book x1.new x2.new x3.new index.new mark.new records.new v.new) ≡ add_z run z (book x1.old x2.old x3.old index.old mark.old records.old v.old) ⌝ }
+    ensures { result_of result (book x1.new x2.new x3.new index.new mark.new records.new v.new) ≡ add_z run z (book x1.old x2.old x3.old index.old mark.old records.old v.old) }
 {
     drought::add_z(run, z, x1, x2, x3, index, mark, records, v)
 }
@@ -128,7 +130,7 @@ pub extern "C" fn card_add_season(
     records: &mut [RecordNumbers],
     v: &mut [i64],
 ) -> Season
-    ensures* { λ s. ⌜ season_result s (book x1.new x2.new x3.new index.new mark.new records.new v.new) ≡ add_season run p.now pe.now (book x1.old x2.old x3.old index.old mark.old records.old v.old) ⌝ }
+    ensures { season_result result (book x1.new x2.new x3.new index.new mark.new records.new v.new) ≡ add_season run p.now pe.now (book x1.old x2.old x3.old index.old mark.old records.old v.old) }
 {
     season::add_season(run, p, pe, x1, x2, x3, index, mark, records, v)
 }
@@ -149,7 +151,7 @@ pub extern "C" fn card_repair(
     v: &mut [i64],
     report: &mut [ChangeNumbers],
 ) -> Repaired
-    ensures* { λ a. ⌜ repair_result a (book x1.new x2.new x3.new index.new mark.new records.new v.new) report.new ≡ repair run i (reading_of_c p) (reading_of_c pe) (book x1.old x2.old x3.old index.old mark.old records.old v.old) report.old ⌝ }
+    ensures { repair_result result (book x1.new x2.new x3.new index.new mark.new records.new v.new) report.new ≡ repair run i (reading_of_c p) (reading_of_c pe) (book x1.old x2.old x3.old index.old mark.old records.old v.old) report.old }
 {
     let rain = kinds::reading_of(p);
     let demand = kinds::reading_of(pe);
@@ -171,7 +173,7 @@ pub extern "C" fn card_row(
     records: &[RecordNumbers],
     v: &[i64],
 ) -> Shown
-    ensures* { λ r. ⌜ r ≡ row_of_run run i (book x1.now x2.now x3.now index.now mark.now records.now v.now) ⌝ }
+    ensures { result ≡ row_of_run run i (book x1.now x2.now x3.now index.now mark.now records.now v.now) }
 {
     drought::row(run, i, x1, x2, x3, index, mark, records, v)
 }
@@ -179,7 +181,7 @@ pub extern "C" fn card_row(
 // The whole series of a list of Z: fills indexes and marks. 1, 12.
 #[unsafe(no_mangle)]
 pub extern "C" fn card_whole_series(z: &[i32], index: &mut [i32], mark: &mut [u8]) -> u8
-    ensures* { λ r. ⌜ filled r index.new mark.new ≡ whole_series z.now index.old mark.old ⌝ }
+    ensures { filled result index.new mark.new ≡ whole_series z.now index.old mark.old }
 {
     drought::whole_series(z, index, mark)
 }
@@ -197,7 +199,7 @@ pub extern "C" fn card_work_out(
     records: &[RecordNumbers],
     v: &[i64],
 ) -> WorkedOut
-    ensures* { λ r. ⌜ r ≡ work_out run weights.now (book x1.now x2.now x3.now index.now mark.now records.now v.now) ⌝ }
+    ensures { result ≡ work_out run weights.now (book x1.now x2.now x3.now index.now mark.now records.now v.now) }
 {
     constants::work_out(run, weights, x1, x2, x3, index, mark, records, v)
 }
@@ -215,7 +217,7 @@ pub extern "C" fn card_sum_month(
     records: &[RecordNumbers],
     v: &[i64],
 ) -> Summed
-    ensures* { λ r. ⌜ r ≡ sum_month run month (book x1.now x2.now x3.now index.now mark.now records.now v.now) ⌝ }
+    ensures { result ≡ sum_month run month (book x1.now x2.now x3.now index.now mark.now records.now v.now) }
 {
     constants::sum_month(run, month, x1, x2, x3, index, mark, records, v)
 }
@@ -237,7 +239,7 @@ pub extern "C" fn card_write_index_line(
     v: &[i64],
     line: &mut [u8],
 ) -> u8
-    ensures* { λ k. ⌜ written k line.new ≡ write_line run Element.Index state division year which (book x1.now x2.now x3.now index.now mark.now records.now v.now) line.old ⌝ }
+    ensures { written result line.new ≡ write_line run Element.Index state division year which (book x1.now x2.now x3.now index.now mark.now records.now v.now) line.old }
 {
     sending::write_line(
         run,
@@ -274,7 +276,7 @@ pub extern "C" fn card_write_z_line(
     v: &[i64],
     line: &mut [u8],
 ) -> u8
-    ensures* { λ k. ⌜ written k line.new ≡ write_line run Element.Z state division year which (book x1.now x2.now x3.now index.now mark.now records.now v.now) line.old ⌝ }
+    ensures { written result line.new ≡ write_line run Element.Z state division year which (book x1.now x2.now x3.now index.now mark.now records.now v.now) line.old }
 {
     sending::write_line(
         run,
@@ -311,7 +313,7 @@ pub extern "C" fn card_write_modified_line(
     v: &[i64],
     line: &mut [u8],
 ) -> u8
-    ensures* { λ k. ⌜ written k line.new ≡ write_line run Element.Modified state division year which (book x1.now x2.now x3.now index.now mark.now records.now v.now) line.old ⌝ }
+    ensures { written result line.new ≡ write_line run Element.Modified state division year which (book x1.now x2.now x3.now index.now mark.now records.now v.now) line.old }
 {
     sending::write_line(
         run,
@@ -334,7 +336,7 @@ pub extern "C" fn card_write_modified_line(
 // Reads a line of indexes, for a named state, division and expected year: 14, 15, 16.
 #[unsafe(no_mangle)]
 pub extern "C" fn card_read_index_line(line: &[u8], state: u32, division: u32, year: u32) -> Figures
-    ensures* { λ r. ⌜ r ≡ figures_said line.now Element.Index state division year ⌝ }
+    ensures { result ≡ figures_said line.now Element.Index state division year }
 {
     layout_figures::read(line, Element::Index, state, division, year)
 }
@@ -342,7 +344,7 @@ pub extern "C" fn card_read_index_line(line: &[u8], state: u32, division: u32, y
 // The same of Z.
 #[unsafe(no_mangle)]
 pub extern "C" fn card_read_z_line(line: &[u8], state: u32, division: u32, year: u32) -> Figures
-    ensures* { λ r. ⌜ r ≡ figures_said line.now Element.Z state division year ⌝ }
+    ensures { result ≡ figures_said line.now Element.Z state division year }
 {
     layout_figures::read(line, Element::Z, state, division, year)
 }
@@ -355,7 +357,7 @@ pub extern "C" fn card_read_modified_line(
     division: u32,
     year: u32,
 ) -> Figures
-    ensures* { λ r. ⌜ r ≡ figures_said line.now Element.Modified state division year ⌝ }
+    ensures { result ≡ figures_said line.now Element.Modified state division year }
 {
     layout_figures::read(line, Element::Modified, state, division, year)
 }
@@ -363,7 +365,7 @@ pub extern "C" fn card_read_modified_line(
 // The year that a line's columns say, or 0: for the first line of a file, whose year is not known before.
 #[unsafe(no_mangle)]
 pub extern "C" fn card_line_year(line: &[u8]) -> u32
-    ensures* { λ r. ⌜ r ≡ year_of line.now ⌝ }
+    ensures { result ≡ year_of line.now }
 {
     layout::year_of(line)
 }
@@ -371,7 +373,7 @@ pub extern "C" fn card_line_year(line: &[u8]) -> u32
 // The column where the first field at fault of a line begins, counted from 1, or 0: for a person who is told 14.
 #[unsafe(no_mangle)]
 pub extern "C" fn card_line_fault(line: &[u8]) -> u32
-    ensures* { λ r. ⌜ r ≡ fault_of line.now ⌝ }
+    ensures { result ≡ fault_of line.now }
 {
     layout::fault(line)
 }

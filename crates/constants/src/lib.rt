@@ -2,6 +2,8 @@
 //
 // Each promise: the answer equals a definition of what was handed in (specs/WorkOut.antt), for every input, refused or not. No call
 // has a `requires`, and none writes: all that is lent is lent for reading.
+#![tactic(auto)]
+
 ghost use Rattle.std.specs.Prelude.{◌≡◌, true, cond, List, ℕ, ◌+◌, ◌*◌, ◌≤◌, ℤ, length};
 ghost use Rattle.outline.specs.Numbers.{last_month, most_months};
 ghost use Rattle.outline.specs.Refusals.{bad_month};

@@ -37,7 +37,7 @@ use Rattle.records.specs.Record.{numbers_of}
 use Rattle.records.specs.declared.Record.{Record}
 use Rattle.refusals.specs.Book.{Book, book}
 use Rattle.adding.specs.Figures.{no_figures}
-use Rattle.adding.specs.Taken.{Result, result, refusal}
+use Rattle.adding.specs.Taken.{Result, result_of, refusal}
 use Rattle.adding.specs.declared.Figures.{Figures}
 use Rattle.adding.specs.declared.Added.{Added}
 use Rattle.season.specs.Season.{SeasonResult}
@@ -84,14 +84,14 @@ honest k a b = (a, b)
 
 -- what an add leaves, of its parts
 abbrev of : ℕ → ℕ → Figures → Run → Book → Result
-of number settled figures run cs = result (record { number = number; settled = settled; figures = figures; run = run }) cs
+of number settled figures run cs = result_of (record { number = number; settled = settled; figures = figures; run = run }) cs
 
 -- ---- `Answers`: no other number; and of a refused call nothing but its refusal, with the run and the columns given
 module _ (r : Run) (cs : Book) (k : ℕ) (b : Result) where
   pub answers_number : Answers r cs k b → b.answer.number ≡ k
   answers_number h = h.0
 
-  pub answers-refused : (k ≡ 0 → ⊥) → Answers r cs k b → b ≡ result (refusal k r) cs
+  pub answers-refused : (k ≡ 0 → ⊥) → Answers r cs k b → b ≡ result_of (refusal k r) cs
   answers-refused n h =
       let f = h.1 n in
       let e : of b.answer.number b.answer.settled b.answer.figures b.answer.run b.columns ≡ of k 0 no_figures r cs = rw (h.0, f.0, f.1, f.2, f.3) in
@@ -111,7 +111,7 @@ storing ss su =
 
 abbrev month : ℕ → ℕ → ℕ → ℕ → ℕ → Result
 month p et ro ss su =
-    result
+    result_of
     (record {
       number = 0;
       settled = 0;

@@ -30,7 +30,7 @@ use Rattle.refusals.specs.Good.{Good}
 use Rattle.refusals.specs.Refusals.{is_run_for, is_run_of, run_refusal, row_refusal}
 use Rattle.refusals.proofs.Refused.{columns_are, row-passes}
 use Rattle.run_laws.proofs.Keeps.{wrote-index, wrote-mark}
-use Rattle.adding.specs.Taken.{Result, result, held_in, held_by, written, recorded, taken, taken_water, answered}
+use Rattle.adding.specs.Taken.{Result, result_of, held_in, held_by, written, recorded, taken, taken_water, answered}
 use Rattle.door.specs.Readings.{month}
 use Rattle.drought.specs.Calls.{add_outcomes, add_water, add_inches, add_z, shown, not_shown, row_of_run}
 use Rattle.demands.specs.Months.{Ask, water, inches, anomaly, asked, station_of, z_for, soil_for, water_for, record_for, station_row}
@@ -162,25 +162,25 @@ left-longer cs more f at l s held kept =
     rw (set-append_left cs.x1 more.x1 at s.after.x1 l, set-append_left cs.x2 more.x2 at s.after.x2 (omega (arith, c.x2_is)), set-append_left cs.x3 more.x3 at s.after.x3 (omega (arith, c.x3_is)), drop-append-le (suc at) cs.index more.index (omega (arith, c.index_is)), drop-append-le (suc at) cs.mark more.mark (omega (arith, c.mark_is)), append_assoc held.index (drop (suc at) cs.index) more.index, append_assoc held.mark (drop (suc at) cs.mark) more.mark, set-append_left cs.records more.records at (numbers_of kept) (omega (arith, c.records_is)), set-append_left cs.v more.v at s.after.v (omega (arith, c.v_is)))
 
 taken-longer : (r : Run) (a : Ask) (cs more : Book) → columns_fit cs ≡ true → r.months < long cs → held_by r (longer cs more) ≡ held_by r cs
-    → month-of r a (longer cs more) ≡ result (month-of r a cs).answer (longer (month-of r a cs).columns more)
+    → month-of r a (longer cs more) ≡ result_of (month-of r a cs).answer (longer (month-of r a cs).columns more)
 unfolding taken
 taken-longer r a cs more f l h =
     let s = step_of r.values (z_for (station_of r) a) in
-    rw h (ap (λ (ds : Book). result (month-of r a cs).answer ds) (left-longer cs more f r.months l s (add_month (held_by r cs) (station_row (station_of r) a)) (record_for (station_of r) a)))
+    rw h (ap (λ (ds : Book). result_of (month-of r a cs).answer ds) (left-longer cs more f r.months l s (add_month (held_by r cs) (station_row (station_of r) a)) (record_for (station_of r) a)))
 
 module _ (r : Run) (a : Ask) (cs more : Book) (f : Lent cs more) where
-  pub adds : r.months ≤ long cs → ((asked r a cs).answer.number ≡ full → ⊥) → asked r a (longer cs more) ≡ result (asked r a cs).answer (longer (asked r a cs).columns more)
+  pub adds : r.months ≤ long cs → ((asked r a cs).answer.number ≡ full → ⊥) → asked r a (longer cs more) ≡ result_of (asked r a cs).answer (longer (asked r a cs).columns more)
   adds l n =
       let k = number-too r a cs (longer cs more) f.shorter f.longer (run-longer r cs more f.shorter l) (λ h. omega (arith, long-longer cs more)) (λ e. absurd (n e)) in
       let h = held_same r.months cs (longer cs more) (first-longer r.months cs more f.shorter l) r.opens in
       ⊎_elim
       (λ z. let t = took r cs a (number-of r a cs ∙ z) in
       let u = took r (longer cs more) a (number-of r a (longer cs more) ∙ k ∙ z) in
-      u.did ∙ taken-longer r a cs more f.shorter t.room h ∙ ap (λ (b : Result). result b.answer (longer b.columns more)) (sym t.did))
+      u.did ∙ taken-longer r a cs more f.shorter t.room h ∙ ap (λ (b : Result). result_of b.answer (longer b.columns more)) (sym t.did))
       (λ q. asked_is r a (longer cs more)
       ∙ ap (λ (m : ℕ). answered m r (longer cs more) (month-of r a (longer cs more))) k
       ∙ is-refused (number_of r a cs) _ _ q
-      ∙ ap (λ (b : Result). result b.answer (longer b.columns more)) (sym (asked_is r a cs ∙ is-refused (number_of r a cs) _ _ q)))
+      ∙ ap (λ (b : Result). result_of b.answer (longer b.columns more)) (sym (asked_is r a cs ∙ is-refused (number_of r a cs) _ _ q)))
       (zero_or (number_of r a cs))
 
   goes : AddGives r a cs full → 1 ≤ long more → AddGives r a (longer cs more) 0

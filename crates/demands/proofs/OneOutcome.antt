@@ -4,7 +4,7 @@ use mathlib.Core.Path.{◌≡◌, sym, ap, ◌∙◌}
 use mathlib.Core.List.{List}
 use lib.IntN.{ℤ}
 use Rattle.refusals.specs.Book.{Book}
-use Rattle.adding.specs.Taken.{Result, result}
+use Rattle.adding.specs.Taken.{Result, result_of}
 use Rattle.adding.specs.declared.Added.{Added}
 use Rattle.drought.specs.declared.Shown.{Shown}
 use Rattle.season.specs.Season.{SeasonResult, season_result}
@@ -13,7 +13,7 @@ use Rattle.repair.specs.Repair.{RepairResult, repair_result}
 use Rattle.repair.specs.declared.Repaired.{Repaired}
 
 -- an add: the answer with the run in it, and all that is lent
-pub one-add : (said : Result) (a b : Added) (cs ds : Book) → result a cs ≡ said → result b ds ≡ said → (a ≡ b) × (cs ≡ ds)
+pub one-add : (said : Result) (a b : Added) (cs ds : Book) → result_of a cs ≡ said → result_of b ds ≡ said → (a ≡ b) × (cs ≡ ds)
 one-add said a b cs ds p q = let e = p ∙ sym q in (ap (λ (r : Result). r.answer) e, ap (λ (r : Result). r.columns) e)
 
 -- a row

@@ -30,7 +30,7 @@ use Rattle.refusals.specs.Book.{Book, long, columns_fit}
 use Rattle.refusals.specs.Good.{Good}
 use Rattle.refusals.specs.Refusals.{is_run_of}
 use Rattle.refusals.proofs.Refused.{columns_are, run-parts, parts-run}
-use Rattle.adding.specs.Taken.{Result, result, refusal, taken}
+use Rattle.adding.specs.Taken.{Result, result_of, refusal, taken}
 use Rattle.adding.proofs.Readiness.{run_is}
 use Rattle.drought.specs.Calls.{not_shown, row_of_run}
 use Rattle.drought.specs.declared.Shown.{Shown}
@@ -162,7 +162,7 @@ consistent r cs = (
 )
 
 module _ (r : Run) (cs : Book) (f : columns_fit cs ≡ true) (no_run : is_run_of cs r ≡ false) where
-  add-7s : (a : Ask) → asked r a cs ≡ result (refusal not_a_run r) cs
+  add-7s : (a : Ask) → asked r a cs ≡ result_of (refusal not_a_run r) cs
   add-7s a =
       let b = refused-add r a cs in
       let k : number_of r a cs ≡ not_a_run = sym b.0 ∙ add-given r a cs not_a_run (add_7 f no_run) in
@@ -179,7 +179,7 @@ module _ (r : Run) (cs : Book) (f : columns_fit cs ≡ true) (no_run : is_run_of
       seasons-refused r ps pes cs (inr k) ∙ ap (λ (n : ℕ). season_result (nothing n r) cs) k
 
 seven : (r : Run) (cs : Book) → columns_fit cs ≡ true → is_run (long cs) r ≡ true → (LastRowEnds r cs → ⊥)
-    → ((a : Ask) → asked r a cs ≡ result (refusal not_a_run r) cs)
+    → ((a : Ask) → asked r a cs ≡ result_of (refusal not_a_run r) cs)
     × ((i : ℕ) → row_of_run r i cs ≡ not_shown not_a_run)
     × ((ps pes : List ℤ) → length ps ≡ length pes → add_season r ps pes cs ≡ season_result (nothing not_a_run r) cs)
 seven r cs f is other =

@@ -6,7 +6,7 @@ use Rattle.std.specs.Prelude.{◌≡◌, true, List, ◌++◌, ℕ, ◌+◌, ◌
 use Rattle.outline.specs.Refusals.{full}
 use Rattle.runs.specs.declared.Run.{Run}
 use Rattle.refusals.specs.Book.{Book, book, long, columns_fit}
-use Rattle.adding.specs.Taken.{result}
+use Rattle.adding.specs.Taken.{result_of}
 use Rattle.drought.specs.Calls.{row_of_run}
 use Rattle.season.specs.Season.{SeasonResult, season_result, add_season}
 use Rattle.season.specs.declared.Season.{Season}
@@ -53,7 +53,7 @@ pub record LongerColumns : Type 0 where
   -- the one thing that longer columns change is that they are not full yet
   pub adds :
       (r : Run) (a : Ask) (cs more : Book) → Lent cs more → r.months ≤ long cs → ((asked r a cs).answer.number ≡ full → ⊥)
-      → asked r a (longer cs more) ≡ result (asked r a cs).answer (longer (asked r a cs).columns more)
+      → asked r a (longer cs more) ≡ result_of (asked r a cs).answer (longer (asked r a cs).columns more)
   pub adds_on : (r : Run) (a : Ask) (cs more : Book) → Lent cs more → (asked r a cs).answer.number ≡ full → 1 ≤ long more → (asked r a (longer cs more)).answer.number ≡ 0
   -- A SEASON likewise. And one that stopped because the shorter columns are full goes on with the months that were not added, of which it adds one at
   -- least, as the season of all its months in the longer columns

@@ -14,7 +14,7 @@ use Rattle.records.specs.Record.{no_record, numbers_of, record_at}
 use Rattle.records.specs.declared.Record.{Record}
 use Rattle.refusals.specs.Book.{Book, long, columns_fit}
 use Rattle.refusals.specs.Refusals.{is_run_of}
-use Rattle.adding.specs.Taken.{result, refusal}
+use Rattle.adding.specs.Taken.{result_of, refusal}
 use Rattle.adding.specs.declared.Added.{Added}
 use Rattle.drought.specs.Calls.{not_shown, row_of_run}
 use Rattle.season.specs.Season.{season_result, nothing, add_season}
@@ -142,6 +142,6 @@ pub record Recorded : Type 0 where
   -- "7 covers the new rule": a run that is one but for its last row is refused 7 by every call, and nothing is written
   pub seven :
       (r : Run) (cs : Book) → columns_fit cs ≡ true → is_run (long cs) r ≡ true → (LastRowEnds r cs → ⊥)
-      → ((a : Ask) → asked r a cs ≡ result (refusal not_a_run r) cs)
+      → ((a : Ask) → asked r a cs ≡ result_of (refusal not_a_run r) cs)
       × ((i : ℕ) → row_of_run r i cs ≡ not_shown not_a_run)
       × ((ps pes : List ℤ) → length ps ≡ length pes → add_season r ps pes cs ≡ season_result (nothing not_a_run r) cs)

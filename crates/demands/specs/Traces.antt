@@ -13,7 +13,7 @@ use Rattle.door.specs.declared.Reading.TheVariants.{Whole, Inches, Millimetres, 
 use Rattle.door.specs.declared.MonthInches.{MonthInches}
 use Rattle.runs.specs.declared.Run.{Run}
 use Rattle.refusals.specs.Book.{Book, book}
-use Rattle.adding.specs.Taken.{Result, result}
+use Rattle.adding.specs.Taken.{Result, result_of}
 use Rattle.adding.specs.declared.WaterFigures.{WaterFigures}
 use Rattle.adding.specs.declared.Figures.{Figures}
 use Rattle.drought.specs.Calls.{row_of_run}
@@ -77,7 +77,7 @@ plain_book cs = book cs.x1 cs.x2 cs.x3 cs.index cs.mark (map plain_numbers cs.re
 
 abbrev pub plain_result : Result → Result
 plain_result b =
-    result (record { number = b.answer.number; settled = b.answer.settled; figures = plain_figures b.answer.figures; run = b.answer.run })
+    result_of (record { number = b.answer.number; settled = b.answer.settled; figures = plain_figures b.answer.figures; run = b.answer.run })
     (plain_book b.columns)
 
 -- ---- readings of one number and one water, whatever their kinds; months of such readings; and lists of such months

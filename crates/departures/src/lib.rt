@@ -1,6 +1,8 @@
 // D: the mean size of a calendar month's departures from its expected (CAFEC) precipitation.
 //
 // For the crate `constants`, which holds the rows and the constants in range: what has a `requires` is for it alone.
+#![tactic(auto)]
+
 ghost use Rattle.std.specs.Prelude.{◌≡◌, ◌+◌, ◌*◌, ◌≤◌, pos, nat_abs, ◌-ℤ◌, ◌*ℤ◌};
 ghost use Rattle.door.specs.Readings.{most_reading};
 ghost use Rattle.water.specs.Constants.{most_k};

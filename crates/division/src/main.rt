@@ -2,6 +2,8 @@
 // row a year, as year, twelve amounts in thousandths of an inch or a dash, months present. Where the reading stops,
 // only which line was refused and why. `division_input` reads, `layout` judges a line, `rows` lays out; here bytes are only
 // moved, and a refusal is put in words.
+#![tactic(auto)]
+
 ghost use Rattle.std.specs.Prelude.{◌≤◌, ◌≡◌, length};
 ghost use Rattle.division_session.specs.Session.{Held, room};
 

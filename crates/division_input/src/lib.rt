@@ -5,6 +5,8 @@
 // What the program makes of an input is `division_of`, ByLines of the crate `division_session`, said of whole lines; here it is
 // said byte by byte, for an input that comes in pieces, and `by_lines`, of the crate `division_laws`, says that this is
 // the same. Everything here is for the program, which lends a line and room for the rows.
+#![tactic(auto)]
+
 ghost use Rattle.std.specs.Prelude.{◌≡◌};
 ghost use mathlib.Core.List.{foldl};
 ghost use Rattle.kept_line.specs.Kept.{until_feed};

@@ -4,6 +4,8 @@
 // Document 02, E1: "We take on stations with a century of rain already published in the nClimDiv fixed-width layout".
 // What is made of whole lines is specs/ByLines.antt. Everything here is for the crate `division_input`, whose program
 // lends a line and room for the rows.
+#![tactic(auto)]
+
 ghost use Rattle.std.specs.Prelude.{◌≡◌, ◌+◌, ◌≤◌, ◌<◌, length, take};
 ghost use Rattle.rows.specs.Room.{laid, most_year};
 ghost use Rattle.division_session.specs.ByLines.{counted, expected};

@@ -2,6 +2,8 @@
 //
 // A binary32 number is judged by comparisons and by the bits of its pattern alone; no float is added,
 // multiplied or rounded.
+#![tactic(auto)]
+
 ghost use Rattle.std.specs.Prelude.{◌≡◌, ◌<◌, ◌≤◌, T};
 ghost use Rattle.door.specs.Exact.{within, above_zero, nearest_to};
 ghost use Rattle.door.specs.Readings.{whole, inches, millimetres, reading, month};

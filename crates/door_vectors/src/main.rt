@@ -4,6 +4,8 @@
 // letter is w (whole thousandths, the first eight digits as an i32), i (inches) or m (millimetres, the first
 // eight as a binary32 pattern), p (one month's two inches), or another (missing). The answer is the paper's
 // number, the thousandths and the kind; for p all three for precipitation and then for PE.
+#![tactic(auto)]
+
 ghost use Rattle.std.specs.Prelude.{◌+◌, ◌≤◌, ◌<◌, length};
 
 use door::{MonthInches, Reading, Told};

@@ -4,6 +4,8 @@
 // equal a definition of what was handed in (specs/Calls.antt), for every input, refused or not. No call has a
 // `requires`. An add takes the run apart once and puts it together once: within, a run goes without its sixty constants.
 // A call asks `refusals` for its number first; where that is 0, `adding` does the month's work.
+#![tactic(auto)]
+
 ghost use Rattle.std.specs.Prelude.{◌≡◌, ◌≤◌};
 ghost use Rattle.door.specs.Outcome.{outcome};
 ghost use Rattle.door.specs.Readings.{reading, most_reading};
@@ -12,7 +14,7 @@ ghost use Rattle.series.specs.Series.{filled, whole_series};
 ghost use Rattle.refusals.specs.Book.{book};
 ghost use Rattle.refusals.specs.Lent.{lent_long, row_number_for};
 ghost use Rattle.runs.specs.Progress.{run_of};
-ghost use Rattle.adding.specs.Taken.{result};
+ghost use Rattle.adding.specs.Taken.{result_of};
 ghost use Rattle.adding.specs.Progress.{added_of};
 ghost use Rattle.drought.specs.Calls.{add_outcomes, add_water, add_inches, add_z, not_shown, row_of_run};
 
@@ -39,14 +41,14 @@ pub struct Shown {
 
 // Reads a reading: 8 or 9.
 pub fn read(r: Reading) -> Answer
-    ensures* { λ a. ⌜ outcome a ≡ reading r ⌝ }
+    ensures { outcome result ≡ reading r }
 {
     door::read(r)
 }
 
 // Starts a run: 2, 3, 21, 4, 5, 6.
 pub fn start(constants: &[i32], capacity: i32, surface: i32, underlying: i32, month: i32) -> Started
-    ensures* { λ r. ⌜ r ≡ start_of constants.now capacity surface underlying month ⌝ }
+    ensures { result ≡ start_of constants.now capacity surface underlying month }
 {
     starts::start(constants, capacity, surface, underlying, month)
 }
@@ -64,7 +66,7 @@ pub fn add_water(
     records: &mut [RecordNumbers],
     v: &mut [i64],
 ) -> Added
-    ensures* { λ a. ⌜ result a (book x1.new x2.new x3.new index.new mark.new records.new v.new) ≡ add_water run p pe (book x1.old x2.old x3.old index.old mark.old records.old v.old) ⌝ }
+    ensures { result_of result (book x1.new x2.new x3.new index.new mark.new records.new v.new) ≡ add_water run p pe (book x1.old x2.old x3.old index.old mark.old records.old v.old) }
 {
     let a = door::tell(door::read(p));
     let b = door::tell(door::read(pe));
@@ -114,7 +116,7 @@ pub fn add_inches(
     records: &mut [RecordNumbers],
     v: &mut [i64],
 ) -> Added
-    ensures* { λ a. ⌜ result a (book x1.new x2.new x3.new index.new mark.new records.new v.new) ≡ add_inches run q (book x1.old x2.old x3.old index.old mark.old records.old v.old) ⌝ }
+    ensures { result_of result (book x1.new x2.new x3.new index.new mark.new records.new v.new) ≡ add_inches run q (book x1.old x2.old x3.old index.old mark.old records.old v.old) }
 {
     let both = door::read_month(q);
     let a = both.p;
@@ -173,7 +175,7 @@ fn try_water(
 ) -> MonthAdded
     requires n_value { n ≡ lent_long (book x1.old x2.old x3.old index.old mark.old records.old v.old) }
     requires p_le_most_reading { (p ≤ most_reading) × (pe ≤ most_reading) }
-    ensures* { λ t. ⌜ result (added_of t constants.now) (book x1.new x2.new x3.new index.new mark.new records.new v.new) ≡ add_outcomes (run_of at constants.now) (record { number = reading; water = p; kind = kinds.p }) (record { number = 0; water = pe; kind = kinds.pe }) (book x1.old x2.old x3.old index.old mark.old records.old v.old) ⌝ }
+    ensures { result_of (added_of result constants.now) (book x1.new x2.new x3.new index.new mark.new records.new v.new) ≡ add_outcomes (run_of at constants.now) (record { number = reading; water = p; kind = kinds.p }) (record { number = 0; water = pe; kind = kinds.pe }) (book x1.old x2.old x3.old index.old mark.old records.old v.old) }
 {
     let number = refusals::water_refusal(n, at, constants, reading, records);
     if number != 0 {
@@ -196,7 +198,7 @@ pub fn add_z(
     records: &mut [RecordNumbers],
     v: &mut [i64],
 ) -> Added
-    ensures* { λ a. ⌜ result a (book x1.new x2.new x3.new index.new mark.new records.new v.new) ≡ add_z run z (book x1.old x2.old x3.old index.old mark.old records.old v.old) ⌝ }
+    ensures { result_of result (book x1.new x2.new x3.new index.new mark.new records.new v.new) ≡ add_z run z (book x1.old x2.old x3.old index.old mark.old records.old v.old) }
 {
     let at = runs::progress_of(run);
     let constants = run.constants;
@@ -217,7 +219,7 @@ fn try_z(
     records: &mut [RecordNumbers],
     v: &mut [i64],
 ) -> MonthAdded
-    ensures* { λ t. ⌜ result (added_of t constants.now) (book x1.new x2.new x3.new index.new mark.new records.new v.new) ≡ add_z (run_of at constants.now) z (book x1.old x2.old x3.old index.old mark.old records.old v.old) ⌝ }
+    ensures { result_of (added_of result constants.now) (book x1.new x2.new x3.new index.new mark.new records.new v.new) ≡ add_z (run_of at constants.now) z (book x1.old x2.old x3.old index.old mark.old records.old v.old) }
 {
     let n = refusals::lent_length(
         x1.len(),
@@ -247,7 +249,7 @@ pub fn row(
     records: &[RecordNumbers],
     v: &[i64],
 ) -> Shown
-    ensures* { λ r. ⌜ r ≡ row_of_run run i (book x1.now x2.now x3.now index.now mark.now records.now v.now) ⌝ }
+    ensures { result ≡ row_of_run run i (book x1.now x2.now x3.now index.now mark.now records.now v.now) }
 {
     let fit = refusals::lengths_fit(
         x1.len(),
@@ -277,7 +279,7 @@ pub fn row(
 
 // The number of a row, by whether its lists can be lent.
 fn row_number(fit: bool, run: Run, i: usize, records: &[RecordNumbers]) -> u8
-    ensures* { λ k. ⌜ k ≡ row_number_for fit run i records.now ⌝ }
+    ensures { result ≡ row_number_for fit run i records.now }
 {
     if !fit {
         return BAD_LISTS;
@@ -289,7 +291,7 @@ fn row_number(fit: bool, run: Run, i: usize, records: &[RecordNumbers]) -> u8
 
 // A row that is refused: its number, and all else 0.
 fn not_shown(number: u8) -> Shown
-    ensures* { λ r. ⌜ r ≡ not_shown number ⌝ }
+    ensures { result ≡ not_shown number }
 {
     let none = records::no_record();
     Shown {
@@ -306,7 +308,7 @@ fn not_shown(number: u8) -> Shown
 
 // The whole series of a list of Z: fills indexes and marks. 1, 12.
 pub fn whole_series(z: &[i32], index: &mut [i32], mark: &mut [u8]) -> u8
-    ensures* { λ r. ⌜ filled r index.new mark.new ≡ whole_series z.now index.old mark.old ⌝ }
+    ensures { filled result index.new mark.new ≡ whole_series z.now index.old mark.old }
 {
     series::whole_series(z, index, mark)
 }

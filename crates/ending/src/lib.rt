@@ -2,6 +2,8 @@
 //
 // For the crates `spells` and `modified`, which hold X3, V and Z in range. A wet spell is a drought with the signs turned,
 // so a drought's rules are all that stands here.
+#![tactic(auto)]
+
 ghost use Rattle.std.specs.Prelude.{◌≡◌, ◌*◌, ◌≤◌, pos, nat_abs, ◌*ℤ◌};
 ghost use Rattle.std.specs.Int.Signed.{le_z};
 ghost use Rattle.outline.specs.Numbers.{most_x, most_z, weight_of_z};

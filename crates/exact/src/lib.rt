@@ -2,6 +2,8 @@
 //
 // These functions serve the crates above. What a user of the index calls stands in the crates above
 // this one.
+#![tactic(auto)]
+
 ghost use Rattle.std.specs.Prelude.{◌≡◌, ◌≤◌, nat_abs};
 ghost use Rattle.exact.specs.Bounds.{most_rounded};
 ghost use Rattle.exact.specs.Nearest.{nearest_ℕ, nearest, clip};

@@ -5,6 +5,8 @@
 // characters". What stands in which column is specs/Columns.antt, what a value is specs/Field.antt, and how it is written
 // specs/Written.antt. Everything here is for the crates that read or write a line, which hand in parts of the length that
 // is asked for.
+#![tactic(auto)]
+
 ghost use Rattle.std.specs.Prelude.{◌≡◌, ◌≤◌, length};
 ghost use Rattle.text.specs.Bytes.{all_spaces, negative, body};
 ghost use Rattle.fields.specs.Columns.{width};

@@ -3,6 +3,8 @@
 // Document 02, E14: "The elements are 05, 07 and 08, and their missing mark is -99.99." What a value says of its month
 // is specs/Figures.antt. Everything here is for the crates that read or write such a line: what has a `requires` is for
 // them alone, which hand in lines that are long enough.
+#![tactic(auto)]
+
 ghost use Rattle.std.specs.Prelude.{◌≡◌, map, ◌+◌, ◌≤◌, ◌<◌, ◌^◌, length};
 ghost use Rattle.fields.specs.Columns.{months_of_year, last_column};
 ghost use Rattle.figures.specs.Figures.{number_of, is_mark, signed_of, figure_said, hundredths_of, figures_of};

@@ -3,6 +3,8 @@
 //
 // `look_forward` is for the crates above, which hold what it requires. A decision comes as its number, a side as 1
 // for X1's and 2 for X2's, as in the crate `hindsight`.
+#![tactic(auto)]
+
 ghost use Rattle.std.specs.Prelude.{◌≡◌, ◌++◌, ◌-◌, ◌≤◌, nat_abs, length, take, drop, replicate};
 ghost use Rattle.outline.specs.Numbers.{most_x, most_months};
 ghost use Rattle.hindsight.specs.Rule.{forward_indexes, forward_marks};

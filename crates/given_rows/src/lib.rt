@@ -3,6 +3,8 @@
 //
 // For the crates `sums`, `departures` and `constants`, which have asked for 1 and for the rest of 7: what has a `requires` is for
 // them alone.
+#![tactic(auto)]
+
 ghost use Rattle.std.specs.Prelude.{◌≡◌, true, ◌+◌, ◌≤◌, ◌<◌, length};
 ghost use Rattle.door.specs.Readings.{most_reading};
 ghost use Rattle.water.specs.Layers.{least_capacity, most_capacity};

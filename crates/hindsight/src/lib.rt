@@ -2,6 +2,8 @@
 //
 // For the crates above, which hold the lengths that `settle` requires. A decision comes as its number: 0 nothing, 1
 // with X1, 2 with X2, 3 with X3. A side is 1 for X1's and 2 for X2's.
+#![tactic(auto)]
+
 ghost use Rattle.std.specs.Prelude.{◌≡◌, ◌++◌, ◌-◌, ◌≤◌, length, take, drop, replicate};
 ghost use Rattle.hindsight.specs.Rule.{nonzero};
 ghost use Rattle.hindsight.specs.Adding.{settled_all};

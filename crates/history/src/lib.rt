@@ -2,6 +2,8 @@
 //
 // `add` is for the crates above, which hold the lengths that it requires. A decision comes as its number, as in the
 // crate `hindsight`.
+#![tactic(auto)]
+
 ghost use Rattle.std.specs.Prelude.{◌≡◌, ◌≤◌, ◌<◌, length, set};
 ghost use Rattle.hindsight.specs.Months.{mark_for};
 ghost use Rattle.hindsight.specs.Columns.{history_in};

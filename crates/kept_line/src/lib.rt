@@ -3,6 +3,8 @@
 // Of a line the bytes of the layout's columns are kept, and after them the first that is no space: that is enough to
 // tell what the whole line says, so a line of any length is read within fixed memory. What is kept is specs/Kept.antt.
 // Everything here is for the crate `division_input`, whose program lends the line.
+#![tactic(auto)]
+
 ghost use Rattle.std.specs.Prelude.{◌≡◌, false, ◌+◌, ◌-◌, ◌≤◌, min, length, drop};
 ghost use Rattle.fields.specs.Columns.{last_column};
 ghost use Rattle.kept_line.specs.Kept.{until_feed, end_from, block, most_kept, is_kept, kept_count, kept_line, kept_of, part_kept};

@@ -1,6 +1,8 @@
 // What the lent lists record of each month is in its range: what 7 asks of a repair beyond what it asks of every call.
 //
 // For the crate `repair`, which has asked for 1 and for the rest of 7: `rows_fit` has a `requires`.
+#![tactic(auto)]
+
 ghost use Rattle.std.specs.Prelude.{◌≡◌, ◌&&◌, ◌≤◌, ◌<◌, pos, length};
 ghost use Rattle.outline.specs.Numbers.{most_months};
 ghost use Rattle.outline.specs.Every.{all_of};

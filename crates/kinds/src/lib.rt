@@ -2,6 +2,8 @@
 // answer goes out as `door::Told`.
 //
 // For `card`, which has the calls.
+#![tactic(auto)]
+
 ghost use Rattle.std.specs.Prelude.{◌≡◌};
 ghost use Rattle.kinds.specs.FromC.{reading_of_c};
 

@@ -3,6 +3,8 @@
 // Document 02, E1: "Read precipitation lines one a call, without the line feed, for a named state, division and
 // expected year; spaces after the last value are ignored." What a line says is specs/Rainfall.antt, and where it is at
 // fault specs/Fault.antt; its heading, its values and their months are read by the crates below.
+#![tactic(auto)]
+
 ghost use Rattle.std.specs.Prelude.{◌≡◌, ◌≤◌, length};
 ghost use Rattle.text.specs.Bytes.{natural};
 ghost use Rattle.fields.specs.Columns.{element, last_column};

@@ -3,6 +3,8 @@
 // Document 02, E14: "Extend E1's reader to these elements: reading back what was written gives the hundredths and the
 // missing months." What a line says is specs/Line.antt. E1's reader, `layout::read`, stays as it is, and where a line is
 // at fault is told by `layout::fault`, whatever its element.
+#![tactic(auto)]
+
 ghost use Rattle.std.specs.Prelude.{◌≡◌, true, false, ◌≤◌, length};
 ghost use Rattle.fields.specs.Columns.{last_column};
 ghost use Rattle.layout_months.specs.Months.{some};

@@ -5,6 +5,8 @@
 // element, 16 not the expected year, in that order". What they are is specs/Heading.antt, and how they are written
 // specs/Written.antt. Everything here is for the crates that read or write a line, which hand in lines that are long
 // enough.
+#![tactic(auto)]
+
 ghost use Rattle.std.specs.Prelude.{◌≡◌, ◌≤◌, length};
 ghost use Rattle.fields.specs.Columns.{heading_columns};
 ghost use Rattle.layout_heading.specs.Steps.{heading_of, heading_refusal};

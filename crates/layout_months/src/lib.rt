@@ -2,6 +2,8 @@
 //
 // Document 02, E1: "twelve values of seven characters". What a value says of its month and what the months make is
 // specs/Months.antt. Everything here is for the crate `layout`, which hands in lines that are long enough.
+#![tactic(auto)]
+
 ghost use Rattle.std.specs.Prelude.{◌≡◌, map, ◌+◌, ◌≤◌, ◌<◌, ◌^◌, length};
 ghost use Rattle.fields.specs.Columns.{months_of_year, last_column};
 ghost use Rattle.layout_months.specs.Months.{is_mark, in_range, month_said, months_of, amount_of};

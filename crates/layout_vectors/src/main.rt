@@ -3,6 +3,8 @@
 // A line of the input is what is asked for, two digits of a state, two of a division and four of a year, then a bar,
 // and then the line itself, closed by a line feed. The answer is the number, the twelve amounts, the set of months
 // present, its count and the first missing month.
+#![tactic(auto)]
+
 ghost use Rattle.std.specs.Prelude.{◌+◌, ◌≤◌, ◌<◌, length};
 
 use fields::MONTHS;

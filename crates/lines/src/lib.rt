@@ -2,6 +2,8 @@
 //
 // Document 01: "A line is an optional minus and one or more digits, closed by a line feed or the end of
 // input; such a number outside the range of Z, however long, is 12."
+#![tactic(auto)]
+
 ghost use Rattle.std.specs.Prelude.{◌≡◌, true};
 ghost use Rattle.text.specs.Bytes.{is_digit, and_digit};
 ghost use Rattle.lines.specs.Reading.{held, opens, fed, finished, read_of};

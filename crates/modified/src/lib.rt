@@ -2,6 +2,8 @@
 //
 // It is worked out once, when the month is added, and nothing that settles looks at it. For the crate `adding`, which holds
 // the running values and Z in range. A wet spell is a drought with the signs turned.
+#![tactic(auto)]
+
 ghost use Rattle.std.specs.Prelude.{◌≡◌, ◌+◌, ◌*◌, ◌≤◌, pos, nat_abs, ◌+ℤ◌, ◌-ℤ◌, ◌*ℤ◌};
 ghost use Rattle.exact.specs.Nearest.{nearest};
 ghost use Rattle.outline.specs.Numbers.{most_x, most_z, weight_of_z};

@@ -1,5 +1,6 @@
 // The outline's numbers, each once: what may be handed in, what the rules are made with, and the refusals.
 // specs/Numbers.antt and specs/Refusals.antt have the same numbers, each under the outline's own sentence.
+#![tactic(auto)]
 
 // ---- what may be handed in
 

@@ -1,6 +1,8 @@
 // The program: one Z a line from standard input into a fresh run, and at the end a row for each month, or the one
 // line that says which line was refused. `palmer_input` reads, `palmer_output` lays out; here bytes are only moved. Standard
 // error has a refusal in words, by `words`.
+#![tactic(auto)]
+
 use palmer_input::Session;
 use palmer_output::MOST_LINES;
 use quoted::Start;

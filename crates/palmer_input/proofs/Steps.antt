@@ -15,14 +15,14 @@ use Rattle.lines.specs.declared.Read.{Read}
 use Rattle.runs.specs.declared.Run.{Run}
 use Rattle.refusals.specs.Book.{Book, book}
 use Rattle.drought.specs.Calls.{add_z}
-use Rattle.adding.specs.Taken.{Result, result}
+use Rattle.adding.specs.Taken.{Result, result_of}
 use Rattle.adding.specs.declared.Added.{Added}
 use Rattle.palmer_input.specs.ByLines.{State, state, percent_kept, after_line, after_add, with_z, heard_as}
 use Rattle.palmer_input.specs.Input.{line_closed, with_byte, byte_fed, is_blank, input_ended}
 use Rattle.palmer_input.specs.declared.Session.{Session}
 
 -- ---- a line's Z
-pub with-z : (run : Run) (z : ℤ) (cs : Book) (ps : List ℕ) (a : Added) (ds : Book) (qs : List ℕ) (s : Session) → result a ds ≡ add_z run z cs → qs ≡ percent_kept a.number run.months a.figures.percent ps → s ≡ after_line a.number a.run → state s ds qs ≡ with_z run z cs ps
+pub with-z : (run : Run) (z : ℤ) (cs : Book) (ps : List ℕ) (a : Added) (ds : Book) (qs : List ℕ) (s : Session) → result_of a ds ≡ add_z run z cs → qs ≡ percent_kept a.number run.months a.figures.percent ps → s ≡ after_line a.number a.run → state s ds qs ≡ with_z run z cs ps
 unfolding with_z
 with-z run z cs ps a ds qs s e p q = rw (q, p) (ap (λ (r : Result). after_add run.months r ps) e)
 

@@ -2,6 +2,8 @@
 //
 // Document 01: "A program reads one Z a line from standard input into a fresh run .. The first refused line
 // (10, 12, 13) ends it". Every call here serves that program alone.
+#![tactic(auto)]
+
 ghost use Rattle.std.specs.Prelude.{◌≡◌};
 ghost use mathlib.Core.List.{foldl};
 ghost use Rattle.refusals.specs.Book.{book};

@@ -1,5 +1,7 @@
 // What the program `palmer` prints: the row of each month, or which line was refused. `drought` gives what a row shows, `rows`
 // lays it out. Every call here serves that program alone.
+#![tactic(auto)]
+
 ghost use Rattle.std.specs.Prelude.{◌+◌, ◌≤◌, ◌<◌, ◌≡◌, length};
 ghost use Rattle.refusals.specs.Book.{book};
 ghost use Rattle.rows.specs.Text.{row_text};

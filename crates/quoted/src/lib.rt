@@ -2,6 +2,7 @@
 //
 // Every call here serves the printing program alone. It learns that a line was refused when a piece of the input has been
 // taken, and which line that was; the start of that line is found by going over the same piece.
+#![tactic(auto)]
 
 ghost use Rattle.std.specs.Prelude.{◌≡◌};
 ghost use mathlib.Core.List.{foldl};

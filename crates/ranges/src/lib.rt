@@ -1,6 +1,8 @@
 // The ranges of what is handed in: a number between two ends, the lengths, Z, the calendar and the sixty constants.
 //
 // All that is `pub` is for the crates above, which see to what a function `requires` before they call it.
+#![tactic(auto)]
+
 ghost use Rattle.std.specs.Prelude.{◌≡◌, not, ◌&&◌, ◌+◌, ◌%◌, ◌≤◌, ◌<◌, pos, nat_abs, ◌≤ℤ◌, leb, length};
 ghost use Rattle.std.specs.Int.Signed.{le_z};
 ghost use Rattle.outline.specs.Numbers.{many_constants, many_of_a_month, length_fits, z_fits};

@@ -5,6 +5,8 @@
 //
 // For the crates that make the calls, which hold the soil, the water and the lengths in range: what has a `requires` is for
 // them alone.
+#![tactic(auto)]
+
 ghost use Rattle.std.specs.Prelude.{◌≡◌, ◌≤◌, ◌<◌, length, set};
 ghost use Rattle.door.specs.Readings.{most_reading};
 ghost use Rattle.water.specs.Layers.{SoilFits};

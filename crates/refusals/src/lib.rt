@@ -4,6 +4,8 @@
 // run, its constants apart, and of the records: so seven lists are not handed on to be measured.
 //
 // For the crates that make the calls: `drought` and `season`.
+#![tactic(auto)]
+
 ghost use Rattle.std.specs.Prelude.{◌≡◌, ◌≤◌, length};
 ghost use Rattle.runs.specs.Progress.{run_of};
 ghost use Rattle.refusals.specs.Book.{lengths_fit};

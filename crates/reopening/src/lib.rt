@@ -1,6 +1,8 @@
 // The run before one of its months, as the rows have it, and the months open again that were open then.
 //
 // For the crate `reworking`, which holds the rows in range: what has a `requires` is for it alone.
+#![tactic(auto)]
+
 ghost use Rattle.std.specs.Prelude.{◌≡◌, true, List, [], ℕ, ◌≤◌, ◌<◌, ℤ, pos, ◌≤ℤ◌, length};
 ghost use Rattle.outline.specs.Numbers.{most_months};
 ghost use Rattle.ranges.specs.Ranges.{calendar_fits};

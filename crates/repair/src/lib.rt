@@ -4,6 +4,8 @@
 // The call's promise: its answer, the run that it hands back and the whole content of every lent list, the report too, equal a
 // definition of what was handed in (specs/Repair.antt), for every input, refused or not. It has no `requires`. Once nothing is refused
 // nothing can be, so it never stops half way.
+#![tactic(auto)]
+
 ghost use Rattle.std.specs.Prelude.{◌≡◌, ◌≤◌};
 ghost use Rattle.door.specs.Outcome.{measured};
 ghost use Rattle.door.specs.Readings.{most_reading};

@@ -2,6 +2,8 @@
 //
 // While months are reworked the report holds what their index and mark were before, so that nothing else has to. For the crate
 // `repair`, which has asked for 1: what has a `requires` is for it alone.
+#![tactic(auto)]
+
 ghost use Rattle.std.specs.Prelude.{◌≡◌, ◌++◌, ◌-◌, ◌≤◌, length, take, replicate};
 ghost use Rattle.outline.specs.Numbers.{most_months};
 ghost use Rattle.report.specs.Report.{no_change, reported};

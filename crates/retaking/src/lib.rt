@@ -2,6 +2,8 @@
 // `reworking`, and those of `taking` within the adds: called from two places they are compiled in neither.
 //
 // For `reworking`, which holds all in range: what has a `requires` is for it alone.
+#![tactic(auto)]
+
 ghost use Rattle.std.specs.Prelude.{◌≡◌, true, ◌≤◌, ◌<◌, nat_abs, length};
 ghost use Rattle.outline.specs.Numbers.{most_z};
 ghost use Rattle.door.specs.Readings.{most_reading};
@@ -13,7 +15,7 @@ ghost use Rattle.records.specs.Record.{z_record};
 ghost use Rattle.refusals.specs.Columns.{columns};
 ghost use Rattle.refusals.specs.Book.{book};
 ghost use Rattle.adding.specs.Figures.{no_water};
-ghost use Rattle.adding.specs.Taken.{result, taken_water};
+ghost use Rattle.adding.specs.Taken.{result_of, taken_water};
 ghost use Rattle.adding.specs.Ready.{Ready, Watered};
 ghost use Rattle.adding.specs.Progress.{added_of, Takes};
 
@@ -42,7 +44,7 @@ pub fn add_measured(
     requires months_in_bounds { (at.months < length records.old) × (at.months < length v.old) }
     requires watered { Watered (run_of at constants.now) }
     requires p_le_most_reading { (p ≤ most_reading) × (pe ≤ most_reading) }
-    ensures* { λ t. ⌜ result (added_of t constants.now) (book x1.new x2.new x3.new index.new mark.new records.new v.new) ≡ taken_water (run_of at constants.now) p pe kinds (book x1.old x2.old x3.old index.old mark.old records.old v.old) ⌝ }
+    ensures { result_of (added_of result constants.now) (book x1.new x2.new x3.new index.new mark.new records.new v.new) ≡ taken_water (run_of at constants.now) p pe kinds (book x1.old x2.old x3.old index.old mark.old records.old v.old) }
 {
     let soil = at.soil;
     let values = at.values;
@@ -71,7 +73,7 @@ pub fn add_z(
     requires ready { Ready at.months at.opens at.values (columns x1.old x2.old x3.old index.old mark.old) }
     requires months_in_bounds { (at.months < length records.old) × (at.months < length v.old) }
     requires z_bound { (nat_abs z ≤ most_z) × (calendar_fits at.calendar ≡ true) × SoilFits at.soil }
-    ensures* { λ t. ⌜ Takes at at.soil no_water z (z_record at.soil z (modified_of at.values z)) (book x1.old x2.old x3.old index.old mark.old records.old v.old) t (book x1.new x2.new x3.new index.new mark.new records.new v.new) ⌝ }
+    ensures { Takes at at.soil no_water z (z_record at.soil z (modified_of at.values z)) (book x1.old x2.old x3.old index.old mark.old records.old v.old) result (book x1.new x2.new x3.new index.new mark.new records.new v.new) }
 {
     let soil = at.soil;
     let values = at.values;

@@ -7,7 +7,7 @@ use lib.ListN.{length}
 use Rattle.runs.specs.declared.Run.{Run}
 use Rattle.records.specs.Record.{record_at}
 use Rattle.refusals.specs.Book.{Book, long}
-use Rattle.adding.specs.Taken.{Result, result}
+use Rattle.adding.specs.Taken.{Result, result_of}
 use Rattle.adding.specs.declared.Added.{Added}
 use Rattle.reworking.specs.Reworked.{Left, left, again, reworked}
 use Rattle.reworking.specs.Workable.{Stands, Kept}
@@ -43,8 +43,8 @@ module _ (n : ℕ) {r q : Run} {cs ds : Book} (e : r ≡ q) (f : cs ≡ ds) wher
 
 -- ---- a pass: what the month has left, in the code's terms
 module _ (n : ℕ) (r : Run) (cs : Book) (s : Stands r cs) (h : r.months < n) (b : n ≤ long cs) (k : Recorded n r cs) (a : Added) (ds : Book)
-    (e : result a ds ≡ again r (record_at cs.records r.months) cs) where
-  next : Next r cs (result a ds)
+    (e : result_of a ds ≡ again r (record_at cs.records r.months) cs) where
+  next : Next r cs (result_of a ds)
   next = rw e (next-again r cs s (omega arith) (record_at cs.records r.months) (k r.months (omega arith) h))
 
   pub months-next : a.run.months ≡ suc r.months

@@ -1,13 +1,15 @@
 // Months reworked from what their records hold: the month at a place with its new readings, and all months after it.
 //
 // For the crate `repair`, which asks for every refusal first: what has a `requires` is for it alone.
+#![tactic(auto)]
+
 ghost use Rattle.std.specs.Prelude.{◌≡◌, ◌≤◌, ◌<◌, length, set};
 ghost use Rattle.door.specs.Outcome.{measured};
 ghost use Rattle.door.specs.Readings.{most_reading};
 ghost use Rattle.runs.specs.Progress.{run_of};
 ghost use Rattle.records.specs.Record.{numbers_of, record_at};
 ghost use Rattle.refusals.specs.Book.{book};
-ghost use Rattle.adding.specs.Taken.{result};
+ghost use Rattle.adding.specs.Taken.{result_of};
 ghost use Rattle.adding.specs.Progress.{added_of};
 ghost use Rattle.reworking.specs.Reworked.{left, again, renewed, reworked_from};
 ghost use Rattle.reworking.specs.Workable.{Workable, Stands, Kept};
@@ -39,7 +41,7 @@ pub fn rework(
 ) -> Progress
     requires workable { Workable (run_of at constants.now) (book x1.old x2.old x3.old index.old mark.old records.old v.old) i }
     requires p_le_most_reading { (p ≤ most_reading) × (pe ≤ most_reading) × (kind ≤ measured) }
-    ensures* { λ s. ⌜ left (run_of s constants.now) (book x1.new x2.new x3.new index.new mark.new records.new v.new) ≡ reworked_from (run_of at constants.now) i p pe kind (book x1.old x2.old x3.old index.old mark.old records.old v.old) ⌝ }
+    ensures { left (run_of result constants.now) (book x1.new x2.new x3.new index.new mark.new records.new v.new) ≡ reworked_from (run_of at constants.now) i p pe kind (book x1.old x2.old x3.old index.old mark.old records.old v.old) }
 {
     let opens = reopening::reopen(i as usize, x1, x2, x3, index, mark, v);
     let mut s = reopening::run_before(at, i, opens as u32, x1, x2, x3, records, v);
@@ -55,7 +57,7 @@ pub fn rework(
 fn renew(i: usize, p: u32, pe: u32, kind: u8, records: &mut [RecordNumbers])
     requires i_in_bounds { i < length records.old }
     requires p_le_most_reading { (p ≤ most_reading) × (pe ≤ most_reading) × (kind ≤ measured) }
-    ensures* { λ _. ⌜ records.new ≡ set records.old i (numbers_of (renewed (record_at records.old i) p pe kind)) ⌝ }
+    ensures { records.new ≡ set records.old i (numbers_of (renewed (record_at records.old i) p pe kind)) }
 {
     let m = records::record_at(records, i);
     let kept = Record {
@@ -91,7 +93,7 @@ fn add_again(
 ) -> MonthAdded
     requires stands { Stands (run_of at constants.now) (book x1.old x2.old x3.old index.old mark.old records.old v.old) }
     requires months_in_bounds { (at.months < length x1.old) × Kept (record_at records.old at.months) }
-    ensures* { λ t. ⌜ result (added_of t constants.now) (book x1.new x2.new x3.new index.new mark.new records.new v.new) ≡ again (run_of at constants.now) (record_at records.old at.months) (book x1.old x2.old x3.old index.old mark.old records.old v.old) ⌝ }
+    ensures { result_of (added_of result constants.now) (book x1.new x2.new x3.new index.new mark.new records.new v.new) ≡ again (run_of at constants.now) (record_at records.old at.months) (book x1.old x2.old x3.old index.old mark.old records.old v.old) }
 {
     let m = records::record_at(records, at.months as usize);
     if m.water != HAD_WATER {

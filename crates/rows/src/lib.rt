@@ -3,6 +3,7 @@
 // present.
 //
 // `lay_out` and `lay_refusal` are for the printing program and `lay_year` for `division`; each lends room enough.
+#![tactic(auto)]
 
 ghost use Rattle.std.specs.Prelude.{◌≡◌, ◌+◌, ◌*◌, ◌≤◌, [], ◌∷◌, length};
 ghost use Rattle.outline.specs.Numbers.{last_month};

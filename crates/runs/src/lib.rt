@@ -1,4 +1,6 @@
 // A run: what it holds, and when what is handed in is one.
+#![tactic(auto)]
+
 ghost use Rattle.std.specs.Prelude.{◌≡◌, leb, nat_abs};
 ghost use Rattle.outline.specs.Numbers.{most_x};
 ghost use Rattle.runs.specs.Progress.{progress_of, run_of};

@@ -25,7 +25,7 @@ use Rattle.refusals.specs.Good.{Good}
 use Rattle.refusals.specs.Refusals.{water_refusal}
 use Rattle.refusals.proofs.Refused.{columns_are}
 use Rattle.adding.specs.Figures.{water_figures}
-use Rattle.adding.specs.Taken.{Result, result, taken, taken_water, soil_after, water_of, held_by, answered}
+use Rattle.adding.specs.Taken.{Result, result_of, taken, taken_water, soil_after, water_of, held_by, answered}
 use Rattle.adding.specs.declared.Added.{Added}
 use Rattle.adding.proofs.Taken.{counts-most}
 use Rattle.adding.proofs.Readiness.{run_is}
@@ -117,7 +117,7 @@ lengths-then bs cs ds p q = (p.0 ∙ q.0, p.1 ∙ q.1, p.2 ∙ q.2, p.3 ∙ q.3,
 
 -- ---- a pass: what the single add left, in the code's terms
 module _ (ps pes : List ℤ) (same : length ps ≡ length pes) (s : Season) (cs : Book) (i : ℕ) (h : i < length ps) (a : Added) (ds : Book)
-    (e : result a ds ≡ single (season_result s cs) (get_or ps i (pos 0)) (get_or pes i (pos 0))) where
+    (e : result_of a ds ≡ single (season_result s cs) (get_or ps i (pos 0)) (get_or pes i (pos 0))) where
   abbrev alone : Result
   alone = single (season_result s cs) (get_or ps i (pos 0)) (get_or pes i (pos 0))
 

@@ -3,6 +3,8 @@
 // The call's promise: its answer, the run that it hands back and the whole content of every lent list equal a
 // definition of what was handed in (specs/Season.antt), for every input, refused or not. That definition adds
 // the months one by one with the single add's own, so what a single add promises holds of each month here.
+#![tactic(auto)]
+
 ghost use Rattle.std.specs.Prelude.{◌≡◌, ◌+◌, ◌≤◌};
 ghost use Rattle.runs.specs.Progress.{run_of};
 ghost use Rattle.refusals.specs.Book.{book};

@@ -24,7 +24,7 @@ use Rattle.refusals.specs.Book.{Book, long}
 use Rattle.refusals.specs.Good.{Good}
 use Rattle.refusals.specs.Refusals.{run_refusal, room_refusal, water_refusal}
 use Rattle.refusals.proofs.Refused.{good-passes}
-use Rattle.adding.specs.Taken.{Result, result, taken_water}
+use Rattle.adding.specs.Taken.{Result, result_of, taken_water}
 use Rattle.adding.specs.Progress.{added_of, not_added}
 use Rattle.adding.specs.declared.MonthAdded.{MonthAdded}
 use Rattle.adding.proofs.Answered.{refuses, accepts}
@@ -75,7 +75,7 @@ module _ (at : Progress) (ks : List ℤ) (p pe : Reading) (cs : Book) (g : Good 
   abbrev pub done : Result
   done = taken_water r (reading p).water (reading pe).water (kinds_of (reading p) (reading pe)) cs
 
-  pub refused_as : (k : ℕ) → k ≡ number → (k ≡ 0 → ⊥) → (t : MonthAdded) → t ≡ not_added k at → result (added_of t ks) cs ≡ add_water r p pe cs
+  pub refused_as : (k : ℕ) → k ≡ number → (k ≡ 0 → ⊥) → (t : MonthAdded) → t ≡ not_added k at → result_of (added_of t ks) cs ≡ add_water r p pe cs
   unfolding add_water add_outcomes
   refused_as k e h t f = refuses k all r cs done (e ∙ number_is) (added_of t ks) h (ap (λ (u : MonthAdded). added_of u ks) f)
 

@@ -1,11 +1,13 @@
 // A month of a season's two lists, added as the single add would add it.
 //
 // For the crate `season`, which has asked for 1 and 7: `add_listed` has a `requires`.
+#![tactic(auto)]
+
 ghost use Rattle.std.specs.Prelude.{◌≡◌};
 ghost use Rattle.refusals.specs.Book.{book};
 ghost use Rattle.refusals.specs.Good.{Good};
 ghost use Rattle.runs.specs.Progress.{run_of};
-ghost use Rattle.adding.specs.Taken.{result};
+ghost use Rattle.adding.specs.Taken.{result_of};
 ghost use Rattle.adding.specs.Progress.{added_of};
 ghost use Rattle.drought.specs.Calls.{add_water};
 ghost use Rattle.season_month.specs.Listed.{listed};
@@ -35,7 +37,7 @@ pub fn add_listed(
     v: &mut [i64],
 ) -> MonthAdded
     requires { Good (run_of at constants.now) (book x1.old x2.old x3.old index.old mark.old records.old v.old) }
-    ensures* { λ t. ⌜ result (added_of t constants.now) (book x1.new x2.new x3.new index.new mark.new records.new v.new) ≡ add_water (run_of at constants.now) (listed p) (listed pe) (book x1.old x2.old x3.old index.old mark.old records.old v.old) ⌝ }
+    ensures { result_of (added_of result constants.now) (book x1.new x2.new x3.new index.new mark.new records.new v.new) ≡ add_water (run_of at constants.now) (listed p) (listed pe) (book x1.old x2.old x3.old index.old mark.old records.old v.old) }
 {
     let first = door::read(reading_of(p));
     let Answer::Water(measured) = first else {
@@ -71,7 +73,7 @@ pub fn add_listed(
 
 // A month of a list as a reading.
 fn reading_of(n: i32) -> Reading
-    ensures* { λ r. ⌜ r ≡ listed n ⌝ }
+    ensures { result ≡ listed n }
 {
     if n == MISSING_MONTH {
         return Reading::Missing;

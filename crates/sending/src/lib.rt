@@ -4,6 +4,8 @@
 // characters." The promise: the number and the whole content of the lent line equal a definition of what was handed in
 // (specs/Sending.antt), for every input, refused or not. The call has no `requires`, and its columns are lent for
 // reading.
+#![tactic(auto)]
+
 ghost use Rattle.std.specs.Prelude.{◌≡◌, true, [], ◌++◌, ◌+◌, ◌≤◌, length, drop};
 ghost use Rattle.fields.specs.Columns.{last_column};
 ghost use Rattle.ranges.specs.Ranges.{calendar_fits};

@@ -3,6 +3,8 @@
 // Document 02, E14: "whole calendar years, values nearest to hundredths .. An open Palmer month and a month outside the
 // run get the mark." What a month sends is specs/Sent.antt. For the crate `sending`, which has asked for 1 and 7: what
 // has a `requires` is for it alone.
+#![tactic(auto)]
+
 ghost use Rattle.std.specs.Prelude.{◌≡◌, true, [], ◌+◌, ◌*◌, ◌≤◌, ◌<◌, length};
 ghost use Rattle.outline.specs.Numbers.{last_month};
 ghost use Rattle.fields.specs.Columns.{width};

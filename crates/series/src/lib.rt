@@ -1,4 +1,6 @@
 // The whole series: a list of Z in, indexes and marks out.
+#![tactic(auto)]
+
 ghost use Rattle.std.specs.Prelude.{◌≡◌};
 ghost use Rattle.series.specs.Series.{all_z_fit, lists_fit, series_refusal, filled, whole_series};
 

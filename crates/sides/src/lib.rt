@@ -2,6 +2,8 @@
 //
 // For the crates above, which hold what is required. A decision comes as its number, a side as 1 for X1's and 2 for
 // X2's, as in the crate `hindsight`; 0 is no side. Of an open month `mark` holds the side that it gives alone.
+#![tactic(auto)]
+
 ghost use Rattle.std.specs.Prelude.{◌≡◌, ◌++◌, ◌+◌, ◌-◌, ◌≤◌, ◌<◌, nat_abs, length, take, drop, replicate};
 ghost use Rattle.outline.specs.Numbers.{most_x};
 ghost use Rattle.hindsight.specs.Adding.{settled_all};

@@ -2,6 +2,8 @@
 //
 // `step`, `step_without_chance`, `raised_next` and `lowered_next` are for the crates above, which hold the running values
 // and Z in range before they call. Whether a spell in force has ended is the crate `ending`'s.
+#![tactic(auto)]
+
 ghost use Rattle.std.specs.Prelude.{◌≡◌, ◌≤◌, pos, nat_abs, neg_ℤ};
 ghost use Rattle.std.specs.Int.Signed.{lt_z};
 ghost use Rattle.exact.specs.Next.{next_of};

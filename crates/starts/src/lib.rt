@@ -1,4 +1,6 @@
 // How a run starts.
+#![tactic(auto)]
+
 ghost use Rattle.std.specs.Prelude.{◌≡◌, true, cond, ◌≤◌, length};
 ghost use Rattle.outline.specs.Numbers.{many_constants};
 ghost use Rattle.outline.specs.Refusals.{bad_constant, zero_k};

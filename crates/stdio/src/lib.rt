@@ -1,5 +1,7 @@
 // Standard input, output and error, as the programs `palmer` and `division` use them. No contract can say what is read or
 // written, so these functions are proved safe and ending; tests/program.py and tests/division.py hold the words to tables.
+#![tactic(auto)]
+
 ghost use Rattle.std.specs.Prelude.{◌<◌};
 ghost use Rattle.io.specs.Counts.{IsPrefixLen};
 

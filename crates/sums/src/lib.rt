@@ -1,6 +1,8 @@
 // The eight sums of a calendar month over the years, and the four constants that are their shares.
 //
 // For the crate `constants`, which holds the rows to what an add gives: what has a `requires` is for it alone.
+#![tactic(auto)]
+
 ghost use Rattle.std.specs.Prelude.{◌≡◌, ◌-◌, ◌*◌, ◌≤◌};
 ghost use Rattle.exact.specs.Nearest.{nearest_ℕ};
 ghost use Rattle.water.specs.Constants.{one, most_gamma};

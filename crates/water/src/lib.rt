@@ -2,6 +2,7 @@
 //
 // Every amount is in whole thousandths of an inch, every constant in ten-thousandths. `month_of` is for the
 // crate above, which holds the soil, the readings and the constants in range before it calls.
+#![tactic(auto)]
 
 ghost use Rattle.std.specs.Prelude.{◌≡◌, ◌+◌, ◌*◌, ◌≤◌, ◌<◌, min, nat_abs};
 ghost use Rattle.door.specs.Readings.{most_reading};

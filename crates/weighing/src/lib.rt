@@ -1,6 +1,8 @@
 // The sixty constants of a span of years: four shares of each calendar month's sums, D, and K by the first weights.
 //
 // For the crate `constants`, which holds the rows, the lists and the weights in range: what has a `requires` is for it alone.
+#![tactic(auto)]
+
 ghost use Rattle.std.specs.Prelude.{◌≡◌, true, ◌+◌, ◌*◌, ◌≤◌, length};
 ghost use Rattle.outline.specs.Numbers.{most_months, many_constants, many_of_a_month, last_month};
 ghost use Rattle.water.specs.Constants.{most_k};

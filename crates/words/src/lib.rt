@@ -1,6 +1,8 @@
 // What the printing program says on standard error: of a refused line its number, what was read, what was expected and
 // what the refusal's number means. Every call here serves that program alone. No contract can say what is written, so
 // these functions are proved safe and ending, and tests/program.py holds the words to a table.
+#![tactic(auto)]
+
 ghost use Rattle.std.specs.Prelude.{◌≤◌, ◌<◌, length};
 
 use outline::{BAD_Z, FULL};

@@ -1,6 +1,8 @@
 // Which years of a run count: every January to December inside it, and whether each of their months had water.
 //
 // For the crate `constants`, which holds the calendar and the lists in range: what has a `requires` is for it alone.
+#![tactic(auto)]
+
 ghost use Rattle.std.specs.Prelude.{◌≡◌, true, ◌+◌, ◌≤◌, length};
 ghost use Rattle.outline.specs.Numbers.{most_months};
 ghost use Rattle.ranges.specs.Ranges.{calendar_fits};

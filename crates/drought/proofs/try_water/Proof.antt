@@ -10,7 +10,7 @@ use Rattle.refusals.specs.Refusals.{water_refusal}
 use Rattle.refusals.proofs.Refused.{water-passes}
 use Rattle.refusals.proofs.Lent.{or_nothing, lent-records, water-lent}
 use Rattle.adding.specs.Progress.{added_of}
-use Rattle.adding.specs.Taken.{Result, result, taken_water}
+use Rattle.adding.specs.Taken.{Result, result_of, taken_water}
 use Rattle.adding.specs.declared.MonthAdded.{MonthAdded}
 use Rattle.adding.proofs.Readiness.{ready, placed, watered}
 use Rattle.adding.proofs.Answered.{refuses, accepts}
@@ -96,7 +96,7 @@ returns-2 c =
     let e = t.before.before.before.before.before.before.before.before in
     let s = entered e.before in
     let l = t.add-measured.new.1.1.1.1.1 in
-    accepts e.before.water-refusal.result (asked s) (given s) (lent s) (done s) (number_is e.before) (result (added_of t.add-measured.result s.args.constants.now) (book l.0 l.1.0 l.1.1.0 l.1.1.1.0 l.1.1.1.1.0 l.1.1.1.1.1.0 l.1.1.1.1.1.1.0)) e.if1.false t.add-measured.ensures
+    accepts e.before.water-refusal.result (asked s) (given s) (lent s) (done s) (number_is e.before) (result_of (added_of t.add-measured.result s.args.constants.now) (book l.0 l.1.0 l.1.1.0 l.1.1.1.0 l.1.1.1.1.0 l.1.1.1.1.1.0 l.1.1.1.1.1.1.0)) e.if1.false t.add-measured.ensures
 
 pub try-water-spec : {M : Type 1} → statement M
 try-water-spec =

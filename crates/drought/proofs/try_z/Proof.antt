@@ -13,7 +13,7 @@ use Rattle.refusals.specs.Refusals.{z_refusal}
 use Rattle.refusals.proofs.Refused.{z-passes}
 use Rattle.refusals.proofs.Lent.{lent-records, z-lent}
 use Rattle.adding.specs.Progress.{added_of}
-use Rattle.adding.specs.Taken.{result, taken_z}
+use Rattle.adding.specs.Taken.{result_of, taken_z}
 use Rattle.adding.specs.declared.MonthAdded.{MonthAdded}
 use Rattle.adding.proofs.Readiness.{ready, placed, watered}
 use Rattle.adding.proofs.Answered.{refuses, accepts}
@@ -100,7 +100,7 @@ returns-2 c =
     let s = entered e.before in
     let f = s.fits.z in
     let l = t.add-z.new.1.1 in
-    accepts e.before.z-refusal.result (z_refusal (given s) s.args.z (lent s)) (given s) (lent s) (taken_z (given s) s.args.z (lent s)) (number_is e.before) (result (added_of t.add-z.result s.args.constants.now) (book l.0 l.1.0 l.1.1.0 l.1.1.1.0 l.1.1.1.1.0 l.1.1.1.1.1.0 l.1.1.1.1.1.1.0)) e.if1.false (rw (to_z-of_z f) at (t.add-z.ensures s.args.constants.now))
+    accepts e.before.z-refusal.result (z_refusal (given s) s.args.z (lent s)) (given s) (lent s) (taken_z (given s) s.args.z (lent s)) (number_is e.before) (result_of (added_of t.add-z.result s.args.constants.now) (book l.0 l.1.0 l.1.1.0 l.1.1.1.0 l.1.1.1.1.0 l.1.1.1.1.1.0 l.1.1.1.1.1.1.0)) e.if1.false (rw (to_z-of_z f) at (t.add-z.ensures s.args.constants.now))
 
 pub try-z-spec : {M : Type 1} → statement M
 try-z-spec =

@@ -11,7 +11,7 @@ use Rattle.runs.specs.declared.Run.{Run}
 use Rattle.records.specs.Record.{record_at}
 use Rattle.records.specs.declared.Record.{Record}
 use Rattle.refusals.specs.Book.{Book, book}
-use Rattle.adding.specs.Taken.{Result, result}
+use Rattle.adding.specs.Taken.{Result, result_of}
 use Rattle.adding.specs.Progress.{added_of}
 use Rattle.reworking.specs.Workable.{Kept}
 use Rattle.reworking.proofs.Steps.{watered, ready, placed, with-water, without-water}
@@ -55,13 +55,13 @@ abbrev left-z : tie.After-add-z → Result
 left-z t =
     let q = t.before.before.before.before.before.before.before.before.before.before.before.before in
     let l = t.add-z.new.1.1 in
-    result (added_of t.add-z.result (entered q).args.constants.now) (book l.0 l.1.0 l.1.1.0 l.1.1.1.0 l.1.1.1.1.0 l.1.1.1.1.1.0 l.1.1.1.1.1.1.0)
+    result_of (added_of t.add-z.result (entered q).args.constants.now) (book l.0 l.1.0 l.1.1.0 l.1.1.1.0 l.1.1.1.1.0 l.1.1.1.1.1.0 l.1.1.1.1.1.1.0)
 
 abbrev left-water : tie.After-add-measured → Result
 left-water t =
     let q = t.before.before.before.before.before.before.before.before.before.before.before.before.before.before.before.before.before in
     let l = t.add-measured.new.1.1.1.1.1 in
-    result (added_of t.add-measured.result (entered q).args.constants.now) (book l.0 l.1.0 l.1.1.0 l.1.1.1.0 l.1.1.1.1.0 l.1.1.1.1.1.0 l.1.1.1.1.1.1.0)
+    result_of (added_of t.add-measured.result (entered q).args.constants.now) (book l.0 l.1.0 l.1.1.0 l.1.1.1.0 l.1.1.1.1.0 l.1.1.1.1.1.0 l.1.1.1.1.1.1.0)
 
 cast-record-at : tie.Need-overflow-cast-record-at
 cast-record-at c = search rules

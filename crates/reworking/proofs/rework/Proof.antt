@@ -10,7 +10,7 @@ use Rattle.runs.specs.declared.Run.{Run}
 use Rattle.records.specs.Record.{record_at}
 use Rattle.refusals.specs.Book.{Book, book, long}
 use Rattle.adding.specs.Progress.{added_of}
-use Rattle.adding.specs.Taken.{result}
+use Rattle.adding.specs.Taken.{result_of}
 use Rattle.adding.specs.declared.Added.{Added}
 use Rattle.reopening.specs.Before.{opens_before, run_before, reopened}
 use Rattle.reopening.proofs.Laws.{opens-most}
@@ -168,7 +168,7 @@ then t = let l = t.add-again.new.1.1 in book l.0 l.1.0 l.1.1.0 l.1.1.1.0 l.1.1.1
 
 again-is : (t : tie.After-add-again invariant-loop decreases-loop)
     → let a = looped (inside t) in
-    result (added t) (then t) ≡ again (run_of a.loop.s (constants a)) (record_at a.loop.records a.loop.s.months) (so_far a)
+    result_of (added t) (then t) ≡ again (run_of a.loop.s (constants a)) (record_at a.loop.records a.loop.s.months) (so_far a)
 again-is t = t.add-again.ensures
 
 months-are : (t : tie.After-add-again invariant-loop decreases-loop) → t.add-again.result.progress.months ≡ suc (looped (inside t)).loop.s.months

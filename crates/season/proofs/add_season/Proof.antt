@@ -20,7 +20,7 @@ use Rattle.refusals.specs.Book.{Book, book}
 use Rattle.refusals.specs.Good.{Good}
 use Rattle.refusals.specs.Refusals.{run_refusal}
 use Rattle.refusals.proofs.Refused.{run-passes}
-use Rattle.adding.specs.Taken.{result}
+use Rattle.adding.specs.Taken.{result_of}
 use Rattle.adding.specs.Progress.{added_of}
 use Rattle.runs.specs.Progress.{progress_of, run_of}
 use Rattle.adding.proofs.Readiness.{run_is}
@@ -181,7 +181,7 @@ pes a = (start a).args.pe.now
 
 alone : (t : tie.After-add-listed invariant-loop decreases-loop)
     → let a = (inside t).before in
-    result (added_of t.add-listed.result (constants a)) (then t) ≡ single (season_result (before a) (so_far a)) (get_or (ps a) a.loop.i (pos 0)) (get_or (pes a) a.loop.i (pos 0))
+    result_of (added_of t.add-listed.result (constants a)) (then t) ≡ single (season_result (before a) (so_far a)) (get_or (ps a) a.loop.i (pos 0)) (get_or (pes a) a.loop.i (pos 0))
 alone t =
     let d = t.before.before.before.before.before.before.before.before.before in
     let a = (inside t).before in

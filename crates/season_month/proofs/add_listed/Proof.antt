@@ -21,7 +21,7 @@ use Rattle.refusals.specs.Refusals.{room_refusal}
 use Rattle.outline.specs.Refusals.{or_else}
 use Rattle.refusals.proofs.Refused.{room-passes}
 use Rattle.outline.proofs.Refusals.{or-first, or-second}
-use Rattle.adding.specs.Taken.{result}
+use Rattle.adding.specs.Taken.{result_of}
 use Rattle.adding.specs.Progress.{added_of}
 use Rattle.adding.specs.Ready.{Ready, Watered}
 use Rattle.adding.proofs.Readiness.{ready, placed, watered}
@@ -301,7 +301,7 @@ returns-4 c =
     let ds = columns l.0 l.1.0 l.1.1.0 l.1.1.1.0 l.1.1.1.1.0 in
     let p = ap (λ (o : Outcome). o.water) (first-water (first e)) in
     let q = ap (λ (o : Outcome). o.water) (second-water (second e)) in
-    accepted-as a.at a.constants.now (listed a.p) (listed a.pe) (lent s) s.pre (room-is e.before ∙ e.if1.left) (result (added_of c.watered.result a.constants.now) (book_of ds n.put.last.1.1.0 u.put-v.new.1.1.0))
+    accepted-as a.at a.constants.now (listed a.p) (listed a.pe) (lent s) s.pre (room-is e.before ∙ e.if1.left) (result_of (added_of c.watered.result a.constants.now) (book_of ds n.put.last.1.1.0 u.put-v.new.1.1.0))
     (rw (p, q, ← kinds-are d) (measured-is a.at a.constants.now (p-of e) (pe-of e) (kinds-of d) d.month-of.result (month-is d) (lent s) ds t.add-spells.result
     (rw (to_z-of_z (month-is d).fits) at t.add-spells.ensures) n.put.last.1.1.0 (put-wrote n) u.put-v.new.1.1.0 (put-v-wrote u) c.watered.result c.watered.ensures))
 
