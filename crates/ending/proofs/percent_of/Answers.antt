@@ -16,6 +16,7 @@ use Rattle.ending.specs.Bounds.{most_v}
 use Rattle.ending.specs.Ending.{percent_of}
 use Rattle.ending.proofs.Rooms.{percent-low, percent-high, percent-between}
 use Rattle.ending.proofs.percent_of.Goals as goal
+use Rattle.ending.proofs.percent_of.Goals.{After-nearest_signed-p}
 
 room : (v : ℤ) → nat_abs v ≤ 2 * most_v → nat_abs (pos 100000 *ℤ v) ≤ most_rounded
 room v = rw (is-Z v) (simp zs (omega arith))
@@ -30,7 +31,7 @@ pub nearest_signed-p-requires : goal.nearest_signed-p-requires
 nearest_signed-p-requires c = search (held, fit, room)
 
 -- p is the nearest to 100,000 V / Q
-given : (c : goal.After-nearest_signed-p) → c.nearest_signed-p.result ≡ nearest (pos 100000 *ℤ c.args.v) (clip c.args.q)
+given : (c : After-nearest_signed-p) → c.nearest_signed-p.result ≡ nearest (pos 100000 *ℤ c.args.v) (clip c.args.q)
 given c = c.nearest_signed-p.ensures ∙ (search (held, fit))
 
 pub returns-then-p-lt1 : goal.returns-then-p-lt1

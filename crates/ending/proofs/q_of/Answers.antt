@@ -54,4 +54,4 @@ returns c =
     let g : SFits w64 c.e_of.result = record { sfits = c.e_of.type_inv } in
     let h = (fit c).0 in
     let k : SFits w64 (c.e_of.result +ℤ pos 1000 *ℤ c.turned.result) = (fit c).1 in
-    (simp to_z-of_z (to_z-of_z k)) ∙ sum c
+    simp to_z-of_z (sum c)

@@ -1,15 +1,14 @@
 -- `exact::nearest_signed` meets its contract: n moved away from zero by half of d, and divided toward zero.
 -- Assumes nothing.
 use borrow.Author.Rules.{rules}
-use mathlib.Core.Path.{◌≡◌, sym, ap, ◌∙◌, subst}
-use mathlib.Core.Logic.{⊎_elim}
+use mathlib.Core.Path.{◌≡◌, sym, ◌∙◌, subst}
 use mathlib.Core.Bool.{true, false}
 use Prim.Native.Nat.{ℕ, ◌≤◌, ◌<◌}
 use native.Mathlib.Omega.{arith}
 use lib.Dec.{T}
 use borrow.Author.Tests.{leb-true, leb-false}
 use lib.IntN.{ℤ, pos, negsuc, ◌+ℤ◌, ◌-ℤ◌}
-use lib.Signed.{le_z, quot_z}
+use lib.Signed.{le_z, lt_z, quot_z}
 use mir.Syntax.{w64}
 use mir.Val.{SFits, to_z, of_z}
 use mir.Facts.{to_z-of_z}
@@ -18,6 +17,7 @@ use Rattle.exact.proofs.Nearest.{nearest-none}
 use Rattle.exact.proofs.Held.{quot_fits, held}
 use Rattle.exact.proofs.Moved.{Moved, moved_up, moved_down}
 use Rattle.exact.proofs.nearest_signed.Goals as goal
+use Rattle.exact.proofs.nearest_signed.Goals.{then-n-lt0, else-n-lt0}
 
 -- d is not above 0
 none : (n d : ℤ) → le_z d (pos 0) ≡ true → pos 0 ≡ nearest n (clip d)
@@ -47,38 +47,41 @@ half c = quot_fits w64 c.args.d 2 c.ranges.d
 pub nonzero_div-half : goal.nonzero_div-half
 nonzero_div-half c = search held
 
-down : (c : goal.Then-n-lt0) → Moved c.args.n c.args.d (c.args.n -ℤ quot_z c.args.d (pos 2))
-down c =
+down : (c : goal.Else-d-le0) → lt_z (to_z w64 (of_z w64 c.args.n)) (pos 0) ≡ true → Moved c.args.n c.args.d (c.args.n -ℤ quot_z c.args.d (pos 2))
+down c h =
     let fn = c.ranges.n in
-    above c.before (λ d. SFits w64 d → Moved c.args.n d (c.args.n -ℤ quot_z d (pos 2)))
-    (λ b p f. moved_down c.args.n b p f c.requires (simp to_z-of_z at c.if-n-lt0.true)) c.ranges.d
+    above c (λ d. SFits w64 d → Moved c.args.n d (c.args.n -ℤ quot_z d (pos 2)))
+    (λ b p f. moved_down c.args.n b p f c.requires (simp to_z-of_z at h)) c.ranges.d
 
-up : (c : goal.Else-n-lt0) → Moved c.args.n c.args.d (c.args.n +ℤ quot_z c.args.d (pos 2))
-up c =
+up : (c : goal.Else-d-le0) → lt_z (to_z w64 (of_z w64 c.args.n)) (pos 0) ≡ false → Moved c.args.n c.args.d (c.args.n +ℤ quot_z c.args.d (pos 2))
+up c h =
     let fn = c.ranges.n in
-    above c.before (λ d. SFits w64 d → Moved c.args.n d (c.args.n +ℤ quot_z d (pos 2)))
-    (λ b p f. moved_up c.args.n b p f c.requires (simp to_z-of_z at c.if-n-lt0.false)) c.ranges.d
+    above c (λ d. SFits w64 d → Moved c.args.n d (c.args.n +ℤ quot_z d (pos 2)))
+    (λ b p f. moved_up c.args.n b p f c.requires (simp to_z-of_z at h)) c.ranges.d
 
 pub overflow_sub-m : goal.overflow_sub-m
-overflow_sub-m c = let h = half c.before in let m = (down c).0 in search rules
+overflow_sub-m c = let h = half c.before in let m = (down c.before c.if-n-lt0.true).0 in search rules
 
 pub overflow_add-m : goal.overflow_add-m
-overflow_add-m c = let h = half c.before in let m = (up c).0 in search rules
+overflow_add-m c = let h = half c.before in let m = (up c.before c.if-n-lt0.false).0 in search rules
 
 moved : (c : goal.Joined-n-lt0) → Moved c.args.n c.args.d (to_z w64 c.if-n-lt0.m-bits)
 moved c =
     let h = half c.before in
-    ⊎_elim
-    (λ w.
-    let m = down (record { before = c.before; if-n-lt0 = w.0 }) in
-    let f = m.0 in
-    let e : to_z w64 c.if-n-lt0.m-bits ≡ c.args.n -ℤ quot_z c.args.d (pos 2) = ap (to_z w64) w.1 ∙ (search rules) in
-    rw e m)
-    (λ w.
-    let m = up (record { before = c.before; if-n-lt0 = w.0 }) in
-    let f = m.0 in
-    let e : to_z w64 c.if-n-lt0.m-bits ≡ c.args.n +ℤ quot_z c.args.d (pos 2) = ap (to_z w64) w.1 ∙ (search rules) in
-    rw e m) c.if-n-lt0.branch
+    elim c.if-n-lt0.branch [
+      | then-n-lt0 w ↦ (
+          let m = down c.before w.if-n-lt0.true in
+          let f = m.0 in
+          let e : to_z w64 c.if-n-lt0.m-bits ≡ c.args.n -ℤ quot_z c.args.d (pos 2) = w.m-is ∙ (search rules) in
+          rw e m
+          )
+      | else-n-lt0 w ↦ (
+          let m = up c.before w.if-n-lt0.false in
+          let f = m.0 in
+          let e : to_z w64 c.if-n-lt0.m-bits ≡ c.args.n +ℤ quot_z c.args.d (pos 2) = w.m-is ∙ (search rules) in
+          rw e m
+          )
+    ]
 
 -- the quotient fits, since m does
 fit : (c : goal.Joined-n-lt0) → (0 < of_z w64 c.args.d) × SFits w64 (quot_z (to_z w64 c.if-n-lt0.m-bits) c.args.d)
