@@ -1,9 +1,6 @@
 -- `fields::all_spaces`: what is left is all spaces exactly where the whole is. Assumes nothing.
-use mathlib.Core.Path.{◌≡◌, refl, sym, ◌∙◌}
-use Prim.Native.Nat.{◌-◌, ◌≤◌}
+use mathlib.Core.Path.{refl, sym, ◌∙◌}
 use native.Mathlib.Omega.{arith}
-use lib.ListN.{length, drop}
-use Rattle.text.specs.Bytes.{all_spaces}
 use Rattle.fields.proofs.Parts.{space-on, space-off, spaces-end}
 use Rattle.fields.proofs.all_spaces.Goals as goal
 

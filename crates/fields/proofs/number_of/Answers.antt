@@ -3,13 +3,11 @@
 use borrow.Author.Rules.{rules}
 use mathlib.Core.Path.{◌≡◌, refl, sym, ◌∙◌}
 use mathlib.Core.Bool.{true}
-use mathlib.Core.List.{foldl}
-use Prim.Native.Nat.{◌-◌, ◌^◌, ◌≤◌, ◌<◌}
+use Prim.Native.Nat.{◌<◌}
 use native.Mathlib.Numerals.{add-one}
 use native.Mathlib.Omega.{arith}
-use lib.ListN.{length, drop, get_or}
-use borrow.Author.Tests.{not-true, not-false}
-use Rattle.text.specs.Bytes.{is_digit, all_digits, and_digit, natural}
+use lib.ListN.{get_or}
+use Rattle.text.specs.Bytes.{is_digit, natural}
 use Rattle.text.proofs.Digits.{digit-range}
 use Rattle.fields.specs.Field.{digits_of}
 use Rattle.fields.proofs.Parts.{digit-on, digit-off, number-on, digits-end, number-end}
@@ -33,13 +31,13 @@ small c =
     places c.loop-i.n c.loop-i.i c.loop-i.invariant.1 (omega (arith, p, c.loop-i-test.true))
 
 digit : (c : goal.Else-not-is_digit) → is_digit (get_or c.args.part.now c.loop-i.i 0) ≡ true
-digit c = sym c.is_digit.ensures ∙ not-false _ c.if-not-is_digit.false-raw
+digit c = sym c.is_digit.ensures ∙ c.if-not-is_digit.false
 
 pub returns-then-not-is_digit : goal.returns-then-not-is_digit
 unfolding digits_of
 returns-then-not-is_digit c =
     let s = c.args.part.now in
-    rw (← c.loop-i.invariant.2, digit-off s c.loop-i.i c.loop-i-test.true (sym c.is_digit.ensures ∙ not-true _ c.if-not-is_digit.true-raw))
+    rw (← c.loop-i.invariant.2, digit-off s c.loop-i.i c.loop-i-test.true (sym c.is_digit.ensures ∙ c.if-not-is_digit.true))
 
 pub overflow_mul-n : goal.overflow_mul-n
 overflow_mul-n c = record { fits = omega (arith, small c) }

@@ -6,11 +6,9 @@ use native.Mathlib.Omega.{arith}
 use Rattle.text.specs.Bytes.{negative}
 use Rattle.fields.proofs.Parts.{to_end, minus-long, body-minus, body-plain}
 use Rattle.fields.proofs.without_minus.Goals as goal
+use Rattle.fields.proofs.without_minus.Goals.{Then-has_minus}
 
-pub has_minus-requires : goal.has_minus-requires
-has_minus-requires c = search rules
-
-with-minus : (c : goal.Then-has_minus) → negative c.args.part.now ≡ true
+with-minus : (c : Then-has_minus) → negative c.args.part.now ≡ true
 with-minus c = sym c.has_minus.ensures ∙ c.if-has_minus.true
 
 pub slice_bounds-result-count : goal.slice_bounds-result-count
@@ -25,7 +23,7 @@ slice_bounds-result-end c = search rules
 pub returns-then-has_minus : goal.returns-then-has_minus
 returns-then-has_minus c =
     let s = c.args.part.now in
-    to_end s 1 ∙ sym (body-minus s (with-minus c.before))
+    to_end s 1 ∙ sym (body-minus s (with-minus (goal.at.returns-then-has_minus c).Then-has_minus))
 
 pub returns : goal.returns
 returns c =

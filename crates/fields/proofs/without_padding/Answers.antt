@@ -1,10 +1,7 @@
 -- `fields::without_padding`: what is left has the same bytes after its spaces as the whole has. Assumes nothing.
 use borrow.Author.Rules.{rules}
-use mathlib.Core.Path.{◌≡◌, refl, sym, ◌∙◌}
-use Prim.Native.Nat.{◌-◌, ◌≤◌}
+use mathlib.Core.Path.{refl, sym, ◌∙◌}
 use native.Mathlib.Omega.{arith}
-use lib.ListN.{length, drop}
-use Rattle.fields.specs.Field.{unpadded}
 use Rattle.fields.proofs.Parts.{to_end, padding-on, padding-off, padding-end}
 use Rattle.fields.proofs.without_padding.Goals as goal
 

@@ -4,7 +4,7 @@ use Prim.Native.Nat.{◌≤◌}
 use native.Mathlib.Omega.{arith}
 use lib.Dec.{lit<}
 use lib.IntN.{ℤ, nat_abs}
-use mir.Syntax.{w32}
+use mir.Syntax.{w32, w64}
 use mir.Val.{SFits}
 use mir.Facts.{to_z-of_z}
 use Rattle.exact.specs.Bounds.{most_rounded}
@@ -48,7 +48,7 @@ cafec : (c : goal.After-z_of) → c.nearest_signed-cafec.result ≡ cafec_of (n_
 cafec c = given c.before ∙ ap cafec_of c.n_of-n.ensures
 
 z : (c : goal.After-z_of) → c.z_of.result ≡ z_of c.args.k.k c.args.p (n_of c.args.k c.args.pe c.args.q)
-z c = c.z_of.ensures ∙ ap (z_of c.args.k.k c.args.p) (to_z-of_z (record { sfits = c.n_of-n.type_inv }) ∙ c.n_of-n.ensures)
+z c = c.z_of.ensures ∙ ap (z_of c.args.k.k c.args.p) (to_z-of_z {w = w64} (record { sfits = c.n_of-n.type_inv }) ∙ c.n_of-n.ensures)
 
 pub returns : goal.returns
 unfolding expected_of

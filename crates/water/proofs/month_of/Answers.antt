@@ -21,7 +21,11 @@ potentials_of-q-requires c = search held
 
 pub expected_of-e-requires : goal.expected_of-e-requires
 expected_of-e-requires c =
-    rw c.potentials_of-q.ensures (c.requires.constants_fit, (c.requires.p_le_most_reading, potentials-fit c.args.s c.args.pe c.requires.soil_fits))
+    rw c.potentials_of-q.ensures (record {
+      constants_fit = c.requires.constants_fit;
+      p_le_most_reading = c.requires.p_le_most_reading;
+      pro_bound = potentials-fit c.args.s c.args.pe c.requires.soil_fits;
+    })
 
 -- the three together
 whole : (s : Soil) (p pe : ℕ) (k : Constants) (b : Balance) (q : Potentials) (e : Expected) → b ≡ balance_of s p pe → q ≡ potentials_of s pe → e ≡ expected_of k p pe q → joined b q e ≡ month_of s p pe k

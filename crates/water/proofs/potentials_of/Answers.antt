@@ -1,6 +1,6 @@
 -- `water::potentials_of` meets its contract, figure by figure. What the soil holds is within its capacity. Assumes nothing.
 use borrow.Author.Rules.{rules}
-use Prim.Native.Nat.{◌+◌, ◌≤◌}
+use Prim.Native.Nat.{◌≤◌}
 use native.Mathlib.Omega.{arith}
 use Rattle.water.specs.Expected.{potentials_of, potential_surface, potential_underlying}
 use Rattle.water.proofs.LayerLaws.{soil-sum, soil-under}
@@ -16,25 +16,19 @@ overflow_sub-pe c = search rules
 pub under_loss-plu-requires : goal.under_loss-plu-requires
 under_loss-plu-requires c = omega (arith, soil-under c.args.s c.requires.soil_fits)
 
--- what the soil holds is within its capacity
-room : (c : goal.Start) → c.args.s.surface + c.args.s.underlying ≤ c.args.s.capacity
-room c = soil-sum c.args.s c.requires.soil_fits
-
--- the loss was held
-held-under : (c : goal.After-under_loss-plu) → c.under_loss-plu.result ≤ c.args.s.underlying
-held-under c = rw c.under_loss-plu.ensures (under-held _ _ _)
-
 pub overflow_sub-result : goal.overflow_sub-result
-overflow_sub-result c = omega (arith, room c.before.before.before)
+overflow_sub-result c = omega (arith, soil-sum c.args.s c.requires.soil_fits)
 
 pub overflow_sub-result-2 : goal.overflow_sub-result-2
-overflow_sub-result-2 c = omega (arith, room c.before.before.before.before)
+overflow_sub-result-2 c = omega (arith, soil-sum c.args.s c.requires.soil_fits)
 
 pub overflow_add-result : goal.overflow_add-result
-overflow_add-result c = omega (arith, room c.before.before.before.before.before)
+overflow_add-result c = omega (arith, soil-sum c.args.s c.requires.soil_fits)
 
 pub overflow_add-result-2 : goal.overflow_add-result-2
-overflow_add-result-2 c = omega (arith, room c.before.before.before.before.before, held-under c.before.before.before)
+overflow_add-result-2 c =
+    let h : c.under_loss-plu.result ≤ c.args.s.underlying = rw c.under_loss-plu.ensures (under-held _ _ _) in
+    omega (arith, soil-sum c.args.s c.requires.soil_fits)
 
 pub returns : goal.returns
 unfolding potentials_of potential_surface potential_underlying
