@@ -48,19 +48,14 @@ unwritten() {
     exit 3
 }
 
-# Proves and builds the program. rt itself sees what has not changed.
+# Proves and builds the program, where it is not built yet of what stands here.
 build() {
-    command -v rt >/dev/null 2>&1 || {
-        say "rt, the Rattle kit's command, is not on this machine"
-        exit 4
-    }
-    mkdir -p "$top/target" || exit 4
-    [ -x "$top/target/bin/$name" ] || say 'proving and building first, some minutes'
-    (cd "$top" && rt check "$name") </dev/null >"$top/target/$name.log" 2>&1 || {
-        tail -20 "$top/target/$name.log" >&2
-        say 'the program cannot be built'
-        exit 4
-    }
+    (
+        cd "$top" || exit 4
+        . host/built.sh
+        has_rt
+        build_program "$name"
+    ) || exit 4
 }
 
 # told FILE WORDS: whether a program said this on standard error.
