@@ -1,5 +1,5 @@
-"""Running a program on an input that is given whole or, through a pipe, in pieces that cut lines anywhere. It is proved and
-built first, where it is not built yet of what stands here."""
+"""Running a program on an input that is given whole or, through a pipe, in pieces that cut lines anywhere. One of rt's is
+proved and built first, where it is not built yet of what stands here."""
 import functools
 import os
 import subprocess
@@ -9,10 +9,12 @@ import time
 
 from stored import TOP
 
+START = os.path.join(TOP, 'host', 'start')
+
 
 def command(name, *arguments):
     """How a program that rt built is started."""
-    return [os.path.join(TOP, 'host', 'start'), os.path.join(TOP, 'target', 'bin', name), *arguments]
+    return [START, os.path.join(TOP, 'target', 'bin', name), *arguments]
 
 
 @functools.lru_cache(maxsize=None)
@@ -37,7 +39,8 @@ def given(pipe, data, pieces):
 
 def printed(words, data, pieces):
     """What it prints on standard output and on standard error, as bytes, and its exit status."""
-    build(words[1])
+    if words[0] == START:
+        build(words[1])
     with tempfile.TemporaryFile() as errors:
         program = subprocess.Popen(words, stdin=subprocess.PIPE, stdout=subprocess.PIPE, stderr=errors)
         writer = threading.Thread(target=given, args=(program.stdin, data, pieces))
