@@ -1,5 +1,4 @@
 -- `layout_heading::write_heading`: ten stores, each of its column. Assumes nothing.
-use borrow.Author.Rules.{rules}
 use mathlib.Core.Path.{refl, ◌∙◌}
 use native.Mathlib.Omega.{arith}
 use lib.ListN.{length-set}
@@ -7,62 +6,20 @@ use Rattle.layout_heading.specs.Written.{heading_text}
 use Rattle.layout_heading.proofs.Stores.{all-ten}
 use Rattle.layout_heading.proofs.write_heading.Goals as goal
 
-pub last_digit-requires : goal.last_digit-requires
-last_digit-requires c = search rules
-
-pub bounds-heading-0 : goal.bounds-heading-0
-bounds-heading-0 c = search rules
-
-pub last_digit-requires-2 : goal.last_digit-requires-2
-last_digit-requires-2 c = search rules
-
-pub bounds-heading-1 : goal.bounds-heading-1
-bounds-heading-1 c = search rules
-
-pub last_digit-requires-3 : goal.last_digit-requires-3
-last_digit-requires-3 c = search rules
-
-pub bounds-heading-2 : goal.bounds-heading-2
-bounds-heading-2 c = search rules
-
-pub last_digit-requires-4 : goal.last_digit-requires-4
-last_digit-requires-4 c = search rules
-
-pub bounds-heading-3 : goal.bounds-heading-3
-bounds-heading-3 c = search rules
-
-pub last_digit-requires-5 : goal.last_digit-requires-5
-last_digit-requires-5 c = search rules
-
 pub bounds-heading-4 : goal.bounds-heading-4
 bounds-heading-4 c = simp length-set (omega arith)
-
-pub last_digit-requires-6 : goal.last_digit-requires-6
-last_digit-requires-6 c = search rules
 
 pub bounds-heading-5 : goal.bounds-heading-5
 bounds-heading-5 c = simp length-set (omega arith)
 
-pub last_digit-requires-7 : goal.last_digit-requires-7
-last_digit-requires-7 c = search rules
-
 pub bounds-heading-6 : goal.bounds-heading-6
 bounds-heading-6 c = simp length-set (omega arith)
-
-pub last_digit-requires-8 : goal.last_digit-requires-8
-last_digit-requires-8 c = search rules
 
 pub bounds-heading-7 : goal.bounds-heading-7
 bounds-heading-7 c = simp length-set (omega arith)
 
-pub last_digit-requires-9 : goal.last_digit-requires-9
-last_digit-requires-9 c = search rules
-
 pub bounds-heading-8 : goal.bounds-heading-8
 bounds-heading-8 c = simp length-set (omega arith)
-
-pub last_digit-requires-10 : goal.last_digit-requires-10
-last_digit-requires-10 c = search rules
 
 pub bounds-heading-9 : goal.bounds-heading-9
 bounds-heading-9 c = simp length-set (omega arith)

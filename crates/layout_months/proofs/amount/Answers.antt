@@ -1,5 +1,4 @@
 -- `layout_months::amount`: a number in its range is no mark. Assumes nothing.
-use borrow.Author.Rules.{rules}
 use mathlib.Core.Path.{◌≡◌, refl, sym, ◌∙◌}
 use mathlib.Core.Bool.{Bool, true, false, and-eq-true_iff}
 use Prim.Native.Nat.{ℕ, ◌*◌}
@@ -20,23 +19,11 @@ unfolding rain_of
 outside m n true e f = rw e
 outside m n false e f = rw (e, f)
 
-pub enum_known-said : goal.enum_known-said
-enum_known-said c = search rules
-
-pub enum_told-1 : goal.enum_told-1
-enum_told-1 c = search rules
-
-pub returns-in_default : goal.returns-in_default
-returns-in_default c = search rules
-
-pub in_range-requires : goal.in_range-requires
-in_range-requires c = search rules
-
 pub overflow_mul-result : goal.overflow_mul-result
 overflow_mul-result c = record { fits = omega (arith, range-most _ _ (sym c.in_range.ensures ∙ c.if-in_range.true)) }
 
 pub returns-then-in_range : goal.returns-then-in_range
-returns-then-in_range c = rw c.said-1.given.1 (within _ _ (sym c.in_range.ensures ∙ c.if-in_range.true))
+returns-then-in_range c = rw c.in-Number.is (within _ _ (sym c.in_range.ensures ∙ c.if-in_range.true))
 
 pub returns : goal.returns
-returns c = rw c.said-1.given.1 (outside _ _ _ refl (sym c.in_range.ensures ∙ c.if-in_range.false))
+returns c = rw c.in-Number.is (outside _ _ _ refl (sym c.in_range.ensures ∙ c.if-in_range.false))

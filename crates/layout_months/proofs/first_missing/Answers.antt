@@ -1,5 +1,4 @@
 -- `layout_months::first_missing`: its test is that of the definition, and a count of zeros is at most 32. Assumes nothing.
-use borrow.Author.Rules.{rules}
 use native.Mathlib.Omega.{arith}
 use Prim.Native.Nat.{◌-◌}
 use lib.Count.{trailing_le}
@@ -10,9 +9,6 @@ use Rattle.layout_months.proofs.first_missing.Goals as goal
 pub returns-then-present-eq-ALL : goal.returns-then-present-eq-ALL
 unfolding lowest_missing
 returns-then-present-eq-ALL c = rw (eq-eqb _ _ c.if-present-eq-ALL.true)
-
-pub overflow_sub-result : goal.overflow_sub-result
-overflow_sub-result c = search rules
 
 pub overflow_add-result : goal.overflow_add-result
 overflow_add-result c = record { fits = omega (arith, trailing_le 32 (all_months - c.args.present)) }

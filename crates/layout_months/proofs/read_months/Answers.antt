@@ -1,5 +1,4 @@
 -- `layout_months::read_months`: what is found so far is what is found in the months so far, and the amounts so far are theirs. Assumes nothing.
-use borrow.Author.Rules.{rules}
 use mathlib.Core.Path.{◌≡◌, refl, sym, ap, ◌∙◌}
 use mathlib.Core.List.{List, [], ◌∷◌, ◌++◌, map, map-append}
 use Prim.Native.Nat.{ℕ, ◌+◌, ◌-◌, ◌*◌, ◌^◌, ◌≤◌, ◌<◌}
@@ -16,6 +15,7 @@ use Rattle.layout_months.specs.declared.Month.{Month}
 use Rattle.layout_months.specs.declared.Month.TheVariants.{Malformed}
 use Rattle.layout_months.proofs.Months.{months-twelve, field, month-at, found-more, found_below}
 use Rattle.layout_months.proofs.read_months.Goals as goal
+use Rattle.layout_months.proofs.read_months.Goals.{After-read_field-said}
 
 -- ---- the months so far, and one more
 module _ (line : List ℕ) (m : ℕ) (h : m < months_of_year) where
@@ -49,7 +49,7 @@ pow-next m = rw (add-one m) (pow-suc 2 m)
 seven : (k : ℕ) → k + width - k ≡ width
 seven k = omega arith
 
-month-is : (c : goal.After-read_field-said) → month_said c.read_field-said.result ≡ month_of (field c.args.line.now c.loop-m.m)
+month-is : (c : After-read_field-said) → month_said c.read_field-said.result ≡ month_of (field c.args.line.now c.loop-m.m)
 unfolding month_of
 month-is c =
     ap month_said c.read_field-said.ensures ∙ ap (λ (n : ℕ). month_of (take n (drop (heading_columns + width * c.loop-m.m) c.args.line.now))) (seven (heading_columns + width * c.loop-m.m))
@@ -82,18 +82,12 @@ read_field-said-requires c =
     let k = heading_columns + width * c.loop-m.m in
     rw (seven k) (length-take-le width (drop k l) (omega (arith, length-drop k l, c.loop-m-test.true, c.requires.last_column_in_bounds)))
 
-pub amount-requires : goal.amount-requires
-amount-requires c = search rules
-
 pub offset_bounds-amounts-m : goal.offset_bounds-amounts-m
 offset_bounds-amounts-m c = record { fits = omega (arith, c.loop-m-test.true) }
 
 pub bounds-amounts-m : goal.bounds-amounts-m
 bounds-amounts-m c =
     omega (arith, c.loop-m-test.true, c.loop-m.invariant.1, c.requires.amounts_len)
-
-pub month_said-requires : goal.month_said-requires
-month_said-requires c = search rules
 
 pub and_month-found-requires : goal.and_month-found-requires
 and_month-found-requires c =
@@ -104,7 +98,7 @@ and_month-found-requires c =
     let p = bit_below l c.loop-m.m h in
     let t = c.loop-m.invariant.2 in
     let w = rw n at b in
-    (omega (arith, w.0, p, t), (omega (arith, w.1, p, t), omega (arith, w.2, p, t)))
+    record { bit_bound = omega (arith, w.0, p, t); bit_bound_2 = omega (arith, w.1, p, t); bit_bound_3 = omega (arith, w.2, p, t) }
 
 pub overflow_mul-bit : goal.overflow_mul-bit
 overflow_mul-bit c =
@@ -121,7 +115,7 @@ loop-m-preserved c =
     let l = c.args.line.now in
     let m = c.loop-m.m in
     let h = c.loop-m-test.true in
-    let x = month-is c.before.before.before in (
+    let x = month-is (goal.at.loop-m-preserved c).After-read_field-said in (
       omega (arith, h),
       length-set c.loop-m.amounts m c.amount.result ∙ c.loop-m.invariant.1,
       omega (arith, c.loop-m.invariant.2, pow-next m),
@@ -135,7 +129,7 @@ shape_of-amounts c = c.loop-m.invariant.1
 pub returns : goal.returns
 returns c =
     let l = c.args.line.now in
-    let t : take c.loop-m.m (months_of l) ≡ months_of l = take_all c.loop-m.m (months_of l) (omega (arith, months-twelve l, c.loop-m-test.false)) in (
-      c.loop-m.invariant.3 ∙ ap found_in t,
-      sym (take_all c.loop-m.m c.loop-m.amounts (omega (arith, c.loop-m.invariant.1, c.requires.amounts_len, c.loop-m-test.false))) ∙ c.loop-m.invariant.4 ∙ ap (map amount_of) t,
-    )
+    let t : take c.loop-m.m (months_of l) ≡ months_of l = take_all c.loop-m.m (months_of l) (omega (arith, months-twelve l, c.loop-m-test.false)) in record {
+      value = c.loop-m.invariant.3 ∙ ap found_in t;
+      amounts_after = sym (take_all c.loop-m.m c.loop-m.amounts (omega (arith, c.loop-m.invariant.1, c.requires.amounts_len, c.loop-m-test.false))) ∙ c.loop-m.invariant.4 ∙ ap (map amount_of) t;
+    }

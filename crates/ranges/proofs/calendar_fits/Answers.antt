@@ -1,10 +1,6 @@
 -- `ranges::calendar_fits` meets its contract. Assumes nothing.
 use Rattle.ranges.specs.Ranges.{calendar_fits}
-use borrow.Author.Rules.{rules}
 use Rattle.ranges.proofs.calendar_fits.Goals as goal
-
-pub between-requires : goal.between-requires
-between-requires c = search rules
 
 pub returns : goal.returns
 unfolding calendar_fits

@@ -1,12 +1,8 @@
 -- `ranges::constants_fit` meets its contract. The loop's invariant: all places passed fit, and they are whole months. A month that does not
 -- fit spoils all (`five-spoil`). Assumes nothing.
-use mathlib.Core.Path.{◌≡◌, sym}
-use mathlib.Core.Bool.{true}
-use Prim.Native.Nat.{◌-◌, ◌%◌, ◌≤◌}
+use mathlib.Core.Path.{◌≡◌, sym, ◌∙◌}
 use native.Mathlib.Omega.{arith}
-use Rattle.ranges.specs.Ranges.{constants_fit_to}
-use Rattle.outline.specs.Numbers.{many_constants, many_of_a_month}
-use Rattle.outline.proofs.Tests.{fails, passes}
+use Rattle.outline.specs.Numbers.{many_constants}
 use Rattle.ranges.proofs.RangeLaws.{fits-none, five-more, five-spoil}
 use Rattle.ranges.proofs.constants_fit.Goals as goal
 
@@ -18,7 +14,7 @@ five_fit-requires c = omega arith
 
 pub returns-then-not-five_fit : goal.returns-then-not-five_fit
 returns-then-not-five_fit c =
-    rw (five-spoil c.args.c.now c.loop-i.i many_constants (omega arith) (fails c.five_fit.ensures c.if-not-five_fit.true-raw))
+    rw (five-spoil c.args.c.now c.loop-i.i many_constants (omega arith) (sym c.five_fit.ensures ∙ c.if-not-five_fit.true))
 
 pub overflow_add-i : goal.overflow_add-i
 overflow_add-i c = omega arith
@@ -28,7 +24,7 @@ loop-i-smaller c = omega arith
 
 pub loop-i-preserved : goal.loop-i-preserved
 loop-i-preserved c =
-    (omega arith, omega arith, five-more c.args.c.now c.loop-i.i c.loop-i.invariant.2 (passes c.five_fit.ensures c.if-not-five_fit.false-raw))
+    (omega arith, omega arith, five-more c.args.c.now c.loop-i.i c.loop-i.invariant.2 (sym c.five_fit.ensures ∙ c.if-not-five_fit.false))
 
 pub returns : goal.returns
 returns c =

@@ -5,26 +5,13 @@ use lib.ListN.{get_or}
 use mir.Syntax.{w32}
 use mir.Val.{SFits}
 use mir.Facts.{to_z-of_z}
-use borrow.Author.Rules.{rules}
 use Rattle.exact.proofs.Held.{held}
 use Rattle.ranges.specs.Ranges.{constant_fits}
 use Rattle.ranges.proofs.fits_at.Goals as goal
-
-pub offset_bounds-c-i : goal.offset_bounds-c-i
-offset_bounds-c-i c = search rules
-
-pub bounds-c-i : goal.bounds-c-i
-bounds-c-i c = search rules
-
-pub limit_of-requires : goal.limit_of-requires
-limit_of-requires c = search rules
-
-pub beyond-requires : goal.beyond-requires
-beyond-requires c = search rules
 
 pub returns : goal.returns
 unfolding constant_fits
 returns c =
     let f : SFits w32 (get_or c.args.c.now c.args.i (pos 0)) = search held in
     let g : SFits w32 c.limit_of.result = search held in
-    rw (c.pre.1, simp c.limit_of.ensures at (simp to_z-of_z at c.beyond.ensures)) (not-not _)
+    rw (c.requires.1, simp c.limit_of.ensures at (simp to_z-of_z at c.beyond.ensures)) (not-not _)

@@ -16,11 +16,11 @@ other (suc (suc (suc (suc n)))) h two four = absurd (four (omega arith))
 
 pub returns-then-place-eq2 : goal.returns-then-place-eq2
 unfolding limit_of
-returns-then-place-eq2 c = rw c.if-place-eq2.taken
+returns-then-place-eq2 c = rw c.if-place-eq2.true
 
 pub returns-then-place-eq4 : goal.returns-then-place-eq4
 unfolding limit_of
-returns-then-place-eq4 c = rw c.if-place-eq4.taken
+returns-then-place-eq4 c = rw c.if-place-eq4.true
 
 pub returns : goal.returns
-returns c = rw (other c.args.place c.pre c.if-place-eq2.left c.if-place-eq4.left)
+returns c = rw (other c.args.place c.requires c.if-place-eq2.false c.if-place-eq4.false)

@@ -7,7 +7,6 @@ use lib.Dec.{leb}
 use lib.IntN.{ℤ, pos, negsuc, nat_abs}
 use lib.Signed.{le_z, ◌≤ℤ◌, ◌<ℤ◌}
 use mir.Facts.{to_z-of_z}
-use borrow.Author.Rules.{rules}
 use Rattle.exact.proofs.Z.{zs, is-Z}
 use Rattle.exact.proofs.Held.{held}
 use Rattle.ranges.proofs.RangeLaws.{countable}
@@ -25,9 +24,6 @@ returns-then-n-lt0 c = rw (none c.args.least c.args.n (search held))
 
 pub overflow_cast-n : goal.overflow_cast-n
 overflow_cast-n c = let f = c.ranges.n in simp to_z-of_z (countable c.args.n (search held) f)
-
-pub between-requires : goal.between-requires
-between-requires c = search rules
 
 pub returns : goal.returns
 returns c =

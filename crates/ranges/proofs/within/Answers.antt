@@ -33,7 +33,7 @@ fit m = rw (is-Z m) (simp zs (omega arith))
 pub returns-then-x-most : goal.returns-then-x-most
 returns-then-x-most c =
     let a = c.args in
-    rw (lt-leb (nat_abs a.x) (nat_abs a.most) (above a.x a.most c.pre (search held)))
+    rw (lt-leb (nat_abs a.x) (nat_abs a.most) (above a.x a.most c.requires (search held)))
 
 pub overflow_sub-result : goal.overflow_sub-result
 overflow_sub-result c = search (held, fit)
@@ -43,5 +43,5 @@ returns c =
     let a = c.args in
     let f = c.ranges.x in
     let g = c.ranges.most in
-    let h = fit a.most c.pre g in
-    simp to_z-of_z (mirrored a.x a.most c.pre (search held))
+    let h = fit a.most c.requires g in
+    simp to_z-of_z (mirrored a.x a.most c.requires (search held))

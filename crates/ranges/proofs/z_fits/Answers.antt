@@ -1,5 +1,4 @@
 -- `ranges::z_fits`: the two tests bound the size. Assumes nothing.
-use borrow.Author.Rules.{rules}
 use mathlib.Core.Path.{◌≡◌, refl, sym}
 use mathlib.Core.Bool.{Bool, true, false}
 use Prim.Native.Nat.{◌<◌, ◌≤◌}
@@ -12,9 +11,6 @@ use borrow.Author.Tests.{le-leb, lt-leb}
 use Rattle.outline.specs.Numbers.{most_z, z_fits}
 use Rattle.exact.proofs.Z.{zs-abs, is-Z}
 use Rattle.ranges.proofs.z_fits.Goals as goal
-
-pub overflow_sub-t-2 : goal.overflow_sub-t-2
-overflow_sub-t-2 c = search rules
 
 low : (z : ℤ) → lt_z z (negsuc 3999999) ≡ true → most_z < nat_abs z
 low z = rw (is-Z z) (simp zs-abs (omega arith))
@@ -31,8 +27,8 @@ upper z false h e = sym (lt-leb _ _ (high z e))
 
 pub returns-then-z : goal.returns-then-z
 unfolding z_fits
-returns-then-z c = let f = c.ranges.z in sym (lt-leb _ _ (low c.args.z (simp to_z-of_z at c.if-z.taken)))
+returns-then-z c = let f = c.ranges.z in sym (lt-leb _ _ (low c.args.z (simp to_z-of_z at c.if-z.true)))
 
 pub returns : goal.returns
 unfolding z_fits
-returns c = let f = c.ranges.z in simp to_z-of_z (upper c.args.z (le_z c.args.z (pos most_z)) (simp to_z-of_z at c.if-z.left) refl)
+returns c = let f = c.ranges.z in simp to_z-of_z (upper c.args.z (le_z c.args.z (pos most_z)) (simp to_z-of_z at c.if-z.false) refl)

@@ -10,48 +10,18 @@ use Rattle.records.proofs.Fields.{same-fields}
 use Rattle.records.proofs.Fitting.{stored-most}
 use Rattle.records.proofs.water_record.Goals as goal
 
-pub overflow_cast-result : goal.overflow_cast-result
-overflow_cast-result c = search rules
-
-pub overflow_cast-result-2 : goal.overflow_cast-result-2
-overflow_cast-result-2 c = search rules
-
-pub overflow_cast-result-3 : goal.overflow_cast-result-3
-overflow_cast-result-3 c = search rules
-
-pub overflow_cast-result-4 : goal.overflow_cast-result-4
-overflow_cast-result-4 c = search rules
-
-pub overflow_add-result : goal.overflow_add-result
-overflow_add-result c = search rules
-
-pub overflow_cast-result-5 : goal.overflow_cast-result-5
-overflow_cast-result-5 c = search rules
-
-pub overflow_cast-result-6 : goal.overflow_cast-result-6
-overflow_cast-result-6 c = search rules
-
 pub overflow_cast-result-7 : goal.overflow_cast-result-7
 overflow_cast-result-7 c = let h = stored-most c.args.s c.requires.soil in search rules
 
 pub overflow_cast-result-8 : goal.overflow_cast-result-8
 overflow_cast-result-8 c = let h = stored-most c.args.s c.requires.soil in search rules
 
-pub overflow_cast-result-9 : goal.overflow_cast-result-9
-overflow_cast-result-9 c = search rules
-
-pub overflow_cast-result-10 : goal.overflow_cast-result-10
-overflow_cast-result-10 c = search rules
-
-pub overflow_cast-result-11 : goal.overflow_cast-result-11
-overflow_cast-result-11 c = search rules
-
 pub returns : goal.returns
 returns c =
     let a = c.args in
     let g = c.requires in
     let h = stored-most a.s g.soil in
-    let f0 : SFits w32 a.m.z = record { sfits = c.struct_told-1.given.1.1.1.1.1.1.1.1.1.0.1 } in
+    let f0 : SFits w32 a.m.z = search rules in
     let f1 : SFits w32 (pos a.p) = search rules in
     let f2 : SFits w32 (pos a.pe) = search rules in
     let f3 : SFits w32 (pos a.m.et) = search rules in

@@ -9,11 +9,12 @@ use Rattle.exact.specs.Next.{next_of}
 use Rattle.exact.proofs.Z.{le_yes, le-no}
 use Rattle.spells.proofs.Choices.{lowered-kept, lowered-off}
 use Rattle.spells.proofs.lowered_next.Goals as goal
+use Rattle.spells.proofs.lowered_next.Goals.{After-next-n}
 
 pub next-n-requires : goal.next-n-requires
 next-n-requires c = search rules
 
-given : (c : goal.After-next-n) → c.next-n.result ≡ next_of c.args.x c.args.z
+given : (c : After-next-n) → c.next-n.result ≡ next_of c.args.x c.args.z
 given c = c.next-n.ensures.value ∙ (search rules)
 
 pub returns-then-n-le0 : goal.returns-then-n-le0

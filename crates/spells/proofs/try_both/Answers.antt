@@ -12,6 +12,7 @@ use Rattle.spells.specs.Spells.{unfounded}
 use Rattle.spells.specs.declared.Decision.TheVariants.{Nothing}
 use Rattle.spells.proofs.Choices.{tried-first, tried-second, tried-x1, tried-x2, tried_open}
 use Rattle.spells.proofs.try_both.Goals as goal
+use Rattle.spells.proofs.try_both.Goals.{Else-x1-ge-FOUNDS, Else-x2-dry, Else-x1-eq0}
 
 pub overflow_sub-dry : goal.overflow_sub-dry
 overflow_sub-dry c = search rules
@@ -35,7 +36,7 @@ pub found-requires-then-x2-dry : goal.found-requires-then-x2-dry
 found-requires-then-x2-dry c = search rules
 
 -- X1 does not
-not_first : (c : goal.Else-x1-ge-FOUNDS) → c.args.x1 <ℤ pos 1000
+not_first : (c : Else-x1-ge-FOUNDS) → c.args.x1 <ℤ pos 1000
 not_first c = let f = c.ranges.x1 in le-no (pos 1000) c.args.x1 (simp to_z-of_z at c.if-x1-ge-FOUNDS.false)
 
 -- X2 founds
@@ -51,7 +52,7 @@ pub leave-requires : goal.leave-requires
 leave-requires c = search rules
 
 -- X2 does not
-not-second : (c : goal.Else-x2-dry) → negsuc 999 <ℤ c.args.x2
+not-second : (c : Else-x2-dry) → negsuc 999 <ℤ c.args.x2
 not-second c = let f = c.ranges.x2 in le-no c.args.x2 (negsuc 999) (simp to_z-of_z at c.if-x2-dry.false)
 
 pub returns-then-x1-eq0 : goal.returns-then-x1-eq0
@@ -65,7 +66,7 @@ returns-then-x1-eq0 c =
 pub leave-requires-then-x2-eq0 : goal.leave-requires-then-x2-eq0
 leave-requires-then-x2-eq0 c = search rules
 
-some-x1 : (c : goal.Else-x1-eq0) → c.args.x1 ≡ pos 0 → ⊥
+some-x1 : (c : Else-x1-eq0) → c.args.x1 ≡ pos 0 → ⊥
 some-x1 c e = c.if-x1-eq0.false (ap (of_z w32) e)
 
 pub returns-then-x2-eq0 : goal.returns-then-x2-eq0
