@@ -9,7 +9,7 @@
 ghost use Rattle.std.specs.Prelude.{◌+◌, ◌≤◌, ◌<◌, length};
 
 use door::{MonthInches, Reading, Told};
-use libc::{STDIN_FILENO, STDOUT_FILENO};
+use std::io::Read;
 
 const LINE: usize = 20;
 
@@ -59,15 +59,11 @@ fn signed(bits: u32) -> i32 {
     (bits as i64 - 0x1_0000_0000) as i32
 }
 
-fn show(t: Told) {
-    io::print_decimal(STDOUT_FILENO, t.number as u64);
-    io::write_all(STDOUT_FILENO, b" ");
-    io::print_decimal(STDOUT_FILENO, t.water as u64);
-    io::write_all(STDOUT_FILENO, b" ");
-    io::print_decimal(STDOUT_FILENO, t.kind as u64);
+fn show(stdout: &impl Print, t: Told) {
+    let _ = print!(stdout; "{} {} {}", t.number, t.water, t.kind);
 }
 
-fn answer(kind: u8, first: u32, second: u32) {
+fn answer(stdout: &impl Print, kind: u8, first: u32, second: u32) {
     if kind == b'p' {
         let q = MonthInches {
             p: float(first),
@@ -76,30 +72,40 @@ fn answer(kind: u8, first: u32, second: u32) {
         let d = door::read_month(q);
         let p = d.p;
         let pe = d.pe;
-        show(p);
-        io::write_all(STDOUT_FILENO, b" ");
-        show(pe);
+        show(stdout, p);
+        let _ = print!(stdout; " ");
+        show(stdout, pe);
     } else if kind == b'w' {
-        show(door::tell(door::read(Reading::Whole(signed(first)))));
+        show(
+            stdout,
+            door::tell(door::read(Reading::Whole(signed(first)))),
+        );
     } else if kind == b'i' {
-        show(door::tell(door::read(Reading::Inches(float(first)))));
+        show(
+            stdout,
+            door::tell(door::read(Reading::Inches(float(first)))),
+        );
     } else if kind == b'm' {
-        show(door::tell(door::read(Reading::Millimetres(float(first)))));
+        show(
+            stdout,
+            door::tell(door::read(Reading::Millimetres(float(first)))),
+        );
     } else {
-        show(door::tell(door::read(Reading::Missing)));
+        show(stdout, door::tell(door::read(Reading::Missing)));
     }
-    io::write_all(STDOUT_FILENO, b"\n");
+    let _ = println!(stdout);
 }
 
-fn main() {
-    let mut line = [0u8; 20];
+fn main(rt: HostRuntime) {
+    let mut stdin = rt.stdin();
+    let stdout = rt.stdout();
+    let mut line = [0u8; LINE];
     let mut left: u32 = 100_000;
     while left > 0 {
-        let got = io::read_full(STDIN_FILENO, &mut line);
-        if got < LINE {
+        if stdin.read_exact(&mut line).is_err() {
             return;
         }
-        answer(line[0], word(&line, 2), word(&line, 11));
+        answer(&stdout, line[0], word(&line, 2), word(&line, 11));
         left -= 1;
     }
 }
