@@ -10,8 +10,12 @@ ghost use Rattle.std.specs.Prelude.{◌+◌, ◌≤◌, ◌<◌, length};
 
 use door::{MonthInches, Reading, Told};
 use std::io::Read;
+use std::num::f32_from_bits_with_nan;
 
 const LINE: usize = 20;
+
+// How many lines are read at most.
+const MOST_LINES: u32 = 100_000;
 
 fn digit(b: u8) -> u32
     ensures { result < 16 }
@@ -36,20 +40,15 @@ fn word(s: &[u8], at: usize) -> u32
     requires { at + 8 ≤ length s.now }
 {
     let mut n: u32 = 0;
-    let mut i = 0;
-    while i < 8 {
-        n = n % 0x1000_0000 * 16 + digit(s[at + i]);
-        i += 1;
+    for b in &s[at..at + 8] {
+        n = n % 0x1000_0000 * 16 + digit(*b);
     }
     n
 }
 
 // A pattern as the number that it stands for. The language has one NaN, so any NaN's pattern is that.
 fn float(bits: u32) -> f32 {
-    if bits % 0x8000_0000 > 0x7f80_0000 {
-        return 0.0 / 0.0;
-    }
-    f32::from_bits(bits)
+    f32_from_bits_with_nan(bits)
 }
 
 fn signed(bits: u32) -> i32 {
@@ -100,12 +99,10 @@ fn main(rt: HostRuntime) {
     let mut stdin = rt.stdin();
     let stdout = rt.stdout();
     let mut line = [0u8; LINE];
-    let mut left: u32 = 100_000;
-    while left > 0 {
+    for _ in 0..MOST_LINES {
         if stdin.read_exact(&mut line).is_err() {
             return;
         }
         answer(&stdout, line[0], word(&line, 2), word(&line, 11));
-        left -= 1;
     }
 }

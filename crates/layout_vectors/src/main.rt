@@ -7,7 +7,6 @@
 
 ghost use Rattle.std.specs.Prelude.{◌+◌, ◌≤◌, ◌<◌, length};
 
-use fields::MONTHS;
 use layout::Year;
 use std::io::Read;
 
@@ -22,10 +21,8 @@ fn asked(input: &[u8], from: usize, to: usize) -> u32
     requires { to ≤ length input.now }
 {
     let mut n: u32 = 0;
-    let mut i = from;
-    while i < to {
+    for i in from..to {
         n = n % 1_000 * 10 + (input[i] % 16) as u32;
-        i += 1;
     }
     n
 }
@@ -36,10 +33,8 @@ fn show(stdout: &impl Print, n: u32) {
 
 fn show_year(stdout: &impl Print, year: Year) {
     let _ = stdout.print(year.number);
-    let mut m = 0;
-    while m < MONTHS {
-        show(stdout, year.amounts[m]);
-        m += 1;
+    for amount in &year.amounts {
+        show(stdout, *amount);
     }
     show(stdout, year.present);
     show(stdout, year.count);
@@ -53,14 +48,12 @@ fn line_end(input: &[u8], from: usize) -> usize
     ensures lower_bound { from ≤ result }
     ensures upper_bound { result ≤ length input.now }
 {
-    let mut i = from;
-    while i < input.len() {
+    for i in from..input.len() {
         if input[i] == b'\n' {
             return i;
         }
-        i += 1;
     }
-    i
+    input.len()
 }
 
 fn answer(stdout: &impl Print, part: &[u8]) {
