@@ -16,7 +16,7 @@ ghost use Rattle.fields.specs.Written.{last_digit, before_units, field_text, siz
 use outline::LAST_MONTH;
 
 // What a value's seven characters say: whether there is a minus, and the hundredths.
-#[derive(Drop)]
+#[derive(Clone, Copy)]
 pub enum Field {
     Number(bool, u32),
     Malformed,

@@ -13,7 +13,7 @@ ghost use Rattle.figures.specs.Steps.{Small, seen_in, and_figure};
 use fields::{Field, HEADING, MONTHS, WIDTH};
 
 // What is sent out of a month.
-#[derive(Drop)]
+#[derive(Clone, Copy)]
 pub enum Element {
     Index,
     Z,
@@ -21,7 +21,7 @@ pub enum Element {
 }
 
 // What a value says of its month.
-#[derive(Drop)]
+#[derive(Clone, Copy)]
 pub enum Figure {
     // Hundredths.
     Value(i32),

@@ -25,7 +25,7 @@ pub enum Month {
 }
 
 // Sets of the months read so far: January is bit 0, December bit 11.
-#[derive(Drop)]
+#[derive(Clone, Copy)]
 pub struct Found {
     // Those whose value is malformed.
     pub malformed: u32,

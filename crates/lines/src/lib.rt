@@ -13,7 +13,7 @@ ghost use Rattle.lines.specs.Fault.{sign_length, spoiled_at};
 use outline::MOST_Z;
 
 // A line so far. Its bytes are given one by one, without the line feed.
-#[derive(Drop)]
+#[derive(Clone, Copy)]
 pub struct Line {
     // Whether a minus has come.
     pub minus: bool,

@@ -50,7 +50,7 @@ const NONE: i32 = 0;
 // A month's record: its Z, its water, both storages at its start and at its end, whether it had water, its modified index, and
 // the kind of its precipitation.
 #[repr(C)]
-#[derive(Drop)]
+#[derive(Clone, Copy)]
 pub struct Record {
     pub z: i32,
     pub p: i32,

@@ -13,7 +13,7 @@ use water::Soil;
 
 // A run, handed in and back by value.
 #[repr(C)]
-#[derive(Drop)]
+#[derive(Clone, Copy)]
 pub struct Run {
     // How many months it holds, and how many of them, the last ones, are open.
     pub months: u32,
@@ -27,7 +27,7 @@ pub struct Run {
 }
 
 // A run without its constants: what a month changes of it.
-#[derive(Drop)]
+#[derive(Clone, Copy)]
 pub struct Progress {
     pub months: u32,
     pub opens: u32,

@@ -17,7 +17,7 @@ use outline::{FOUNDS, IN_FORCE};
 
 // The running values, as the month before left them.
 #[repr(C)]
-#[derive(Drop)]
+#[derive(Clone, Copy)]
 pub struct Running {
     pub x1: i32,
     pub x2: i32,

@@ -20,7 +20,7 @@ const ONE: u64 = 10_000;
 
 // ET and PE, R and PR, RO and PRO, L and PL, each summed over the years.
 #[repr(C)]
-#[derive(Drop)]
+#[derive(Clone, Copy)]
 pub struct Sums {
     pub et: u32,
     pub pe: u32,

@@ -23,7 +23,7 @@ const SURFACE: u32 = 1_000;
 
 // The soil: its capacity, and what each layer holds.
 #[repr(C)]
-#[derive(Drop)]
+#[derive(Clone, Copy)]
 pub struct Soil {
     pub capacity: u32,
     pub surface: u32,
@@ -31,7 +31,7 @@ pub struct Soil {
 }
 
 // One calendar month's five constants.
-#[derive(Drop)]
+#[derive(Clone, Copy)]
 pub struct Constants {
     pub alpha: u32,
     pub beta: u32,
@@ -53,7 +53,7 @@ pub struct Balance {
 }
 
 // Potential recharge, runoff and loss.
-#[derive(Drop)]
+#[derive(Clone, Copy)]
 pub struct Potentials {
     pub pr: u32,
     pub pro: u32,
@@ -68,7 +68,7 @@ pub struct Expected {
 }
 
 // A month of water, whole: the balance, the potentials, what was expected.
-#[derive(Drop)]
+#[derive(Clone, Copy)]
 pub struct Month {
     pub ls: u32,
     pub lu: u32,
