@@ -6,11 +6,11 @@ use mathlib.Core.List.{List, [], ◌∷◌}
 use Prim.Native.Nat.{ℕ, zero, suc, ◌+◌, ◌-◌, ◌*◌, ◌/◌, ◌%◌, ◌^◌, ◌≤◌, ◌<◌}
 use native.Mathlib.Nat.{div-div-eq-div-mul}
 use native.Mathlib.Omega.{arith}
-use lib.Dec.{leb, eqb}
+use lib.Dec.{eqb}
 use lib.ListN.{length, take, drop, get_or, length-take}
 use borrow.Author.Tests.{eqb-true, eqb-false, le-leb}
 use Rattle.text.specs.Bytes.{space, minus_sign, point, digit_zero, is_digit, all_digits, negative, body, natural}
-use Rattle.text.proofs.Digits.{apart, digit-range}
+use Rattle.text.proofs.Digits.{digit-range}
 use Rattle.fields.specs.Columns.{width}
 use Rattle.fields.specs.Field.{unpadded, plain, ahead, units, decimals, well_formed, hundredths, field_of}
 use Rattle.fields.specs.Written.{field_text, size_fits}

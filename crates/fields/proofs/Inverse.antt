@@ -1,18 +1,17 @@
 -- The writer and the reader of a value are inverse to each other: what is written of a size that fits is read as that size (`read_written`), and
 -- what is read of a field that has a digit before the point and no minus before 0 is written as that field (`Written-Read`). The idea: by how
 -- many digits stand before the point. Assumes nothing.
-use mathlib.Core.Path.{◌≡◌, refl, sym, ap, ◌∙◌}
-use mathlib.Core.Bool.{Bool, true, false, cond, not, ◌&&◌}
+use mathlib.Core.Path.{◌≡◌, refl, ap, ◌∙◌}
+use mathlib.Core.Bool.{Bool, true, false, cond}
 use mathlib.Core.List.{List, [], ◌∷◌}
-use Prim.Native.Nat.{ℕ, zero, suc, ◌+◌, ◌-◌, ◌*◌, ◌/◌, ◌%◌, ◌≤◌, ◌<◌}
+use Prim.Native.Nat.{ℕ, ◌+◌, ◌*◌, ◌/◌, ◌%◌, ◌≤◌, ◌<◌}
 use native.Mathlib.Nat.{div-div-eq-div-mul}
 use native.Mathlib.Omega.{arith}
 use lib.Dec.{leb, eqb}
-use lib.ListN.{length}
-use borrow.Author.Tests.{eq-eqb, ne_eqb, le-leb, lt-leb, leb-true, leb-false}
+use borrow.Author.Tests.{eq-eqb, ne_eqb, le-leb, leb-true, leb-false}
 use Rattle.text.specs.Bytes.{space, minus_sign, point, digit_zero, is_digit, all_digits, negative, body, natural}
-use Rattle.fields.specs.Field.{unpadded, plain, ahead, units, decimals, well_formed, hundredths, field_of}
-use Rattle.fields.specs.Written.{last_digit, before_units, field_text, size_fits}
+use Rattle.fields.specs.Field.{unpadded, plain, ahead, units, well_formed, hundredths, field_of}
+use Rattle.fields.specs.Written.{before_units, field_text, size_fits}
 use Rattle.fields.specs.declared.Field.TheVariants.{Number}
 
 -- ---- a digit's byte

@@ -1,0 +1,109 @@
+-- `modified::modified` meets its contract: V tells whether a spell abates, and which. Assumes nothing.
+use mathlib.Core.Path.{◌≡◌, refl, sym, ap, subst, ◌∙◌}
+use Prim.Native.Nat.{ℕ, zero, suc, ◌*◌}
+use mathlib.Core.Bool.{Bool, true, false}
+use borrow.Author.Rules.{rules}
+use native.Mathlib.Omega.{arith}
+use lib.IntN.{ℤ, pos, negsuc, neg_ℤ, ◌+ℤ◌, ◌*ℤ◌}
+use lib.Signed.{◌≤ℤ◌, ◌<ℤ◌}
+use mir.Syntax.{w32, w64}
+use mir.Val.{SFits, to_z, of_z}
+use mir.Facts.{to_z-of_z, sfits_lit}
+use Rattle.outline.specs.Numbers.{most_x, most_z}
+use Rattle.exact.proofs.Z.{zs, is-Z, lt_yes, lt_no, fits-within}
+use Rattle.exact.proofs.Held.{same_bits}
+use Rattle.ending.specs.Bounds.{most_v}
+use Rattle.ending.specs.Ending.{turn}
+use Rattle.spells.specs.declared.Running.{Running}
+use Rattle.modified.specs.Modified.{mixed, side}
+use Rattle.modified.specs.Leans.{lacking_of, Leans}
+use Rattle.modified.proofs.Abating.{Abated, abated, elsewhere}
+use Rattle.modified.proofs.modified.Goals as goal
+
+-- the numbers as the machine has them
+module _ (wet : Bool) (x3 z v a b : ℤ) (l : Leans wet x3 z v a b) where
+  fits : SFits w32 x3 × SFits w32 z × SFits w64 v × SFits w32 a × SFits w32 b
+  fits = (
+    fits-within w32 x3 most_x l.x3_size (omega arith),
+    fits-within w32 z most_z l.z_size (omega arith),
+    fits-within w64 v (2 * most_v) l.v_size (omega arith),
+    fits-within w32 a most_x l.a_size (omega arith),
+    fits-within w32 b most_x l.b_size (omega arith),
+  )
+
+  told : Leans wet (to_z w32 (of_z w32 x3)) (to_z w32 (of_z w32 z)) (to_z w64 (of_z w64 v)) (to_z w32 (of_z w32 a)) (to_z w32 (of_z w32 b))
+  told = rw (to_z-of_z fits.0, to_z-of_z fits.1, to_z-of_z fits.2, to_z-of_z fits.3, to_z-of_z fits.4) l
+
+  abbrev mixture : ℤ → ℤ → ℤ → ℤ → ℤ → ℤ
+  mixture x3 z v a b = mixed (turn wet v) (lacking_of wet x3 z +ℤ pos 1000 *ℤ turn wet v) a b
+
+  mixed-told : mixture (to_z w32 (of_z w32 x3)) (to_z w32 (of_z w32 z)) (to_z w64 (of_z w64 v)) (to_z w32 (of_z w32 a)) (to_z w32 (of_z w32 b)) ≡ mixture x3 z v a b
+  mixed-told = rw (to_z-of_z fits.0, to_z-of_z fits.1, to_z-of_z fits.2, to_z-of_z fits.3, to_z-of_z fits.4)
+
+-- V is an `i64`
+v-fits : (c : goal.After-struct_told-1) → SFits w64 c.args.m.v
+v-fits c = search rules
+
+-- V is 0: the modified index is the month's
+pub returns-then-v-eq0 : goal.returns-then-v-eq0
+returns-then-v-eq0 c =
+    let a = c.args in
+    let e : a.m.v ≡ pos 0 = same_bits {y = pos 0} (v-fits c.before) (sfits_lit tt) c.if-v-eq0.true in
+    let f = c.ranges.index in
+    to_z-of_z f ∙ c.requires.m_value.1 ∙ elsewhere a.s a.z c.requires.values_fit c.requires.z_bound (ap (λ (m : Running). m.v) (sym c.requires.m_value.0) ∙ e)
+
+-- V is not 0: its sign tells which spell abates
+abbrev entered : goal.After-struct_told-5-1 → goal.Start
+entered c = c.before.before.before.before.before.before
+
+abates : (t : Bool) (s : goal.Start) → pos 0 <ℤ turn t s.args.m.v → Abated t s.args.s s.args.z s.args.m
+abates t s p =
+    let e = s.requires.1.1.0 in
+    rw e (abated t s.args.s s.args.z s.requires.0 s.requires.1.0 (subst (λ (m : Running). pos 0 <ℤ turn t m.v) e p))
+
+wet : (c : goal.Then-v-lt0) → let a = c.args in Abated true a.s a.z a.m
+unfolding turn
+wet c =
+    let f = v-fits c.before.before.before.before.before.before in
+    abates true c.before.before.before.before.before.before.before (above c.args.m.v (lt_yes c.args.m.v (pos 0) (simp to_z-of_z at c.if-v-lt0.true)))
+  where
+    above : (v : ℤ) → v <ℤ pos 0 → pos 0 <ℤ neg_ℤ v
+    above v = rw (is-Z v) (simp zs (omega arith))
+
+dry : (c : goal.Else-v-lt0) → let a = c.args in Abated false a.s a.z a.m
+unfolding turn
+dry c =
+    let f = v-fits c.before.before.before.before.before.before in
+    abates false c.before.before.before.before.before.before.before (above c.args.m.v (lt_no c.args.m.v (pos 0) (simp to_z-of_z at c.if-v-lt0.false)) (λ e. c.if-v-eq0.false (ap (of_z w64) e)))
+  where
+    above : (v : ℤ) → pos 0 ≤ℤ v → (v ≡ pos 0 → ⊥) → pos 0 <ℤ v
+    above (pos zero) h n = absurd (n refl)
+    above (pos (suc k)) h n = up k
+      where
+        up : (k : ℕ) → pos 0 <ℤ pos (suc k)
+        up k = simp zs (omega arith)
+    above (negsuc k) h n = absurd h.le
+
+pub leaning-requires : goal.leaning-requires
+unfolding side
+leaning-requires c = let a = c.args in told true a.s.x3 a.z a.m.v a.m.x3 a.m.x2 (wet c).leans_so
+
+pub returns-then-v-lt0 : goal.returns-then-v-lt0
+unfolding side
+returns-then-v-lt0 c =
+    let a = c.args in
+    let w = wet c.before in
+    let f : SFits w32 c.leaning.result = record { sfits = c.leaning.type_inv } in
+    to_z-of_z f ∙ c.leaning.ensures ∙ mixed-told true a.s.x3 a.z a.m.v a.m.x3 a.m.x2 w.leans_so ∙ w.is
+
+pub leaning-requires-2 : goal.leaning-requires-2
+unfolding side
+leaning-requires-2 c = let a = c.args in told false a.s.x3 a.z a.m.v a.m.x3 a.m.x1 (dry c).leans_so
+
+pub returns : goal.returns
+unfolding side
+returns c =
+    let a = c.args in
+    let d = dry c.before in
+    let f : SFits w32 c.leaning-2.result = record { sfits = c.leaning-2.type_inv } in
+    to_z-of_z f ∙ c.leaning-2.ensures ∙ mixed-told false a.s.x3 a.z a.m.v a.m.x3 a.m.x1 d.leans_so ∙ d.is

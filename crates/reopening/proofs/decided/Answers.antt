@@ -1,0 +1,57 @@
+-- `reopening::decided` meets its contract: each way by what its tests say. Assumes nothing.
+use mathlib.Core.Path.{◌≡◌, ap, ◌∙◌}
+use mathlib.Core.Bool.{true, false}
+use borrow.Author.Rules.{rules}
+use borrow.Author.Tests.{eqb-true, eqb-false}
+use lib.Dec.{eqb}
+use lib.IntN.{ℤ, pos}
+use mir.Syntax.{w32, w64}
+use mir.Val.{SFits, of_z}
+use mir.Facts.{sfits_lit}
+use Rattle.outline.proofs.Tests.{alike}
+use Rattle.exact.proofs.Held.{same_bits}
+use Rattle.spells.specs.Spells.{is_zero}
+use Rattle.spells.specs.declared.Running.{Running}
+use Rattle.spells.proofs.Choices.{zero_is, zero-not}
+use Rattle.reopening.specs.Before.{decided}
+use Rattle.reopening.proofs.decided.Goals as goal
+
+-- a test of bits is one of the number
+bits-zero : (x : ℤ) → SFits w32 x → eqb (of_z w32 x) 0 ≡ is_zero x
+bits-zero x f =
+    alike (eqb (of_z w32 x) 0) (is_zero x) (λ e. zero_is x (same_bits {y = pos 0} f (sfits_lit tt) (eqb-true (of_z w32 x) 0 e)))
+    (λ e. zero-not x (λ z. eqb-false (of_z w32 x) 0 e (ap (of_z w32) z)))
+
+module _ (s : Running) where
+  v-some : (s.v ≡ pos 0 → ⊥) → false ≡ decided s
+  unfolding decided
+  v-some h = rw (zero-not s.v h)
+
+  x1-none : s.v ≡ pos 0 → s.x1 ≡ pos 0 → true ≡ decided s
+  unfolding decided
+  x1-none h g = rw (zero_is s.v h, zero_is s.x1 g)
+
+  x1-some : s.v ≡ pos 0 → (s.x1 ≡ pos 0 → ⊥) → is_zero s.x2 ≡ decided s
+  unfolding decided
+  x1-some h g = rw (zero_is s.v h, zero-not s.x1 g)
+
+-- V is 0
+none : (c : goal.Else-s-ne0) → c.args.s.v ≡ pos 0
+none c =
+    let f : SFits w64 c.args.s.v = search rules in
+    same_bits {y = pos 0} f (sfits_lit tt) c.if-s-ne0.false
+
+pub returns-then-s-ne0 : goal.returns-then-s-ne0
+returns-then-s-ne0 c = v-some c.args.s (λ e. c.if-s-ne0.true (ap (of_z w64) e))
+
+pub returns-then-s-eq0 : goal.returns-then-s-eq0
+returns-then-s-eq0 c =
+    let s = c.args.s in
+    let f : SFits w32 s.x1 = search rules in
+    x1-none s (none c.before.before.before) (same_bits {y = pos 0} f (sfits_lit tt) c.if-s-eq0.true)
+
+pub returns : goal.returns
+returns c =
+    let s = c.args.s in
+    let f : SFits w32 s.x2 = search rules in
+    bits-zero s.x2 f ∙ x1-some s (none c.before.before.before.before.before) (λ e. c.if-s-eq0.false (ap (of_z w32) e))
