@@ -11,7 +11,7 @@ ghost use Rattle.fields.specs.Columns.{element, last_column};
 ghost use Rattle.layout_months.specs.Months.{months_of};
 ghost use Rattle.layout_months.specs.Steps.{found_in};
 ghost use Rattle.layout.specs.Rainfall.{refusal, year_said, year_of};
-ghost use Rattle.layout.specs.Rainfall.{refused as refusedYear};
+ghost use Rattle.layout.specs.Rainfall.{refused as refused_year};
 ghost use Rattle.layout.specs.Fault.{fault_of};
 ghost use Rattle.layout.specs.Steps.{found_fault, rest_fault};
 
@@ -84,7 +84,7 @@ fn line_refusal(line: &[u8], found: Found, state: u32, division: u32, year: u32)
 // ---- the answers
 
 fn refused(number: u8) -> Year
-    ensures { result ≡ refusedYear number }
+    ensures { result ≡ refused_year number }
 {
     Year {
         number,

@@ -13,7 +13,7 @@ use Rattle.exact.proofs.Nearest.{nearest-neg, nearest-mono, nearest-exact}
 use Rattle.outline.specs.Numbers.{most_x, most_u}
 use Rattle.ending.specs.Bounds.{most_v}
 use Rattle.ending.specs.Ending.{turn, u_of, e_of}
-use Rattle.ending.proofs.Rooms.{most_e, turn-size, u-size, v_size, e-size}
+use Rattle.ending.proofs.Rooms.{most_e, turn-size, u-size, e-size}
 use Rattle.modified.specs.Modified.{mixed}
 use Rattle.modified.specs.Leans.{lacking_of, Leans, Weighed, most_d}
 

@@ -1,6 +1,6 @@
 -- What holds of the running values that a fresh run comes to, and not of all that "not a run" lets through: neither X1 nor X2 has gone past
 -- what the month before would have founded a spell with, or a spell's own X3. Assumes nothing.
-use Rattle.std.specs.Prelude.{true, false, ℤ, pos, neg_ℤ, ◌≤ℤ◌, ◌<ℤ◌}
+use Rattle.std.specs.Prelude.{true, false, pos, neg_ℤ, ◌≤ℤ◌, ◌<ℤ◌}
 use Rattle.outline.specs.Numbers.{founds_from}
 use Rattle.spells.specs.declared.Running.{Running}
 use Rattle.spell_laws.specs.Cases.{InForce, NoneInForce}

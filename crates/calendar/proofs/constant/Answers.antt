@@ -21,7 +21,7 @@ overflow_cast-result c =
     let l = c.args.c.now in
     let i = c.args.i in
     let f : SFits w32 (get_or l i (pos 0)) = search held in
-    simp to_z-of_z (countable (get_or l i (pos 0)) (constant-is l i (each_fits l i many_constants c.pre.1 c.pre.0)).0 f)
+    simp to_z-of_z (countable (get_or l i (pos 0)) (constant-is l i (each_fits l i many_constants c.requires.1 c.requires.0)).0 f)
 
 pub returns : goal.returns
 returns c =

@@ -1,12 +1,10 @@
 -- `calendar::constants_serve` meets its contract. The loop's invariant: whether the months passed serve is known. Assumes nothing.
 use mathlib.Core.Path.{◌≡◌, refl}
-use mathlib.Core.Bool.{not, not-not}
-use Prim.Native.Nat.{◌-◌, ◌%◌, ◌≤◌}
+use mathlib.Core.Bool.{not-not}
 use native.Mathlib.Omega.{arith}
-use Rattle.outline.specs.Numbers.{many_constants, many_of_a_month}
+use Rattle.outline.specs.Numbers.{many_constants}
 use Rattle.ranges.specs.Ranges.{constants_fit_to}
 use Rattle.calendar.specs.Calendar.{zero_k_within}
-use Rattle.calendar.specs.Serve.{serve_to}
 use Rattle.calendar.proofs.CalendarLaws.{bad-on}
 use Rattle.calendar.proofs.constants_serve.Goals as goal
 

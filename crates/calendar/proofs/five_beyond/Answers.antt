@@ -5,7 +5,6 @@ use mathlib.Core.Bool.{Bool, not, ◌&&◌, ◌||◌, and-true, and-false, and_a
 use mathlib.Core.List.{List}
 use Prim.Native.Nat.{ℕ, zero, suc, ◌+◌, ◌%◌}
 use native.Mathlib.Omega.{arith}
-use borrow.Author.Rules.{rules}
 use borrow.Author.Tests.{le-leb, ne_eqb}
 use lib.Dec.{leb, eqb}
 use lib.IntN.{ℤ, pos, negsuc, nat_abs}
@@ -43,63 +42,6 @@ five l at h =
     let e4 : (at + 4) % many_of_a_month ≡ 4 = omega arith in
     rw (h, e1, e2, e3, e4, from_one (get_or l (at + 4) (pos 0)) most_k) (simp (not-both, and_assoc, or_assoc))
 
-pub offset_bounds-c-at : goal.offset_bounds-c-at
-offset_bounds-c-at c = search rules
-
-pub bounds-c-at : goal.bounds-c-at
-bounds-c-at c = search rules
-
-pub beyond-requires : goal.beyond-requires
-beyond-requires c = search rules
-
-pub overflow_add-at : goal.overflow_add-at
-overflow_add-at c = search rules
-
-pub offset_bounds-c-at-2 : goal.offset_bounds-c-at-2
-offset_bounds-c-at-2 c = search rules
-
-pub bounds-c-at-2 : goal.bounds-c-at-2
-bounds-c-at-2 c = search rules
-
-pub beyond-requires-2 : goal.beyond-requires-2
-beyond-requires-2 c = search rules
-
-pub overflow_add-at-2 : goal.overflow_add-at-2
-overflow_add-at-2 c = search rules
-
-pub offset_bounds-c-at-3 : goal.offset_bounds-c-at-3
-offset_bounds-c-at-3 c = search rules
-
-pub bounds-c-at-3 : goal.bounds-c-at-3
-bounds-c-at-3 c = search rules
-
-pub beyond-requires-3 : goal.beyond-requires-3
-beyond-requires-3 c = search rules
-
-pub overflow_add-at-3 : goal.overflow_add-at-3
-overflow_add-at-3 c = search rules
-
-pub offset_bounds-c-at-4 : goal.offset_bounds-c-at-4
-offset_bounds-c-at-4 c = search rules
-
-pub bounds-c-at-4 : goal.bounds-c-at-4
-bounds-c-at-4 c = search rules
-
-pub beyond-requires-4 : goal.beyond-requires-4
-beyond-requires-4 c = search rules
-
-pub overflow_add-at-4 : goal.overflow_add-at-4
-overflow_add-at-4 c = search rules
-
-pub offset_bounds-c-at-5 : goal.offset_bounds-c-at-5
-offset_bounds-c-at-5 c = search rules
-
-pub bounds-c-at-5 : goal.bounds-c-at-5
-bounds-c-at-5 c = search rules
-
-pub beyond-requires-5 : goal.beyond-requires-5
-beyond-requires-5 c = search rules
-
 pub returns : goal.returns
 returns c =
     let l = c.args.c.now in
@@ -116,4 +58,4 @@ returns c =
       simp to_z-of_z at c.beyond-4.ensures,
       simp to_z-of_z at c.beyond-5.ensures,
     )
-    (five l i c.pre.1)
+    (five l i c.requires.1)

@@ -11,7 +11,7 @@ use lib.ListN.{get_or}
 use Rattle.hindsight.specs.Columns.{x_at}
 use Rattle.hindsight.specs.Coded.{side_of, with_of, side_number, value_by}
 use Rattle.hindsight.specs.Rule.{nonzero}
-use Rattle.hindsight.proofs.Back.{Going, at_first, turn}
+use Rattle.hindsight.proofs.Back.{at_first, turn}
 use Rattle.hindsight.proofs.settle.Goals as goal
 
 pub loop-j-init : goal.loop-j-init
@@ -69,9 +69,9 @@ loop-j-smaller c = omega arith
 pub loop-j-preserved : goal.loop-j-preserved
 loop-j-preserved c =
     let i = c.loop-j.j - 1 in
-    let za : SFits w32 (get_or c.args.x1.now i (pos 0)) = record { sfits = c.a-1.given } in
-    let zb : SFits w32 (get_or c.args.x2.now i (pos 0)) = record { sfits = c.b-1.given } in
-    let zc : SFits w32 (get_or c.args.x3.now i (pos 0)) = record { sfits = c.c-1.given } in
+    let za : SFits w32 (get_or c.args.x1.now i (pos 0)) = search rules in
+    let zb : SFits w32 (get_or c.args.x2.now i (pos 0)) = search rules in
+    let zc : SFits w32 (get_or c.args.x3.now i (pos 0)) = search rules in
     let t : c.told-side.result ≡ side_number (nonzero (get_or c.args.x1.now i (pos 0))) (nonzero (get_or c.args.x2.now i (pos 0))) c.loop-j.side =
     rw (to_z-of_z za, to_z-of_z zb) at c.told-side.ensures in
     let v : c.value-v.result ≡ value_by (with_of c.args.by) (side_of c.told-side.result) (x_at c.args.x1.now c.args.x2.now c.args.x3.now i) =
@@ -90,4 +90,4 @@ shape_of-mark c = c.loop-j.invariant.mark_long
 pub returns : goal.returns
 returns c =
     let e : c.loop-j.j ≡ c.args.from = omega arith in
-    (rw e at c.loop-j.invariant.index_is, rw e at c.loop-j.invariant.mark_is)
+    record { indexes = rw e at c.loop-j.invariant.index_is; marks = rw e at c.loop-j.invariant.mark_is }

@@ -56,7 +56,14 @@ shape_of-mark-then-by-eq0 c = search rules
 
 pub returns-then-by-eq0 : goal.returns-then-by-eq0
 returns-then-by-eq0 c =
-    rw (to_z-of_z c.ranges.a, to_z-of_z c.ranges.b, to_z-of_z c.ranges.c, to_z-of_z c.ranges.shown) (refl, (refl, (refl, (adds-open c.args.x1.now c.args.x2.now c.args.x3.now c.args.index.now c.args.mark.now c.args.months c.args.opens c.args.a c.args.b c.args.c c.args.by c.args.shown c.requires.0 (omega arith) (omega arith) c.if-by-eq0.true, ap mark_for (sym (decision-zero c.args.by c.if-by-eq0.true))))))
+    rw (to_z-of_z c.ranges.a, to_z-of_z c.ranges.b, to_z-of_z c.ranges.c, to_z-of_z c.ranges.shown)
+    (record {
+      x1_after = refl;
+      x2_after = refl;
+      x3_after = refl;
+      adds = adds-open c.args.x1.now c.args.x2.now c.args.x3.now c.args.index.now c.args.mark.now c.args.months c.args.opens c.args.a c.args.b c.args.c c.args.by c.args.shown c.requires.0 (omega arith) (omega arith) c.if-by-eq0.true;
+      mark_value = ap mark_for (sym (decision-zero c.args.by c.if-by-eq0.true));
+    })
 
 pub bounds-mark-months-2 : goal.bounds-mark-months-2
 bounds-mark-months-2 c = search rules
@@ -80,26 +87,22 @@ pub shape_of-x3 : goal.shape_of-x3
 shape_of-x3 c = search rules
 
 pub shape_of-index : goal.shape_of-index
-shape_of-index c = c.settle.auto.1.1.1.0 ∙ simp length-set
+shape_of-index c = c.settle.auto.index ∙ simp length-set
 
 pub shape_of-mark : goal.shape_of-mark
-shape_of-mark c = c.settle.auto.1.1.1.1.0 ∙ simp length-set
+shape_of-mark c = c.settle.auto.mark ∙ simp length-set
 
 pub returns : goal.returns
 returns c =
     let t = c.settle in
-    rw (to_z-of_z c.ranges.a, to_z-of_z c.ranges.b, to_z-of_z c.ranges.c) (
-      refl,
-      (
-        refl,
-        (
-          refl,
-          (
-            adds-settled c.args.x1.now c.args.x2.now c.args.x3.now c.args.index.now c.args.mark.now c.args.months c.args.opens c.args.a c.args.b c.args.c c.args.by c.args.shown c.requires.0 (omega arith) (omega arith) c.if-by-eq0.false t.new.1.1.1.0 t.new.1.1.1.1.0
-                (rw (to_z-of_z c.ranges.a, to_z-of_z c.ranges.b, to_z-of_z c.ranges.c, to_z-of_z c.ranges.shown) at t.ensures.0)
-                t.ensures.1,
-            ap mark_for (sym (decision-some c.args.by c.if-by-eq0.false)),
-          ),
-        ),
-      ),
-    )
+    rw (to_z-of_z c.ranges.a, to_z-of_z c.ranges.b, to_z-of_z c.ranges.c)
+    (record {
+      x1_after = refl;
+      x2_after = refl;
+      x3_after = refl;
+      adds =
+          adds-settled c.args.x1.now c.args.x2.now c.args.x3.now c.args.index.now c.args.mark.now c.args.months c.args.opens c.args.a c.args.b c.args.c c.args.by c.args.shown c.requires.0 (omega arith) (omega arith) c.if-by-eq0.false t.new.index t.new.mark
+          (rw (to_z-of_z c.ranges.a, to_z-of_z c.ranges.b, to_z-of_z c.ranges.c, to_z-of_z c.ranges.shown) at t.ensures.indexes)
+          t.ensures.marks;
+      mark_value = ap mark_for (sym (decision-some c.args.by c.if-by-eq0.false));
+    })

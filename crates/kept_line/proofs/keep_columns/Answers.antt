@@ -1,7 +1,7 @@
 -- `kept_line::keep_columns`: what is still to be kept takes what is kept to where the whole part takes it. Assumes nothing.
 use mathlib.Core.Path.{◌≡◌, refl, sym, ◌∙◌}
 use mathlib.Core.List.{List}
-use Prim.Native.Nat.{ℕ, ◌+◌, ◌-◌, ◌≤◌, ◌<◌}
+use Prim.Native.Nat.{ℕ, ◌+◌, ◌≤◌, ◌<◌}
 use native.Mathlib.Omega.{arith}
 use lib.ListN.{length, drop, set, get_or, length-set}
 use borrow.Author.Tests.{lt-ltb}

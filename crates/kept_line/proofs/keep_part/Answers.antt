@@ -1,5 +1,4 @@
 -- `kept_line::keep_part`: what stands in the layout's columns is kept, and then the rest. Assumes nothing.
-use borrow.Author.Rules.{rules}
 use mathlib.Core.Path.{◌≡◌, sym, ◌∙◌}
 use mathlib.Core.List.{List, foldl-append}
 use Prim.Native.Nat.{ℕ, ◌+◌, ◌-◌, ◌≤◌}
@@ -17,33 +16,12 @@ in_two k part n = rw (← foldl-append byte_into k (take n part) (drop n part), 
 both : (part : List ℕ) (kept n : ℕ) (line then : List ℕ) (k : Kept) → n ≤ length part → kept_of (kept + length (take n part)) then ≡ part_kept (kept_of kept line) (take n part) → k ≡ part_kept (kept_of (kept + n) then) (take (length part - n) (drop n part)) → k ≡ part_kept (kept_of kept line) part
 both part kept n line then k h e f = f ∙ rw (to_end, ← in_two (kept_of kept line) part n, ← e, length-take-le n part h)
 
-pub in_columns-n-requires : goal.in_columns-n-requires
-in_columns-n-requires c = search rules
-
 pub slice_bounds-keep_columns-end : goal.slice_bounds-keep_columns-end
 slice_bounds-keep_columns-end c = sym (length-take-le c.in_columns-n.result c.args.part.now (omega (arith, c.in_columns-n.ensures)))
 
 pub keep_columns-requires : goal.keep_columns-requires
 keep_columns-requires c =
-    (omega (arith, c.in_columns-n.ensures, length-take-le c.in_columns-n.result c.args.part.now (omega (arith, c.in_columns-n.ensures))), c.requires)
-
-pub overflow_add-kept : goal.overflow_add-kept
-overflow_add-kept c = search rules
-
-pub slice_bounds-keep_rest-count : goal.slice_bounds-keep_rest-count
-slice_bounds-keep_rest-count c = search rules
-
-pub slice_bounds-keep_rest-start : goal.slice_bounds-keep_rest-start
-slice_bounds-keep_rest-start c = search rules
-
-pub slice_bounds-keep_rest-end : goal.slice_bounds-keep_rest-end
-slice_bounds-keep_rest-end c = search rules
-
-pub keep_rest-requires : goal.keep_rest-requires
-keep_rest-requires c = search rules
-
-pub shape_of-line : goal.shape_of-line
-shape_of-line c = search rules
+    record { part_len_bound = omega (arith, c.in_columns-n.ensures, length-take-le c.in_columns-n.result c.args.part.now (omega (arith, c.in_columns-n.ensures))); line_len = c.requires }
 
 pub returns : goal.returns
 returns c =

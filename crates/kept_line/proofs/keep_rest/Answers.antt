@@ -1,8 +1,8 @@
 -- `kept_line::keep_rest`: what is still to be kept takes what is kept to where the whole part takes it. Assumes nothing.
-use mathlib.Core.Path.{◌≡◌, refl, sym, ap, ap₂, ◌∙◌}
-use Prim.Native.Nat.{◌+◌, ◌-◌, ◌≤◌}
+use mathlib.Core.Path.{refl, sym, ap, ap₂, ◌∙◌}
+use Prim.Native.Nat.{◌+◌}
 use native.Mathlib.Omega.{arith}
-use lib.ListN.{length, drop}
+use lib.ListN.{drop}
 use Rattle.kept_line.specs.Kept.{kept_of, part_kept}
 use Rattle.kept_line.proofs.Parts.{part-on, part_end}
 use Rattle.kept_line.proofs.keep_rest.Goals as goal
@@ -26,7 +26,7 @@ pub loop-i-preserved : goal.loop-i-preserved
 loop-i-preserved c =
     let p = c.args.part.now in (
       omega arith,
-      c.keep_byte-n.auto.1.1.0 ∙ c.loop-i.invariant.1,
+      c.keep_byte-n.auto.line ∙ c.loop-i.invariant.1,
       ap (λ k. part_kept k (drop (c.loop-i.i + 1) p)) (ap₂ kept_of c.keep_byte-n.ensures.value c.keep_byte-n.ensures.line_after) ∙ sym (part-on p c.loop-i.i (omega arith) (kept_of c.loop-i.n c.loop-i.line)) ∙ c.loop-i.invariant.2,
     )
 

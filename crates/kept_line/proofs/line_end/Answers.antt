@@ -1,9 +1,6 @@
 -- `kept_line::line_end`: from where it stands the line ends where it does from the start. Assumes nothing.
-use mathlib.Core.Path.{◌≡◌, ◌∙◌}
-use Prim.Native.Nat.{◌-◌, ◌≤◌}
+use mathlib.Core.Path.{◌∙◌}
 use native.Mathlib.Omega.{arith}
-use lib.ListN.{length}
-use Rattle.kept_line.specs.Kept.{end_from}
 use Rattle.kept_line.proofs.Parts.{end-here, end_later, end_none}
 use Rattle.kept_line.proofs.line_end.Goals as goal
 
@@ -11,7 +8,7 @@ pub past_blocks-i-requires : goal.past_blocks-i-requires
 past_blocks-i-requires c = omega arith
 
 pub loop-i-init : goal.loop-i-init
-loop-i-init c = c.past_blocks-i.ensures
+loop-i-init c = (c.past_blocks-i.ensures.upper_bound, c.past_blocks-i.ensures.result_value)
 
 pub bounds-piece-i : goal.bounds-piece-i
 bounds-piece-i c = omega arith

@@ -1,6 +1,5 @@
-use mathlib.Core.Path.{◌≡◌, refl, ◌∙◌}
+use mathlib.Core.Path.{◌≡◌}
 use Prim.Native.Nat.{◌-◌, ◌≤◌}
-use native.Mathlib.Omega.{arith}
 use lib.ListN.{length}
 use Rattle.kept_line.specs.Kept.{end_from}
 use Rattle.kept_line.proofs.past_blocks.Given as goal
@@ -8,5 +7,5 @@ use Rattle.kept_line.proofs.past_blocks.Given as goal
 abbrev pub invariant-loop-i : goal.invariant-loop-i
 invariant-loop-i l = (l.i ≤ length l.piece) × (end_from l.piece l.i ≡ end_from l.piece l.from)
 
-abbrev pub measure-loop-i : goal.measure-loop-i
-measure-loop-i l = length l.piece - l.i
+abbrev pub decreases-loop-i : goal.decreases-loop-i
+decreases-loop-i l = length l.piece - l.i

@@ -1,6 +1,5 @@
 -- `layout::read`: a line that is too short is refused, as is one with a refusal, and any other's figures are those of its months. Assumes
 -- nothing.
-use borrow.Author.Rules.{rules}
 use mathlib.Core.Path.{◌≡◌, refl, sym, ap, ◌∙◌}
 use mathlib.Core.List.{List, map}
 use Prim.Native.Nat.{ℕ, zero, suc, ◌≤◌, ◌<◌}
@@ -41,26 +40,11 @@ told_is line am f gap a e g =
     let p = found-present (months_of line) f e in
     rw (g, p, a, ones-count (map is_present (months_of line)), lowest-first (map is_present (months_of line)) (flags-twelve line))
 
-pub refused-requires : goal.refused-requires
-refused-requires c = search rules
-
 pub returns-then-line-lt-LAST_COLUMN : goal.returns-then-line-lt-LAST_COLUMN
 unfolding year_said
 returns-then-line-lt-LAST_COLUMN c =
     let a = c.args in
     c.refused.ensures ∙ sym (ap (λ (k : ℕ). answered k (months_of a.line.now)) (too_short a.line.now _ _ _ c.if-line-lt-LAST_COLUMN.true))
-
-pub slice_bounds-read_months-end : goal.slice_bounds-read_months-end
-slice_bounds-read_months-end c = search rules
-
-pub read_months-found-requires : goal.read_months-found-requires
-read_months-found-requires c = search rules
-
-pub line_refusal-number-requires : goal.line_refusal-number-requires
-line_refusal-number-requires c = search rules
-
-pub refused-requires-then-number-ne0 : goal.refused-requires-then-number-ne0
-refused-requires-then-number-ne0 c = search rules
 
 pub returns-then-number-ne0 : goal.returns-then-number-ne0
 unfolding year_said

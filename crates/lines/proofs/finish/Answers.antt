@@ -1,7 +1,8 @@
 -- `lines::finish`: its tests are those of the definition, in their order, and a size within the range is the same number as an `i32`.
 -- Assumes nothing.
-use borrow.Author.Rules.{rules}
 use mathlib.Core.Path.{◌≡◌}
+use mathlib.Core.Bool.{true, false}
+use Rattle.lines.specs.declared.Line.{Line}
 use Prim.Native.Nat.{ℕ, ◌≤◌}
 use native.Mathlib.Omega.{arith}
 use lib.IntN.{ℤ, pos, neg_ℤ, ◌-ℤ◌}
@@ -40,29 +41,24 @@ returns-then-size-gt-MOST_SIZE c =
     let l = c.args.l in
     rw (c.if-l.false, not-false l.digits c.if-not-l.false, lt-leb l.size most_z c.if-size-gt-MOST_SIZE.true)
 
-pub overflow_cast-z : goal.overflow_cast-z
-overflow_cast-z c = search rules
-
 pub overflow_sub-result : goal.overflow_sub-result
 overflow_sub-result c =
     let n = c.args.l.size in
     rw (same n c.if-size-gt-MOST_SIZE.false) (turned-fits n (pos n) (Z-pos n) c.if-size-gt-MOST_SIZE.false)
 
 -- a line of a size within the range
-inside : (c : goal.Else-size-gt-MOST_SIZE) → let l = c.args.l in finished l ≡ accepted (signed l.minus l.size)
+inside : (l : Line) → l.spoiled ≡ false → l.digits ≡ true → l.size ≤ most_z → finished l ≡ accepted (signed l.minus l.size)
 unfolding finished
-inside c =
-    let l = c.args.l in
-    rw (c.if-l.false, not-false l.digits c.if-not-l.false, le-leb l.size most_z c.if-size-gt-MOST_SIZE.false)
+inside l s d h = rw (s, d, le-leb l.size most_z h)
 
 pub returns-then-l-2 : goal.returns-then-l-2
 unfolding signed
 returns-then-l-2 c =
     let n = c.args.l.size in
-    rw (to_z-of_z (overflow_sub-result c), same n c.if-size-gt-MOST_SIZE.false, turned (pos n), inside c.before, c.if-l-2.true)
+    rw (to_z-of_z (overflow_sub-result c), same n c.if-size-gt-MOST_SIZE.false, turned (pos n), inside c.args.l c.if-l.false (not-false c.args.l.digits c.if-not-l.false) c.if-size-gt-MOST_SIZE.false, c.if-l-2.true)
 
 pub returns : goal.returns
 unfolding signed
 returns c =
     let n = c.args.l.size in
-    rw (same n c.if-size-gt-MOST_SIZE.false, inside c.before, c.if-l-2.false)
+    rw (same n c.if-size-gt-MOST_SIZE.false, inside c.args.l c.if-l.false (not-false c.args.l.digits c.if-not-l.false) c.if-size-gt-MOST_SIZE.false, c.if-l-2.false)

@@ -1,5 +1,4 @@
 -- `lines::grown`: a size above the range stays above it, and within the range the sum is far below what a `u32` holds. Assumes nothing.
-use borrow.Author.Rules.{rules}
 use mathlib.Core.Path.{sym}
 use native.Mathlib.Omega.{arith}
 use Rattle.text.specs.Bytes.{and_digit}
@@ -10,17 +9,8 @@ use Rattle.lines.proofs.grown.Goals as goal
 pub returns-then-size-gt-MOST_SIZE : goal.returns-then-size-gt-MOST_SIZE
 returns-then-size-gt-MOST_SIZE c = sym (held_out (and_digit c.args.size c.args.b) (omega arith))
 
-pub overflow_mul-n : goal.overflow_mul-n
-overflow_mul-n c = search rules
-
 pub overflow_sub-n : goal.overflow_sub-n
 overflow_sub-n c = omega (arith, digit-range c.args.b c.requires)
-
-pub overflow_cast-n : goal.overflow_cast-n
-overflow_cast-n c = search rules
-
-pub overflow_add-n : goal.overflow_add-n
-overflow_add-n c = search rules
 
 pub returns-then-n-gt-MOST_SIZE : goal.returns-then-n-gt-MOST_SIZE
 returns-then-n-gt-MOST_SIZE c = sym (held_out (and_digit c.args.size c.args.b) (omega arith))

@@ -1,14 +1,10 @@
 -- `lines::sign_length`: a line that is empty, begins with a minus, or does not. Assumes nothing.
-use borrow.Author.Rules.{rules}
 use mathlib.Core.Path.{sym}
 use Rattle.lines.proofs.Faults.{sign-of-none, sign-of-minus, sign-of-other}
 use Rattle.lines.proofs.sign_length.Goals as goal
 
 pub returns-then-line-eq0 : goal.returns-then-line-eq0
 returns-then-line-eq0 c = sym (sign-of-none c.args.line.now c.if-line-eq0.true)
-
-pub bounds-line-0 : goal.bounds-line-0
-bounds-line-0 c = search rules
 
 pub returns-then-line-eq-MINUS_SIGN : goal.returns-then-line-eq-MINUS_SIGN
 returns-then-line-eq-MINUS_SIGN c = sym (sign-of-minus c.args.line.now c.if-line-eq0.false c.if-line-eq-MINUS_SIGN.true)

@@ -1,16 +1,11 @@
 -- `lines::spoiled_at`: what has been passed and the digits that still stand in front make the place. Assumes nothing.
-use borrow.Author.Rules.{rules}
 use mathlib.Core.Path.{◌≡◌, sym, ◌∙◌}
-use Prim.Native.Nat.{◌+◌, ◌-◌, ◌≤◌}
+use Prim.Native.Nat.{◌≤◌}
 use native.Mathlib.Omega.{arith}
 use lib.ListN.{length, drop, drop_of_length-le}
-use borrow.Author.Tests.{not-true, not-false}
 use Rattle.lines.specs.Fault.{digits_in, spoiled_at}
 use Rattle.lines.proofs.Faults.{after-sign, sign-and-body, one-digit, no_digit}
 use Rattle.lines.proofs.spoiled_at.Goals as goal
-
-pub sign_length-i-requires : goal.sign_length-i-requires
-sign_length-i-requires c = search rules
 
 pub loop-i-init : goal.loop-i-init
 unfolding spoiled_at
@@ -22,12 +17,9 @@ loop-i-init c =
 pub bounds-line-i : goal.bounds-line-i
 bounds-line-i c = omega arith
 
-pub is_digit-requires : goal.is_digit-requires
-is_digit-requires c = search rules
-
 pub returns-then-not-is_digit : goal.returns-then-not-is_digit
 returns-then-not-is_digit c =
-    let e = no_digit c.args.line.now c.loop-i.i (omega arith) (sym c.is_digit.ensures ∙ not-true _ c.if-not-is_digit.true-raw) in
+    let e = no_digit c.args.line.now c.loop-i.i (omega arith) (sym c.is_digit.ensures ∙ c.if-not-is_digit.true) in
     omega (arith, e, c.loop-i.invariant.1)
 
 pub overflow_add-i : goal.overflow_add-i
@@ -38,7 +30,7 @@ loop-i-smaller c = omega arith
 
 pub loop-i-preserved : goal.loop-i-preserved
 loop-i-preserved c =
-    let e = one-digit c.args.line.now c.loop-i.i (omega arith) (sym c.is_digit.ensures ∙ not-false _ c.if-not-is_digit.false-raw) in
+    let e = one-digit c.args.line.now c.loop-i.i (omega arith) (sym c.is_digit.ensures ∙ c.if-not-is_digit.false) in
     (omega arith, omega (arith, e, c.loop-i.invariant.1))
 
 pub returns : goal.returns

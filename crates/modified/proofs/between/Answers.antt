@@ -14,6 +14,7 @@ use Rattle.exact.proofs.Z.{zs, lt_yes, lt_no}
 use Rattle.modified.specs.Leans.{most_d}
 use Rattle.modified.proofs.Halves.{kept_above, left-above, kept-below, left_below}
 use Rattle.modified.proofs.between.Goals as goal
+use Rattle.modified.proofs.between.Goals.{Then-x-gt0, Else-x-gt0}
 
 module _ (s : goal.Start) where
   abbrev high : ℕ
@@ -35,29 +36,29 @@ module _ (s : goal.Start) where
   r = d * (high + low) % (w + d)
 
   product : d * (high + low) ≤ most_d * (2 * most_x)
-  product = mul-le-mul {m₂ = 2 * most_x} s.pre.d_fits (omega (arith, s.pre.high_fits, s.pre.low_fits))
+  product = mul-le-mul {m₂ = 2 * most_x} s.requires.d_fits (omega (arith, s.requires.high_fits, s.requires.low_fits))
 
   whole : (w + d) * k + r ≡ d * (high + low)
   whole = div-add-mod (d * (high + low)) (w + d)
 
   left : r < w + d
-  left = mod-lt (d * (high + low)) {m = w + d} s.pre.some
+  left = mod-lt (d * (high + low)) {m = w + d} s.requires.some
 
   few : k < suc (high + low)
   few =
       let h : d ≤ w + d = omega arith in
-      (div-lt_iff_lt-mul {k = w + d} {x = d * (high + low)} {y = suc (high + low)} s.pre.some).1 (omega (arith, s.pre.some, mul-le-mul_right (high + low) h))
+      (div-lt_iff_lt-mul {k = w + d} {x = d * (high + low)} {y = suc (high + low)} s.requires.some).1 (omega (arith, s.requires.some, mul-le-mul_right (high + low) h))
 
   -- high less k, and one less, fit
   fits : SFits w64 (pos high -ℤ pos k) × SFits w64 (pos high -ℤ pos k -ℤ pos 1)
-  fits = go high k (omega (arith, s.pre.high_fits)) (omega (arith, few, s.pre.high_fits, s.pre.low_fits))
+  fits = go high k (omega (arith, s.requires.high_fits)) (omega (arith, few, s.requires.high_fits, s.requires.low_fits))
     where
       go : (a b : ℕ) → a ≤ most_x → b ≤ 2 * most_x → SFits w64 (pos a -ℤ pos b) × SFits w64 (pos a -ℤ pos b -ℤ pos 1)
       go a b = simp zs (omega arith)
 
   -- as the machine has them
   told : to_z w64 high -ℤ to_z w64 k ≡ pos high -ℤ pos k
-  told = ap₂ (λ (a b : ℤ). a -ℤ b) (to_z_pos w64 {n = high} (omega (arith, s.pre.high_fits))) (to_z_pos w64 {n = k} (omega (arith, few, s.pre.high_fits, s.pre.low_fits)))
+  told = ap₂ (λ (a b : ℤ). a -ℤ b) (to_z_pos w64 {n = high} (omega (arith, s.requires.high_fits))) (to_z_pos w64 {n = k} (omega (arith, few, s.requires.high_fits, s.requires.low_fits)))
 
   x-is : to_z w64 (of_z w64 (to_z w64 high -ℤ to_z w64 k)) ≡ pos high -ℤ pos k
   x-is = ap (λ (x : ℤ). to_z w64 (of_z w64 x)) told ∙ to_z-of_z fits.0
@@ -99,10 +100,10 @@ pub overflow_sub-result-then-twice-q-2 : goal.overflow_sub-result-then-twice-q-2
 overflow_sub-result-then-twice-q-2 c = rw (x-is c.before.before) (fits c.before.before).1
 
 -- whether high less k is above 0, by the test
-above : (c : goal.Then-x-gt0) → pos 0 <ℤ (pos (high c.before) -ℤ pos (k c.before))
+above : (c : Then-x-gt0) → pos 0 <ℤ (pos (high c.before) -ℤ pos (k c.before))
 above c = lt_yes (pos 0) _ (rw (x-is c.before) at c.if-x-gt0.true)
 
-below : (c : goal.Else-x-gt0) → (pos (high c.before) -ℤ pos (k c.before)) ≤ℤ pos 0
+below : (c : Else-x-gt0) → (pos (high c.before) -ℤ pos (k c.before)) ≤ℤ pos 0
 below c = lt_no (pos 0) _ (rw (x-is c.before) at c.if-x-gt0.false)
 
 pub returns-then-twice-q : goal.returns-then-twice-q

@@ -50,4 +50,4 @@ returns c =
     let g : SFits w64 c.e_of.result = record { sfits = c.e_of.type_inv } in
     let h = (fit c).0 in
     let k = (fit c).1 in
-    (simp to_z-of_z (to_z-of_z k)) ∙ ap₂ (λ (e u : ℤ). e -ℤ pos 1000 *ℤ u) (e-is c.before) (u-is c)
+    simp to_z-of_z (ap₂ (λ (e u : ℤ). e -ℤ pos 1000 *ℤ u) (e-is c.before) (u-is c))

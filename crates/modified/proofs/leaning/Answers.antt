@@ -1,6 +1,6 @@
 -- `modified::leaning` meets its contract: what it hands on are the month's naturals, and their mixture is turned back. Assumes nothing.
 use mathlib.Core.Path.{◌≡◌, ap, ◌∙◌}
-use Prim.Native.Nat.{ℕ, ◌*◌, ◌≤◌}
+use Prim.Native.Nat.{ℕ, ◌≤◌}
 use native.Mathlib.Omega.{arith}
 use lib.Dec.{T}
 use lib.IntN.{ℤ, pos, nat_abs, ◌-ℤ◌, ◌*ℤ◌}
@@ -34,19 +34,19 @@ module _ (s : goal.Start) where
   high = mixture.high s.args.wet s.args.x3 s.args.z s.args.v s.args.a s.args.b s.requires
 
   abbrev low : ℕ
-  low = mixture.low s.args.wet s.args.x3 s.args.z s.args.v s.args.a s.args.b s.pre
+  low = mixture.low s.args.wet s.args.x3 s.args.z s.args.v s.args.a s.args.b s.requires
 
   abbrev w : ℕ
-  w = mixture.w s.args.wet s.args.x3 s.args.z s.args.v s.args.a s.args.b s.pre
+  w = mixture.w s.args.wet s.args.x3 s.args.z s.args.v s.args.a s.args.b s.requires
 
   abbrev d : ℕ
-  d = mixture.d s.args.wet s.args.x3 s.args.z s.args.v s.args.a s.args.b s.pre
+  d = mixture.d s.args.wet s.args.x3 s.args.z s.args.v s.args.a s.args.b s.requires
 
   abbrev valued : ℤ
-  valued = mixture.valued s.args.wet s.args.x3 s.args.z s.args.v s.args.a s.args.b s.pre
+  valued = mixture.valued s.args.wet s.args.x3 s.args.z s.args.v s.args.a s.args.b s.requires
 
   weighed : Weighed high low w d
-  weighed = mixture.weighed s.args.wet s.args.x3 s.args.z s.args.v s.args.a s.args.b s.pre
+  weighed = mixture.weighed s.args.wet s.args.x3 s.args.z s.args.v s.args.a s.args.b s.requires
 
 -- ---- what stands high
 pub overflow_cast-b : goal.overflow_cast-b
@@ -107,7 +107,7 @@ given c = c.before.before.before.before
 d-read : (c : goal.After-lacking-d) → Read c.lacking-d.result (d c.before.before.before.before)
 d-read c =
     let e : c.lacking-d.result ≡ lacking_of c.args.wet c.args.x3 c.args.z = c.lacking-d.ensures ∙ (search rooms) in
-    read c.lacking-d.result (d c.before.before.before.before) (e ∙ mixture.d-is c.args.wet c.args.x3 c.args.z c.args.v c.args.a c.args.b c.pre) (omega (arith, (weighed c.before.before.before.before).d_fits))
+    read c.lacking-d.result (d c.before.before.before.before) (e ∙ mixture.d-is c.args.wet c.args.x3 c.args.z c.args.v c.args.a c.args.b c.requires) (omega (arith, (weighed c.before.before.before.before).d_fits))
 
 pub overflow_cast-d : goal.overflow_cast-d
 overflow_cast-d c = let r = d-read c in (r.not-below, r.it-fits)
@@ -120,7 +120,7 @@ value-is : (c : goal.After-between) → c.between.result ≡ valued c.before.bef
 value-is c = rw ((high_read c.before.before.before.before).is, (low_read c.before.before.before).is, (w-read c.before.before).is, (d-read c.before).is) at c.between.ensures
 
 small : (c : goal.After-between) → nat_abs c.between.result ≤ most_x
-small c = rw (value-is c) (mixture.valued-size c.args.wet c.args.x3 c.args.z c.args.v c.args.a c.args.b c.pre)
+small c = rw (value-is c) (mixture.valued-size c.args.wet c.args.x3 c.args.z c.args.v c.args.a c.args.b c.requires)
 
 pub turned-requires-3 : goal.turned-requires-3
 turned-requires-3 c = let h = small c in let f : SFits w64 c.between.result = record { sfits = c.between.type_inv } in simp to_z-of_z (omega arith)
@@ -140,4 +140,4 @@ pub returns : goal.returns
 returns c =
     let f : SFits w64 c.turned-3.result = record { sfits = c.turned-3.type_inv } in
     ap (λ (x : ℤ). to_z w32 (of_z w32 x)) (to_z-of_z f) ∙ to_z-of_z (fits c) ∙ turned-back c ∙ ap (turn c.args.wet) (value-is c.before)
-    ∙ mixture.mixed-is c.args.wet c.args.x3 c.args.z c.args.v c.args.a c.args.b c.pre
+    ∙ mixture.mixed-is c.args.wet c.args.x3 c.args.z c.args.v c.args.a c.args.b c.requires

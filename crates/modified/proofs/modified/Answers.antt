@@ -1,10 +1,10 @@
 -- `modified::modified` meets its contract: V tells whether a spell abates, and which. Assumes nothing.
 use mathlib.Core.Path.{◌≡◌, refl, sym, ap, subst, ◌∙◌}
-use Prim.Native.Nat.{ℕ, zero, suc, ◌*◌}
+use Prim.Native.Nat.{ℕ, zero, suc, ◌*◌, ◌≤◌}
 use mathlib.Core.Bool.{Bool, true, false}
 use borrow.Author.Rules.{rules}
 use native.Mathlib.Omega.{arith}
-use lib.IntN.{ℤ, pos, negsuc, neg_ℤ, ◌+ℤ◌, ◌*ℤ◌}
+use lib.IntN.{ℤ, pos, negsuc, neg_ℤ, nat_abs, ◌+ℤ◌, ◌*ℤ◌}
 use lib.Signed.{◌≤ℤ◌, ◌<ℤ◌}
 use mir.Syntax.{w32, w64}
 use mir.Val.{SFits, to_z, of_z}
@@ -15,10 +15,13 @@ use Rattle.exact.proofs.Held.{same_bits}
 use Rattle.ending.specs.Bounds.{most_v}
 use Rattle.ending.specs.Ending.{turn}
 use Rattle.spells.specs.declared.Running.{Running}
+use Rattle.spells.specs.Spells.{step_of}
+use Rattle.spells.specs.ValuesFit.{ValuesFit}
 use Rattle.modified.specs.Modified.{mixed, side}
 use Rattle.modified.specs.Leans.{lacking_of, Leans}
 use Rattle.modified.proofs.Abating.{Abated, abated, elsewhere}
 use Rattle.modified.proofs.modified.Goals as goal
+use Rattle.modified.proofs.modified.Goals.{Then-v-lt0, Else-v-lt0}
 
 -- the numbers as the machine has them
 module _ (wet : Bool) (x3 z v a b : ℤ) (l : Leans wet x3 z v a b) where
@@ -40,41 +43,33 @@ module _ (wet : Bool) (x3 z v a b : ℤ) (l : Leans wet x3 z v a b) where
   mixed-told : mixture (to_z w32 (of_z w32 x3)) (to_z w32 (of_z w32 z)) (to_z w64 (of_z w64 v)) (to_z w32 (of_z w32 a)) (to_z w32 (of_z w32 b)) ≡ mixture x3 z v a b
   mixed-told = rw (to_z-of_z fits.0, to_z-of_z fits.1, to_z-of_z fits.2, to_z-of_z fits.3, to_z-of_z fits.4)
 
--- V is an `i64`
-v-fits : (c : goal.After-struct_told-1) → SFits w64 c.args.m.v
-v-fits c = search rules
-
 -- V is 0: the modified index is the month's
 pub returns-then-v-eq0 : goal.returns-then-v-eq0
 returns-then-v-eq0 c =
     let a = c.args in
-    let e : a.m.v ≡ pos 0 = same_bits {y = pos 0} (v-fits c.before) (sfits_lit tt) c.if-v-eq0.true in
+    let fv : SFits w64 a.m.v = search rules in
+    let e : a.m.v ≡ pos 0 = same_bits {y = pos 0} fv (sfits_lit tt) c.if-v-eq0.true in
     let f = c.ranges.index in
     to_z-of_z f ∙ c.requires.m_value.1 ∙ elsewhere a.s a.z c.requires.values_fit c.requires.z_bound (ap (λ (m : Running). m.v) (sym c.requires.m_value.0) ∙ e)
 
 -- V is not 0: its sign tells which spell abates
-abbrev entered : goal.After-struct_told-5-1 → goal.Start
-entered c = c.before.before.before.before.before.before
+abates : (t : Bool) (s m : Running) (z : ℤ) → ValuesFit s → nat_abs z ≤ most_z → m ≡ (step_of s z).after → pos 0 <ℤ turn t m.v → Abated t s z m
+abates t s m z hs hz e p = rw e (abated t s z hs hz (subst (λ (m : Running). pos 0 <ℤ turn t m.v) e p))
 
-abates : (t : Bool) (s : goal.Start) → pos 0 <ℤ turn t s.args.m.v → Abated t s.args.s s.args.z s.args.m
-abates t s p =
-    let e = s.requires.1.1.0 in
-    rw e (abated t s.args.s s.args.z s.requires.0 s.requires.1.0 (subst (λ (m : Running). pos 0 <ℤ turn t m.v) e p))
-
-wet : (c : goal.Then-v-lt0) → let a = c.args in Abated true a.s a.z a.m
+wet : (c : Then-v-lt0) → let a = c.args in Abated true a.s a.z a.m
 unfolding turn
 wet c =
-    let f = v-fits c.before.before.before.before.before.before in
-    abates true c.before.before.before.before.before.before.before (above c.args.m.v (lt_yes c.args.m.v (pos 0) (simp to_z-of_z at c.if-v-lt0.true)))
+    let f : SFits w64 c.args.m.v = search rules in
+    abates true c.args.s c.args.m c.args.z c.requires.values_fit c.requires.z_bound c.requires.m_value.0 (above c.args.m.v (lt_yes c.args.m.v (pos 0) (simp to_z-of_z at c.if-v-lt0.true)))
   where
     above : (v : ℤ) → v <ℤ pos 0 → pos 0 <ℤ neg_ℤ v
     above v = rw (is-Z v) (simp zs (omega arith))
 
-dry : (c : goal.Else-v-lt0) → let a = c.args in Abated false a.s a.z a.m
+dry : (c : Else-v-lt0) → let a = c.args in Abated false a.s a.z a.m
 unfolding turn
 dry c =
-    let f = v-fits c.before.before.before.before.before.before in
-    abates false c.before.before.before.before.before.before.before (above c.args.m.v (lt_no c.args.m.v (pos 0) (simp to_z-of_z at c.if-v-lt0.false)) (λ e. c.if-v-eq0.false (ap (of_z w64) e)))
+    let f : SFits w64 c.args.m.v = search rules in
+    abates false c.args.s c.args.m c.args.z c.requires.values_fit c.requires.z_bound c.requires.m_value.0 (above c.args.m.v (lt_no c.args.m.v (pos 0) (simp to_z-of_z at c.if-v-lt0.false)) (λ e. c.if-v-eq0.false (ap (of_z w64) e)))
   where
     above : (v : ℤ) → pos 0 ≤ℤ v → (v ≡ pos 0 → ⊥) → pos 0 <ℤ v
     above (pos zero) h n = absurd (n refl)

@@ -1,5 +1,4 @@
 -- `refusals::lengths_fit`: each way by its tests. Assumes nothing.
-use borrow.Author.Rules.{rules}
 use borrow.Author.Tests.{eq-eqb, ne_eqb}
 use Rattle.refusals.specs.Book.{lengths_fit}
 use Rattle.refusals.proofs.lengths_fit.Goals as goal
@@ -30,9 +29,6 @@ pub returns-then-v-x1 : goal.returns-then-v-x1
 unfolding lengths_fit
 returns-then-v-x1 c =
     simp (eq-eqb _ _ c.if-x2-x1.false, eq-eqb _ _ c.if-x3-x1.false, eq-eqb _ _ c.if-index-x1.false, eq-eqb _ _ c.if-mark-x1.false, eq-eqb _ _ c.if-records-x1.false, ne_eqb _ _ c.if-v-x1.true)
-
-pub length_fits-requires : goal.length_fits-requires
-length_fits-requires c = search rules
 
 pub returns : goal.returns
 unfolding lengths_fit

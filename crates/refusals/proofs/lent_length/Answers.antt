@@ -1,11 +1,7 @@
 -- `refusals::lent_length`: each way by its test. Assumes nothing.
 use mathlib.Core.Path.{sym, ◌∙◌}
-use borrow.Author.Rules.{rules}
 use Rattle.refusals.specs.Lent.{lent_length}
 use Rattle.refusals.proofs.lent_length.Goals as goal
-
-pub lengths_fit-requires : goal.lengths_fit-requires
-lengths_fit-requires c = search rules
 
 pub returns-then-lengths_fit : goal.returns-then-lengths_fit
 unfolding lent_length

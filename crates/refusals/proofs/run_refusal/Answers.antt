@@ -1,7 +1,6 @@
 -- `refusals::run_refusal`: 1, then 7, then 0, each way by its tests. Assumes nothing.
-use borrow.Author.Rules.{rules}
+use mathlib.Core.Path.{sym, ◌∙◌}
 use borrow.Author.Tests.{eq-eqb, ne_eqb}
-use Rattle.outline.proofs.Tests.{fails, passes}
 use Rattle.refusals.specs.Lent.{run_refusal_for}
 use Rattle.refusals.proofs.run_refusal.Goals as goal
 
@@ -9,13 +8,10 @@ pub returns-then-n-eq0 : goal.returns-then-n-eq0
 unfolding run_refusal_for
 returns-then-n-eq0 c = rw (eq-eqb _ _ c.if-n-eq0.true)
 
-pub is_run_for-requires : goal.is_run_for-requires
-is_run_for-requires c = search rules
-
 pub returns-then-not-is_run_for : goal.returns-then-not-is_run_for
 unfolding run_refusal_for
-returns-then-not-is_run_for c = rw (ne_eqb _ _ c.if-n-eq0.false, fails c.is_run_for.ensures c.if-not-is_run_for.true-raw)
+returns-then-not-is_run_for c = rw (ne_eqb _ _ c.if-n-eq0.false, sym c.is_run_for.ensures ∙ c.if-not-is_run_for.true)
 
 pub returns : goal.returns
 unfolding run_refusal_for
-returns c = rw (ne_eqb _ _ c.if-n-eq0.false, passes c.is_run_for.ensures c.if-not-is_run_for.false-raw)
+returns c = rw (ne_eqb _ _ c.if-n-eq0.false, sym c.is_run_for.ensures ∙ c.if-not-is_run_for.false)

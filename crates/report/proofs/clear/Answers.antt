@@ -1,10 +1,7 @@
 -- `report::clear` meets its contract. The loop's invariant: from the place up to i there is nothing. Assumes nothing.
 use mathlib.Core.Path.{◌≡◌, refl}
-use mathlib.Core.List.{◌++◌}
-use Prim.Native.Nat.{◌-◌, ◌≤◌}
 use native.Mathlib.Omega.{arith}
-use lib.ListN.{length, take, replicate, length-set}
-use Rattle.report.specs.Report.{no_change}
+use lib.ListN.{length, take, length-set}
 use Rattle.report.proofs.Filling.{cleared-first, cleared-next, all-of}
 use Rattle.report.proofs.clear.Goals as goal
 

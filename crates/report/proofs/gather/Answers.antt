@@ -1,12 +1,11 @@
 -- `report::gather` meets its contract. The loop's invariant is `Going`: the changes of the first i months stand at the beginning, up to i there is nothing, and from i on all is as it was. Assumes nothing.
 use mathlib.Core.Path.{◌≡◌}
-use mathlib.Core.Logic.{⊎_elim}
-use Prim.Native.Nat.{◌-◌}
 use native.Mathlib.Omega.{arith}
 use lib.IntN.{pos}
 use lib.ListN.{get_or, length-set}
-use Rattle.report.proofs.Gathering.{Going, Read, at_first, old_at, old_mark_at, changed, unchanged}
+use Rattle.report.proofs.Gathering.{Read, at_first, old_at, old_mark_at, changed, unchanged}
 use Rattle.report.proofs.gather.Goals as goal
+use Rattle.report.proofs.gather.Goals.{then-old-new, else-old-new}
 
 pub loop-i-init : goal.loop-i-init
 loop-i-init c = at_first c.args.report.now c.args.index.now c.args.mark.now c.args.months
@@ -71,10 +70,10 @@ loop-i-preserved c =
       old_mark = record { sfits = c.old_mark-1.given };
       new_mark = record { sfits = omega (arith, c.shared_slice_known-1.given i) };
     } in
-    ⊎_elim
-    (λ w. rw (w.1, w.2) (changed a.report.now a.index.now a.mark.now a.months r c.loop-i.k i c.loop-i.invariant (omega arith) (omega arith) f w.0.taken))
-    (λ w. rw (w.1, w.2) (unchanged a.report.now a.index.now a.mark.now a.months r c.loop-i.k i c.loop-i.invariant (omega arith) (omega arith) f w.0.left))
-    c.if-old-new.branch
+    elim c.if-old-new.branch [
+      | then-old-new w ↦ rw (w.k-is, w.report-is) (changed a.report.now a.index.now a.mark.now a.months r c.loop-i.k i c.loop-i.invariant (omega arith) (omega arith) f w.if-old-new.true)
+      | else-old-new w ↦ rw (w.k-is, w.report-is) (unchanged a.report.now a.index.now a.mark.now a.months r c.loop-i.k i c.loop-i.invariant (omega arith) (omega arith) f w.if-old-new.false)
+    ]
 
 pub shape_of-report : goal.shape_of-report
 shape_of-report c = c.loop-i.invariant.long
@@ -83,4 +82,4 @@ pub returns : goal.returns
 returns c =
     let v = c.loop-i.invariant in
     let e : c.loop-i.i ≡ c.args.months = omega (arith, v.high) in
-    (rw e at v.many, (rw e at v.found, omega (arith, v.low)))
+    record { value = rw e at v.many; report_after = rw e at v.found; upper_bound = omega (arith, v.low) }

@@ -1,12 +1,10 @@
 -- `report::hold` meets its contract. The loop's invariant: the first i places hold index and mark of their months. Assumes nothing.
 use mathlib.Core.Path.{◌≡◌, refl}
-use Prim.Native.Nat.{◌-◌, ◌≤◌}
 use native.Mathlib.Omega.{arith}
 use lib.IntN.{pos}
-use lib.ListN.{length, take, get_or, length-set}
+use lib.ListN.{length, get_or, length-set}
 use mir.Syntax.{w32}
 use mir.Val.{SFits}
-use Rattle.report.specs.Held.{held}
 use Rattle.report.proofs.Filling.{held_first, held_next, all-of}
 use Rattle.report.proofs.hold.Goals as goal
 

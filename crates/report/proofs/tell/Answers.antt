@@ -19,4 +19,7 @@ pub returns : goal.returns
 returns c =
     let g = c.gather-k in
     let a = c.args in
-    (g.ensures.0, reported-is _ c.clear.new.report (changes_since a.report.now a.index.now a.mark.now a.months) (length a.report.now) g.result a.months c.report-1.given g.ensures.0 g.ensures.1.1 (omega arith) g.ensures.1.0 c.clear.ensures)
+    record {
+      value = g.ensures.value;
+      report_after = reported-is _ c.clear.new.report (changes_since a.report.now a.index.now a.mark.now a.months) (length a.report.now) g.result a.months c.report-1.given g.ensures.value g.ensures.upper_bound (omega arith) g.ensures.report_after c.clear.ensures;
+    }

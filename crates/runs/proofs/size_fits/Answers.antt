@@ -1,14 +1,10 @@
 -- `runs::size_fits` meets its contract: the machine's number is the argument. Assumes nothing.
 use mir.Facts.{to_z-of_z}
-use borrow.Author.Rules.{rules}
 use Rattle.exact.proofs.Held.{held, wide}
 use Rattle.runs.proofs.size_fits.Goals as goal
 
 pub overflow_cast-x : goal.overflow_cast-x
 overflow_cast-x c = search held
-
-pub within-requires : goal.within-requires
-within-requires c = search rules
 
 pub returns : goal.returns
 returns c =

@@ -5,7 +5,6 @@ use lib.IntN.{pos}
 use mir.Syntax.{w32, w64}
 use mir.Val.{Fits, SFits}
 use mir.Facts.{to_z-of_z}
-use borrow.Author.Rules.{rules}
 use Rattle.exact.proofs.Held.{held, unsigned}
 use Rattle.outline.specs.Numbers.{most_u}
 use Rattle.runs.specs.Runs.{v_fits}
@@ -14,9 +13,6 @@ use Rattle.runs.proofs.v_fits.Goals as goal
 
 fit : (n : ℕ) → Fits w32 n → SFits w64 (pos (most_u * n))
 fit n f = omega arith
-
-pub overflow_cast-most : goal.overflow_cast-most
-overflow_cast-most c = search rules
 
 pub overflow_mul-most : goal.overflow_mul-most
 overflow_mul-most c = rw (unsigned c.args.months c.ranges.months) (fit c.args.months c.ranges.months)

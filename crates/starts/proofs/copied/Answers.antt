@@ -1,7 +1,7 @@
 -- `starts::copied` meets its contract. The loop's invariant: the copy holds the constants of all places passed. Assumes nothing.
 use mathlib.Core.Path.{◌≡◌, refl, ◌∙◌}
 use mathlib.Core.List.{List}
-use Prim.Native.Nat.{ℕ, ◌+◌, ◌-◌, ◌≤◌, ◌<◌}
+use Prim.Native.Nat.{ℕ, ◌+◌, ◌<◌}
 use native.Mathlib.Omega.{arith}
 use borrow.Author.Count.{below_more}
 use lib.IntN.{ℤ, pos}
@@ -47,9 +47,9 @@ pub loop-i-preserved : goal.loop-i-preserved
 loop-i-preserved c =
     let l = c.args.constants.now in
     let f : SFits w32 (get_or l c.loop-i.i (pos 0)) = search held in
-    (omega arith, simp length-set c.loop-i.invariant.1, simp to_z-of_z (stored l c.loop-i.auto c.loop-i.i (omega arith) c.loop-i.invariant.2))
+    (omega arith, simp length-set c.loop-i.invariant.1, simp to_z-of_z (stored l c.loop-i.kept c.loop-i.i (omega arith) c.loop-i.invariant.2))
 
 pub returns : goal.returns
 returns c =
     let e : c.loop-i.i ≡ many_constants = omega arith in
-    ext_get_or (pos 0) c.loop-i.auto c.args.constants.now (omega arith) (λ k h. c.loop-i.invariant.2 k (omega arith))
+    ext_get_or (pos 0) c.loop-i.kept c.args.constants.now (omega arith) (λ k h. c.loop-i.invariant.2 k (omega arith))
