@@ -20,3 +20,12 @@ note_made() {
     shift
     sum_of "$@" "$what" >"$what.made"
 }
+
+# build_program NAME LOG: in the project's top folder, proves the program NAME and builds it as target/bin/NAME. rt itself sees
+# what has not changed; it also runs the program, on no input.
+build_program() {
+    mkdir -p target/bin || return
+    (cd "crates/$1" && rt run) </dev/null >"$2" 2>&1 || return
+    cmp -s "crates/$1/out/$1" "target/bin/$1" && return
+    cp "crates/$1/out/$1" "target/bin/$1.$$" && mv "target/bin/$1.$$" "target/bin/$1"
+}

@@ -3,6 +3,7 @@
 # so that program's output is held back until it has ended: the wrapper tells by it what happened, and whether it can be
 # written.
 top=$(dirname "$(dirname "$(readlink -f "$0")")")
+. "$top/host/built.sh"
 
 say() {
     printf '%s: %s\n' "$name" "$*" >&2
@@ -48,7 +49,7 @@ unwritten() {
     exit 3
 }
 
-# Proves and builds the program. rt itself sees what has not changed.
+# Proves and builds the program.
 build() {
     command -v rt >/dev/null 2>&1 || {
         say "rt, the Rattle kit's command, is not on this machine"
@@ -56,7 +57,7 @@ build() {
     }
     mkdir -p "$top/target" || exit 4
     [ -x "$top/target/bin/$name" ] || say 'proving and building first, some minutes'
-    (cd "$top" && rt check "$name") </dev/null >"$top/target/$name.log" 2>&1 || {
+    (cd "$top" && build_program "$name" "target/$name.log") || {
         tail -20 "$top/target/$name.log" >&2
         say 'the program cannot be built'
         exit 4

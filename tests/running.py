@@ -1,6 +1,8 @@
 """Running a program on an input that is given whole or, through a pipe, in pieces that cut lines anywhere."""
+import functools
 import os
 import subprocess
+import sys
 import tempfile
 import threading
 import time
@@ -8,9 +10,20 @@ import time
 from stored import TOP
 
 
+@functools.cache
+def built(name):
+    """Proves and builds a program, and answers where it is."""
+    log = os.path.join('target', name + '.log')
+    words = ['sh', '-c', '. host/built.sh && build_program "$1" "$2"', 'sh', name, log]
+    os.makedirs(os.path.join(TOP, 'target'), exist_ok=True)
+    if subprocess.run(words, cwd=TOP).returncode:
+        sys.exit('%s: the program cannot be built: %s says why' % (name, log))
+    return os.path.join(TOP, 'target', 'bin', name)
+
+
 def command(name, *arguments):
-    """How a program that rt built is started."""
-    return [os.path.join(TOP, 'host', 'start'), os.path.join(TOP, 'target', 'bin', name), *arguments]
+    """How a program that rt builds is started."""
+    return [os.path.join(TOP, 'host', 'start'), built(name), *arguments]
 
 
 def given(pipe, data, pieces):
