@@ -1,7 +1,6 @@
 # To be read by the wrappers, which set `name` and `help`: their arguments and input, and for host/palmer and
-# host/division the program itself, which is proved and built first where it is not yet. The language has no exit status,
-# so that program's output is held back until it has ended: the wrapper tells by it what happened, and whether it can be
-# written.
+# host/division the program itself, which is proved and built first where it is not yet. The program ends with status 0 whatever
+# came, so its output is held back until it has ended: the wrapper tells by it what happened, and whether it can be written.
 top=$(dirname "$(dirname "$(readlink -f "$0")")")
 . "$top/host/built.sh"
 

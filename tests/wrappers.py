@@ -524,9 +524,9 @@ def built_once():
     ran(['run'])
     if before != [os.stat(path).st_mtime_ns for path in made]:
         sys.exit('wrappers: a second run builds again')
-    proved = re.findall(rb'proved \((.*)\)', kept('target', 'palmer.log'))
-    if not proved or any(not word.startswith(b'unchanged') for word in proved):
-        sys.exit('wrappers: a second run proves again: %r' % proved)
+    said = kept('target', 'palmer.log')
+    if b'nothing is checked now' not in said:
+        sys.exit('wrappers: a second run proves again: %r' % said[:200])
 
 
 def main():
