@@ -6,7 +6,6 @@ Status: 0 done, 1 refused or bad input, 2 wrong arguments or unreadable input, 3
 prints how many cases were run.
 """
 import os
-import re
 import subprocess
 import sys
 import tempfile
