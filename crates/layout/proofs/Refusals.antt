@@ -8,7 +8,6 @@ use Rattle.fields.specs.Columns.{state, division, element, year}
 use Rattle.layout_months.specs.Months.{months_of}
 use Rattle.layout_months.specs.declared.Month.{Month}
 use Rattle.fields.specs.Refusals.{malformed}
-use Rattle.layout_heading.specs.Heading.{precipitation}
 use Rattle.layout_heading.specs.Steps.{heading_refusal}
 use Rattle.layout.specs.Rainfall.{is_named, is_year, refusal, answered, year_said}
 use Rattle.layout.specs.Fault.{fault_of}
@@ -28,6 +27,6 @@ module _ (line : List ℕ) (s d y : ℕ) where
   unfolding refusal
   at-fault h = rw (sym (fault-tells line) ∙ ne_eqb (fault_of line) 0 h)
 
-  pub faultless : fault_of line ≡ 0 → refusal line s d y ≡ heading_refusal (natural (state line)) (natural (division line)) (natural (element line)) (natural (year line)) s d precipitation y
+  pub faultless : fault_of line ≡ 0 → refusal line s d y ≡ heading_refusal (natural (state line)) (natural (division line)) (natural (element line)) (natural (year line)) s d y
   unfolding refusal is_named is_year heading_refusal
   faultless h = rw (sym (fault-tells line) ∙ eq-eqb (fault_of line) 0 h)

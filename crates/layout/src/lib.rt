@@ -78,7 +78,7 @@ fn line_refusal(line: &[u8], found: Found, state: u32, division: u32, year: u32)
     if rest_fault(line, found, e) != 0 {
         return MALFORMED;
     }
-    layout_heading::heading_refusal(s, d, e, y, state, division, PRECIPITATION, year)
+    layout_heading::heading_refusal(s, d, e, y, state, division, year)
 }
 
 // ---- the answers

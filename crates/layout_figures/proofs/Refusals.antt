@@ -17,7 +17,7 @@ use Rattle.fields.specs.declared.Field.TheVariants as field
 use Rattle.layout_months.specs.Months.{is_mark, in_range, rain_of, month_said, month_of, months_of, is_outside, some}
 use Rattle.layout_months.specs.Months.{is_malformed as rainMalformed}
 use Rattle.layout_heading.specs.Heading.{precipitation, headed}
-use Rattle.layout_heading.specs.Steps.{heading_refusal}
+use Rattle.layout_heading.specs.Steps.{element_refusal}
 use Rattle.layout.specs.Rainfall.{is_line, rain_fits, is_year}
 use Rattle.layout.specs.Fault.{fault_of}
 use Rattle.layout.proofs.Faults.{fault-tells}
@@ -88,8 +88,8 @@ module _ (line : List ℕ) (h : last_column ≤ length line) (e : Element) (s d 
   unfolding refusal
   of_other p q r = rw (formed p q ∙ r)
 
-  pub of-heading : headed line ≡ true → (natural (element line) ≡ precipitation → ⊥) → rest_fits line ≡ true → refusal line e s d y ≡ heading_refusal (natural (state line)) (natural (division line)) (natural (element line)) (natural (year line)) s d (number_of e) y
-  unfolding refusal is_named is_year heading_refusal
+  pub of-heading : headed line ≡ true → (natural (element line) ≡ precipitation → ⊥) → rest_fits line ≡ true → refusal line e s d y ≡ element_refusal (natural (state line)) (natural (division line)) (natural (element line)) (natural (year line)) s d (number_of e) y
+  unfolding refusal is_named is_year element_refusal
   of-heading p q r = rw (formed p q ∙ r)
 
 -- ---- a line of precipitation, by its fault

@@ -77,7 +77,7 @@ fn line_refusal(
     if !rest_fits(line, malformed) {
         return MALFORMED;
     }
-    layout_heading::heading_refusal(
+    layout_heading::element_refusal(
         s,
         d,
         e,

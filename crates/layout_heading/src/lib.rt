@@ -9,7 +9,7 @@
 
 ghost use Rattle.std.specs.Prelude.{◌≡◌, ◌≤◌, length};
 ghost use Rattle.fields.specs.Columns.{heading_columns};
-ghost use Rattle.layout_heading.specs.Steps.{heading_of, heading_refusal};
+ghost use Rattle.layout_heading.specs.Steps.{heading_of, heading_refusal, element_refusal};
 ghost use Rattle.layout_heading.specs.Written.{heading_text};
 
 use fields::{Digits, NOT_THE_YEAR, OTHER_LINE};
@@ -51,7 +51,14 @@ pub fn read_heading(line: &[u8]) -> Heading
 }
 
 // 15 or 16, or 0, of a heading's state s, division d, element e and year y, and what is asked for.
-pub fn heading_refusal(
+pub fn heading_refusal(s: u32, d: u32, e: u32, y: u32, state: u32, division: u32, year: u32) -> u8
+    ensures { result ≡ heading_refusal s d e y state division year }
+{
+    element_refusal(s, d, e, y, state, division, PRECIPITATION, year)
+}
+
+// The same of any element that is asked for.
+pub fn element_refusal(
     s: u32,
     d: u32,
     e: u32,
@@ -61,7 +68,7 @@ pub fn heading_refusal(
     element: u32,
     year: u32,
 ) -> u8
-    ensures { result ≡ heading_refusal s d e y state division element year }
+    ensures { result ≡ element_refusal s d e y state division element year }
 {
     if s != state {
         return OTHER_LINE;

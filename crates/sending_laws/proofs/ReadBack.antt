@@ -12,7 +12,7 @@ use Rattle.text.specs.Bytes.{all_digits, all_spaces, natural}
 use Rattle.fields.specs.Columns.{state, division, element, year, last_column, months_of_year}
 use Rattle.layout_months.specs.Months.{some}
 use Rattle.layout_heading.specs.Heading.{precipitation, headed}
-use Rattle.layout_heading.specs.Steps.{heading_refusal}
+use Rattle.layout_heading.specs.Steps.{element_refusal}
 use Rattle.layout_heading.specs.Written.{two_digits, four_digits, heading_text}
 use Rattle.layout_heading.proofs.Inverse.{two-digits, four-digits, two_back, four-back}
 use Rattle.figures.specs.Figures.{number_of, figures_of, is_malformed}
@@ -52,8 +52,8 @@ fits-parts s d y h =
     let u = (and-eq-true_iff (leb s 99) (leb d 99)).0 t.0 in
     (omega (arith, leb-true s 99 u.0), omega (arith, leb-true d 99 u.1), omega (arith, leb-true y 9999 t.1))
 
-same-heading : (s d e y : ℕ) → heading_refusal s d e y s d e y ≡ 0
-unfolding heading_refusal
+same-heading : (s d e y : ℕ) → element_refusal s d e y s d e y ≡ 0
+unfolding element_refusal
 same-heading s d e y = rw (eq-eqb s s refl, eq-eqb d d refl, eq-eqb e e refl, eq-eqb y y refl) refl
 
 module _ (s d y : ℕ) (e : Element) (fs : List Figure) (a : AllSent fs) (twelve : length fs ≡ months_of_year) (h : heading_fits s d y ≡ true) (f : all_fit fs ≡ true) (spaces : List ℕ) (p : all_spaces spaces ≡ true) where

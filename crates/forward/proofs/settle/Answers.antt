@@ -14,7 +14,7 @@ pub settle_sides-requires : goal.settle_sides-requires
 settle_sides-requires c =
     let fa = c.ranges.x1 in
     let fb = c.ranges.x2 in
-    simp to_z-of_z (c.requires.from_le_at, ((omega arith, omega arith), (c.requires.x1_bound, c.requires.mark_value)))
+    simp to_z-of_z (record { from_le_at = c.requires.from_le_at; by_nonzero = (omega arith, omega arith); x1_bound = c.requires.x1_bound; mark_value = c.requires.mark_value })
 
 pub mark_all-requires-else-by-lt3 : goal.mark_all-requires-else-by-lt3
 mark_all-requires-else-by-lt3 c = search rules
@@ -24,7 +24,7 @@ shape_of-mark-then-by-eq0 c = search rules
 
 pub returns-then-by-eq0 : goal.returns-then-by-eq0
 returns-then-by-eq0 c =
-    rw c.if-by-eq0.true (part-kept c.args.index.now c.args.from c.args.at c.requires.from_le_at.0, c.mark_all.ensures)
+    rw c.if-by-eq0.true (record { indexes = part-kept c.args.index.now c.args.from c.args.at c.requires.from_le_at.0; marks = c.mark_all.ensures })
 
 pub shape_of-index : goal.shape_of-index
 shape_of-index c = search rules
@@ -37,7 +37,7 @@ returns-then-by-lt3 c =
     let fa = c.ranges.x1 in
     let fb = c.ranges.x2 in
     rw (by-sides c.args.by _ _ c.if-by-eq0.false c.if-by-lt3.true, decision-some c.args.by c.if-by-eq0.false)
-    (simp to_z-of_z at c.settle_sides.ensures)
+    (record { indexes = simp to_z-of_z at c.settle_sides.ensures.indexes; marks = c.settle_sides.ensures.marks })
 
 pub shape_of-mark-else-by-lt3 : goal.shape_of-mark-else-by-lt3
 shape_of-mark-else-by-lt3 c = search rules
@@ -45,4 +45,4 @@ shape_of-mark-else-by-lt3 c = search rules
 pub returns-else-by-lt3 : goal.returns-else-by-lt3
 returns-else-by-lt3 c =
     rw (by-x3 c.args.by _ _ c.if-by-lt3.false, decision-some c.args.by c.if-by-eq0.false)
-    (part-kept c.args.index.now c.args.from c.args.at c.requires.from_le_at.0, c.mark_all-else-by-lt3.ensures)
+    (record { indexes = part-kept c.args.index.now c.args.from c.args.at c.requires.from_le_at.0; marks = c.mark_all-else-by-lt3.ensures })

@@ -9,8 +9,8 @@ use Rattle.layout.proofs.Faults.{at-heading, at_rest}
 use Rattle.layout.proofs.Refusals.{at-fault, faultless}
 use Rattle.layout.proofs.line_refusal.Goals as goal
 
-headed-as : (l : List ℕ) {s d e y : ℕ} (s' d' e' y' : ℕ) → Heads l s d e y → heading_refusal s d e y s' d' e' y' ≡ heading_refusal (natural (state l)) (natural (division l)) (natural (element l)) (natural (year l)) s' d' e' y'
-headed-as l s' d' e' y' h = rw (h.1, h.2, h.3, h.4)
+headed-as : (l : List ℕ) {s d e y : ℕ} (s' d' y' : ℕ) → Heads l s d e y → heading_refusal s d e y s' d' y' ≡ heading_refusal (natural (state l)) (natural (division l)) (natural (element l)) (natural (year l)) s' d' y'
+headed-as l s' d' y' h = rw (h.1, h.2, h.3, h.4)
 
 pub returns-in_default : goal.returns-in_default
 returns-in_default c =
@@ -35,4 +35,4 @@ returns c =
     let l = c.args.line.now in
     let said = heads l _ _ _ _ (sym c.read_heading-heading.ensures ∙ c.in-Of.is) in
     let rest : fault_of l ≡ c.rest_fault.result = at_rest l c.requires.last_column_in_bounds said.0 ∙ sym c.rest_fault.ensures in
-    c.heading_refusal.ensures ∙ headed-as l _ _ _ _ said ∙ sym (faultless l _ _ _ (rest ∙ c.if-rest_fault-ne0.false))
+    c.heading_refusal.ensures ∙ headed-as l _ _ _ said ∙ sym (faultless l _ _ _ (rest ∙ c.if-rest_fault-ne0.false))

@@ -6,7 +6,7 @@ use Prim.Native.Nat.{ℕ}
 use borrow.Author.Tests.{not-true, not-false}
 use Rattle.text.specs.Bytes.{natural}
 use Rattle.fields.specs.Columns.{state, division, element, year}
-use Rattle.layout_heading.specs.Steps.{heading_refusal}
+use Rattle.layout_heading.specs.Steps.{element_refusal}
 use Rattle.layout_heading.proofs.Headings.{Heads, heads, headless}
 use Rattle.layout_figures.proofs.Refusals.{of-rain, of_other, of-heading}
 use Rattle.layout_figures.proofs.Refusals.{headless as no-heading}
@@ -25,7 +25,7 @@ line a = a.args.line.now
 abbrev said : (k : goal.In-Of) → Heads (line k.before.before.before.before.before) k.heading-1.given.0.0 k.heading-1.given.0.1.0 k.heading-1.given.0.1.1.0 k.heading-1.given.0.1.1.1.0
 said k = heads (line k.before.before.before.before.before) _ _ _ _ (sym k.read_heading-heading.ensures ∙ k.heading-1.given.1)
 
-headed-as : (l : List ℕ) {s d e y : ℕ} (s' d' e' y' : ℕ) → Heads l s d e y → heading_refusal s d e y s' d' e' y' ≡ heading_refusal (natural (state l)) (natural (division l)) (natural (element l)) (natural (year l)) s' d' e' y'
+headed-as : (l : List ℕ) {s d e y : ℕ} (s' d' e' y' : ℕ) → Heads l s d e y → element_refusal s d e y s' d' e' y' ≡ element_refusal (natural (state l)) (natural (division l)) (natural (element l)) (natural (year l)) s' d' e' y'
 headed-as l s' d' e' y' h = rw (h.1, h.2, h.3, h.4)
 
 pub read_heading-heading-requires : goal.read_heading-heading-requires
@@ -60,13 +60,13 @@ returns-then-not-rest_fits c =
 pub number_of-requires : goal.number_of-requires
 number_of-requires c = search rules
 
-pub heading_refusal-requires : goal.heading_refusal-requires
-heading_refusal-requires c = search rules
+pub element_refusal-requires : goal.element_refusal-requires
+element_refusal-requires c = search rules
 
 pub returns : goal.returns
 returns c =
     let l = line c.before.before.before.before.before.before.before.before.before.before in
     let a = c.args in
-    c.heading_refusal.ensures ∙ headed-as l _ _ _ _ (said c.before.before.before.before.before)
-    ∙ ap (λ (e : ℕ). heading_refusal (natural (state l)) (natural (division l)) (natural (element l)) (natural (year l)) a.state a.division e a.year) c.number_of.ensures
+    c.element_refusal.ensures ∙ headed-as l _ _ _ _ (said c.before.before.before.before.before)
+    ∙ ap (λ (e : ℕ). element_refusal (natural (state l)) (natural (division l)) (natural (element l)) (natural (year l)) a.state a.division e a.year) c.number_of.ensures
     ∙ sym (of-heading l c.requires.last_column_in_bounds _ _ _ _ (said c.before.before.before.before.before).0 (λ e. c.if-e-eq-PRECIPITATION.false (sym (said c.before.before.before.before.before).3 ∙ e)) (sym c.rest_fits.ensures ∙ not-false _ c.if-not-rest_fits.false-raw))

@@ -5,17 +5,8 @@ use Rattle.reopening.specs.Before.{calendar_back}
 use Rattle.reopening.proofs.Laws.{calendar-is}
 use Rattle.reopening.proofs.calendar_back.Goals as goal
 
-pub overflow_sub-result : goal.overflow_sub-result
-overflow_sub-result c = search rules
-
 pub overflow_add-result : goal.overflow_add-result
 overflow_add-result c = let h = calendar-is c.args.calendar c.requires in omega arith
-
-pub overflow_sub-result-2 : goal.overflow_sub-result-2
-overflow_sub-result-2 c = search rules
-
-pub overflow_add-result-2 : goal.overflow_add-result-2
-overflow_add-result-2 c = search rules
 
 pub returns : goal.returns
 unfolding calendar_back

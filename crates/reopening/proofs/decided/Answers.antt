@@ -35,23 +35,19 @@ module _ (s : Running) where
   unfolding decided
   x1-some h g = rw (zero_is s.v h, zero-not s.x1 g)
 
--- V is 0
-none : (c : goal.Else-s-ne0) → c.args.s.v ≡ pos 0
-none c =
-    let f : SFits w64 c.args.s.v = search rules in
-    same_bits {y = pos 0} f (sfits_lit tt) c.if-s-ne0.false
-
 pub returns-then-s-ne0 : goal.returns-then-s-ne0
 returns-then-s-ne0 c = v-some c.args.s (λ e. c.if-s-ne0.true (ap (of_z w64) e))
 
 pub returns-then-s-eq0 : goal.returns-then-s-eq0
 returns-then-s-eq0 c =
     let s = c.args.s in
-    let f : SFits w32 s.x1 = search rules in
-    x1-none s (none c.before.before.before) (same_bits {y = pos 0} f (sfits_lit tt) c.if-s-eq0.true)
+    let f : SFits w64 s.v = search rules in
+    let g : SFits w32 s.x1 = search rules in
+    x1-none s (same_bits {y = pos 0} f (sfits_lit tt) c.if-s-ne0.false) (same_bits {y = pos 0} g (sfits_lit tt) c.if-s-eq0.true)
 
 pub returns : goal.returns
 returns c =
     let s = c.args.s in
-    let f : SFits w32 s.x2 = search rules in
-    bits-zero s.x2 f ∙ x1-some s (none c.before.before.before.before.before) (λ e. c.if-s-eq0.false (ap (of_z w32) e))
+    let f : SFits w64 s.v = search rules in
+    let g : SFits w32 s.x2 = search rules in
+    bits-zero s.x2 g ∙ x1-some s (same_bits {y = pos 0} f (sfits_lit tt) c.if-s-ne0.false) (λ e. c.if-s-eq0.false (ap (of_z w32) e))

@@ -1,17 +1,11 @@
-use mathlib.Core.Path.{◌≡◌, refl, sym, ap, ◌∙◌}
-use mathlib.Core.Bool.{true, false}
+-- The months from j up to m are open again, whatever the records are (`Going`). Assumes nothing.
+use mathlib.Core.Path.{◌≡◌}
 use mathlib.Core.List.{List}
-use Prim.Native.Nat.{◌-◌, ◌≤◌}
-use native.Mathlib.Omega.{arith}
-use borrow.Author.Rules.{rules}
+use Prim.Native.Nat.{◌≤◌}
 use lib.IntN.{ℤ}
 use lib.ListN.{length}
-use mir.Facts.{to_z-of_z}
-use Rattle.spells.specs.declared.Running.{Running}
-use Rattle.spells.specs.Spells.{provisional}
-use Rattle.refusals.specs.Book.{Book, book, values_at}
-use Rattle.reopening.specs.Before.{decided, opens_before}
-use Rattle.reopening.proofs.Back.{Going, kept, at_first, turn, none_open, first, stopped, whole, opened}
+use Rattle.refusals.specs.Book.{book}
+use Rattle.reopening.proofs.Back.{Going}
 use Rattle.reopening.proofs.reopen.Given as goal
 
 abbrev pub invariant-loop-j : goal.invariant-loop-j
@@ -21,5 +15,5 @@ invariant-loop-j l =
     × (length l.mark ≡ length l.initial.mark)
     × ((records : List (List ℤ)) → Going (book l.x1 l.x2 l.x3 l.initial.index l.initial.mark records l.v) l.m l.index l.mark l.j)
 
-abbrev pub measure-loop-j : goal.measure-loop-j
-measure-loop-j l = l.j
+abbrev pub decreases-loop-j : goal.decreases-loop-j
+decreases-loop-j l = l.j

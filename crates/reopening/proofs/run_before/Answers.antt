@@ -2,9 +2,8 @@
 use mathlib.Core.Path.{◌≡◌}
 use mathlib.Core.List.{List}
 use Prim.Native.Nat.{ℕ, ◌-◌}
+use lib.IntN.{ℤ}
 use borrow.Author.Rules.{rules}
-use lib.IntN.{ℤ, pos}
-use lib.Signed.{◌≤ℤ◌}
 use mir.Syntax.{w32}
 use mir.Val.{SFits}
 use mir.Facts.{to_z-of_z}
@@ -18,39 +17,15 @@ use Rattle.ranges.proofs.RangeLaws.{countable}
 use Rattle.reopening.specs.Before.{opens_before, values_before, soil_of, calendar_back, run_before}
 use Rattle.reopening.proofs.run_before.Goals as goal
 
-pub record_at-kept-requires : goal.record_at-kept-requires
-record_at-kept-requires c = search rules
-
-pub overflow_sub-at : goal.overflow_sub-at
-overflow_sub-at c = search rules
-
-pub calendar_back-calendar-requires : goal.calendar_back-calendar-requires
-calendar_back-calendar-requires c = search rules
-
-pub values_before-values-requires : goal.values_before-values-requires
-values_before-values-requires c = search rules
-
--- what the record of the month says
-surface-above : (c : goal.After-record_at-kept) → pos 0 ≤ℤ c.record_at-kept.result.ss
-surface-above c = rw c.record_at-kept.ensures c.pre.1.1
-
-underlying-above : (c : goal.After-record_at-kept) → pos 0 ≤ℤ c.record_at-kept.result.su
-underlying-above c = rw c.record_at-kept.ensures c.pre.1.2
-
--- and its numbers fit
-surface-fits : (c : goal.After-struct_told-1) → SFits w32 c.record_at-kept.result.ss
-surface-fits c = record { sfits = c.struct_told-1.given.1.1.1.1.1.1.1.0.1 }
-
-underlying-fits : (c : goal.After-struct_told-2-1) → SFits w32 c.record_at-kept.result.su
-underlying-fits c = record { sfits = c.struct_told-2-1.given.1.1.1.1.1.1.1.1.0.1 }
-
 pub overflow_cast-start : goal.overflow_cast-start
 overflow_cast-start c =
-    rw (to_z-of_z (surface-fits c)) (countable c.record_at-kept.result.ss (surface-above c.before.before.before.before.before) (surface-fits c))
+    let f : SFits w32 c.record_at-kept.result.ss = search rules in
+    rw (to_z-of_z f) (countable c.record_at-kept.result.ss (rw c.record_at-kept.ensures c.requires.calendar_value.1) f)
 
 pub overflow_cast-start-2 : goal.overflow_cast-start-2
 overflow_cast-start-2 c =
-    rw (to_z-of_z (underlying-fits c)) (countable c.record_at-kept.result.su (underlying-above c.before.before.before.before.before.before.before) (underlying-fits c))
+    let f : SFits w32 c.record_at-kept.result.su = search rules in
+    rw (to_z-of_z f) (countable c.record_at-kept.result.su (rw c.record_at-kept.ensures c.requires.calendar_value.2) f)
 
 -- the run part by part
 parts :
@@ -65,7 +40,9 @@ parts at k cs m opens calendar month values p q r t = rw (p, q, r, t)
 pub returns : goal.returns
 returns c index mark k e =
     let a = c.args in
-    rw (to_z-of_z (surface-fits c.before.before), to_z-of_z (underlying-fits c))
+    let f : SFits w32 c.record_at-kept.result.ss = search rules in
+    let g : SFits w32 c.record_at-kept.result.su = search rules in
+    rw (to_z-of_z f, to_z-of_z g)
     (parts a.at k (book a.x1.now a.x2.now a.x3.now index mark a.records.now a.v.now)
     a.m a.opens c.calendar_back-calendar.result c.record_at-kept.result c.values_before-values.result
     e c.calendar_back-calendar.ensures c.record_at-kept.ensures (c.values_before-values.ensures index mark a.records.now))

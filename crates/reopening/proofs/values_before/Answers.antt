@@ -2,7 +2,6 @@
 use mathlib.Core.Path.{◌≡◌, refl}
 use Prim.Native.Nat.{ℕ, zero, suc, ◌-◌}
 use native.Mathlib.Omega.{arith}
-use borrow.Author.Rules.{rules}
 use Rattle.spells.specs.Values.{fresh}
 use Rattle.refusals.specs.Book.{Book, book, values_at}
 use Rattle.reopening.specs.Before.{values_before}
@@ -19,12 +18,6 @@ pub returns-then-m-eq0 : goal.returns-then-m-eq0
 returns-then-m-eq0 c index mark records =
     let a = c.args in
     at_first (book a.x1.now a.x2.now a.x3.now index mark records a.v.now) a.m c.if-m-eq0.true
-
-pub overflow_sub-m : goal.overflow_sub-m
-overflow_sub-m c = search rules
-
-pub values_at-requires : goal.values_at-requires
-values_at-requires c = search rules
 
 pub returns : goal.returns
 returns c index mark records =

@@ -1,10 +1,8 @@
 -- `sides::mark_all` meets its contract: the marks are rewritten from `from` on. Assumes nothing.
 use mathlib.Core.Path.{◌≡◌, refl}
-use mathlib.Core.List.{◌++◌}
-use Prim.Native.Nat.{◌-◌, ◌≤◌}
+use Prim.Native.Nat.{◌-◌}
 use native.Mathlib.Omega.{arith}
-use lib.ListN.{take, drop, replicate}
-use Rattle.sides.proofs.Rewriting.{Rewriting, rewriting-first, rewriting-one, rewriting-all}
+use Rattle.sides.proofs.Rewriting.{rewriting-first, rewriting-one, rewriting-all}
 use Rattle.sides.proofs.mark_all.Goals as goal
 
 pub loop-i-init : goal.loop-i-init
