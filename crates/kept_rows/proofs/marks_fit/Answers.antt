@@ -1,7 +1,6 @@
 -- `kept_rows::marks_fit` meets its contract. The loop's invariant: whether the places passed hold marks is known. Assumes nothing.
 use mathlib.Core.Path.{◌≡◌, refl}
 use mathlib.Core.Bool.{not, not-not}
-use Prim.Native.Nat.{◌-◌, ◌≤◌}
 use native.Mathlib.Omega.{arith}
 use lib.IntN.{pos}
 use lib.ListN.{get_or}
@@ -9,7 +8,6 @@ use mir.Syntax.{w32}
 use mir.Val.{SFits}
 use mir.Facts.{to_z_pos}
 use borrow.Author.Rules.{rules}
-use Rattle.outline.specs.Every.{all_of}
 use Rattle.outline.proofs.Every.{all_none, bad-on}
 use Rattle.kept_rows.specs.KeptRows.{mark_fits}
 use Rattle.kept_rows.specs.Lists.{mark_at}
@@ -19,23 +17,14 @@ mark_is : (c : goal.After-beyond-bad) → c.beyond-bad.result ≡ not (mark_at c
 unfolding mark_at mark_fits
 mark_is c =
     let m = get_or c.args.mark.now c.loop-i.i 0 in
-    let f : SFits w32 (pos m) = record { sfits = omega (arith, c.shared_slice_known-in-loop-i-1.given c.loop-i.i) } in
+    let f : SFits w32 (pos m) = search rules in
     rw (to_z_pos w32 f.sfits) at c.beyond-bad.ensures
 
 pub loop-i-init : goal.loop-i-init
 loop-i-init c = (omega arith, rw (all_none (mark_at c.args.mark.now)) refl)
 
-pub overflow_cast-i : goal.overflow_cast-i
-overflow_cast-i c = search rules
-
 pub bounds-mark-i : goal.bounds-mark-i
 bounds-mark-i c = omega arith
-
-pub overflow_cast-mark : goal.overflow_cast-mark
-overflow_cast-mark c = omega (arith, c.shared_slice_known-in-loop-i-1.given c.loop-i.i)
-
-pub beyond-bad-requires : goal.beyond-bad-requires
-beyond-bad-requires c = search rules
 
 pub overflow_add-i : goal.overflow_add-i
 overflow_add-i c = omega arith

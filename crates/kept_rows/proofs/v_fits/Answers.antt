@@ -1,5 +1,5 @@
 -- `kept_rows::v_fits` meets its contract: a V of 0 passes, and what V may be fits an `i64`, whatever the months. Assumes nothing.
-use mathlib.Core.Path.{◌≡◌}
+use mathlib.Core.Path.{◌≡◌, sym, ◌∙◌}
 use mathlib.Core.Bool.{true}
 use Prim.Native.Nat.{ℕ, ◌*◌}
 use native.Mathlib.Omega.{arith}
@@ -7,10 +7,8 @@ use lib.IntN.{ℤ, pos}
 use mir.Syntax.{w32, w64}
 use mir.Val.{Fits, SFits}
 use mir.Facts.{to_z-of_z, sfits_lit}
-use borrow.Author.Rules.{rules}
 use borrow.Author.Tests.{le-leb}
 use Rattle.outline.specs.Numbers.{most_u}
-use Rattle.outline.proofs.Tests.{fails, passes}
 use Rattle.exact.proofs.Held.{unsigned, same_bits}
 use Rattle.exact.proofs.Orders.{natural}
 use Rattle.kept_rows.specs.Lists.{opposed_to, v_row_fits}
@@ -23,26 +21,16 @@ none-fits : (months : ℕ) (x3 v : ℤ) → v ≡ pos 0 → true ≡ v_row_fits 
 unfolding v_row_fits opposed_to
 none-fits months x3 v e = rw (e, le-leb 0 (most_u * months) (omega arith))
 
--- what the call answers with: the machine's numbers are the arguments
-side_is : (c : goal.After-opposed) → c.opposed.result ≡ opposed_to c.args.x3 c.args.v
-side_is c =
-    let f = c.ranges.x3 in
-    let g = c.ranges.v in
-    simp to_z-of_z at c.opposed.ensures
-
 pub returns-then-v-eq0 : goal.returns-then-v-eq0
 returns-then-v-eq0 c =
     none-fits c.args.months c.args.x3 c.args.v (same_bits {y = pos 0} c.ranges.v (sfits_lit tt) c.if-v-eq0.true)
 
-pub opposed-requires : goal.opposed-requires
-opposed-requires c = search rules
-
 pub returns-then-not-opposed : goal.returns-then-not-opposed
 unfolding v_row_fits
-returns-then-not-opposed c = rw (fails (side_is c.before) c.if-not-opposed.true-raw)
-
-pub overflow_cast-most : goal.overflow_cast-most
-overflow_cast-most c = search rules
+returns-then-not-opposed c =
+    let f = c.ranges.x3 in
+    let g = c.ranges.v in
+    rw (sym (simp to_z-of_z at c.opposed.ensures) ∙ c.if-not-opposed.true)
 
 pub overflow_mul-most : goal.overflow_mul-most
 overflow_mul-most c =
@@ -58,4 +46,5 @@ unfolding v_row_fits
 returns c =
     let f = fit c.args.months c.ranges.months in
     let g = c.ranges.v in
-    rw (passes (side_is c.before.before) c.if-not-opposed.false-raw) (simp to_z-of_z at (rw (unsigned c.args.months c.ranges.months) at c.within.ensures))
+    let h = c.ranges.x3 in
+    rw (sym (simp to_z-of_z at c.opposed.ensures) ∙ c.if-not-opposed.false) (simp to_z-of_z at (rw (unsigned c.args.months c.ranges.months) at c.within.ensures))

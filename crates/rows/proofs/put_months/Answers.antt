@@ -1,8 +1,7 @@
 -- `rows::put_months`: whatever was put so far, the text of the months still to come, laid where it ends, makes the whole. Assumes nothing.
-use borrow.Author.Rules.{rules}
 use mathlib.Core.Path.{◌≡◌, refl, ◌∙◌}
 use mathlib.Core.List.{List, [], ◌∷◌, ◌++◌}
-use Prim.Native.Nat.{ℕ, ◌+◌, ◌*◌, ◌-◌, ◌/◌, ◌%◌, ◌≤◌, ◌<◌}
+use Prim.Native.Nat.{ℕ, ◌+◌, ◌/◌, ◌%◌, ◌≤◌, ◌<◌}
 use native.Mathlib.Numerals.{add-one}
 use native.Mathlib.Omega.{arith}
 use lib.ListN.{length, drop, get_or, drop_of_length-le}
@@ -36,9 +35,6 @@ no-month s i set h = rw (drop_of_length-le s h)
 pub loop-i-init : goal.loop-i-init
 loop-i-init c = (omega arith, omega arith, refl, (refl, refl))
 
-pub offset_bounds-amounts-i : goal.offset_bounds-amounts-i
-offset_bounds-amounts-i c = search rules
-
 pub bounds-amounts-i : goal.bounds-amounts-i
 bounds-amounts-i c = omega arith
 
@@ -58,9 +54,9 @@ loop-i-preserved c =
     let v = c.loop-i.invariant in
     let e = c.put_month-end.ensures in (
       omega arith,
-      omega (arith, v.1, e.1.1),
-      c.put_month-end.auto.1.1.1.0 ∙ v.2,
-      one_less _ _ _ (space ∷ month_text (get_or t c.loop-i.i 0) (c.loop-i.left % 2)) _ _ _ _ _ (omega (arith, c.requires, v.1, v.2)) (rw (next-month t c.loop-i.i c.loop-i.left (omega arith)) at v.3) (e.0, e.1.0),
+      omega (arith, v.1, e.upper_bound),
+      c.put_month-end.auto.out ∙ v.2,
+      one_less _ _ _ (space ∷ month_text (get_or t c.loop-i.i 0) (c.loop-i.left % 2)) _ _ _ _ _ (omega (arith, c.requires, v.1, v.2)) (rw (next-month t c.loop-i.i c.loop-i.left (omega arith)) at v.3) (e.value, e.out_after),
     )
 
 pub shape_of-out : goal.shape_of-out
@@ -70,4 +66,4 @@ pub returns : goal.returns
 returns c =
     let v = c.loop-i.invariant in
     let p = none_left _ _ _ _ _ (rw (no-month c.args.amounts.now c.loop-i.i c.loop-i.left (omega arith)) at v.3) in
-    (p.0, (p.1, omega (arith, v.0, v.1)))
+    record { value = p.0; out_after = p.1; upper_bound = omega (arith, v.0, v.1) }

@@ -1,7 +1,7 @@
 -- `rows::put_text`: the bytes put so far are the text's first ones, laid where it began. Assumes nothing.
-use mathlib.Core.Path.{◌≡◌, refl, ◌∙◌}
+use mathlib.Core.Path.{refl, ◌∙◌}
 use mathlib.Core.List.{List, [], ◌∷◌}
-use Prim.Native.Nat.{ℕ, ◌+◌, ◌-◌, ◌≤◌, ◌<◌}
+use Prim.Native.Nat.{ℕ, ◌+◌, ◌≤◌, ◌<◌}
 use native.Mathlib.Numerals.{add-one}
 use native.Mathlib.Omega.{arith}
 use lib.ListN.{length, take, get_or}
@@ -31,11 +31,12 @@ loop-i-smaller c = omega arith
 pub loop-i-preserved : goal.loop-i-preserved
 loop-i-preserved c =
     let t = c.args.text.now in
-    (omega arith, c.put_byte-end.auto.1.1.0 ∙ c.loop-i.invariant.1, one_more t c.args.at c.args.out.now c.loop-i.i _ _ _ _ (omega arith) (omega (arith, c.requires)) c.loop-i.invariant.2 c.put_byte-end.ensures)
+    (omega arith, c.put_byte-end.auto.out ∙ c.loop-i.invariant.1, one_more t c.args.at c.args.out.now c.loop-i.i _ _ _ _ (omega arith) (omega (arith, c.requires)) c.loop-i.invariant.2 (c.put_byte-end.ensures.value, c.put_byte-end.ensures.out_after))
 
 pub shape_of-out : goal.shape_of-out
 shape_of-out c = c.loop-i.invariant.1
 
 pub returns : goal.returns
 returns c =
-    rw (take_all c.loop-i.i c.args.text.now (omega arith)) at c.loop-i.invariant.2
+    let p = rw (take_all c.loop-i.i c.args.text.now (omega arith)) at c.loop-i.invariant.2 in
+    record { value = p.0; out_after = p.1 }

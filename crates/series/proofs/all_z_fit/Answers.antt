@@ -1,15 +1,12 @@
 -- `series::all_z_fit`: what has come out so far, and the test of the Z left, are the test of all. Assumes nothing.
-use mathlib.Core.Path.{◌≡◌, refl}
-use mathlib.Core.Bool.{◌&&◌}
-use Prim.Native.Nat.{◌-◌, ◌≤◌}
+use mathlib.Core.Path.{refl}
 use native.Mathlib.Omega.{arith}
 use borrow.Author.Rules.{rules}
 use lib.IntN.{pos}
-use lib.ListN.{length, get_or, drop}
+use lib.ListN.{get_or}
 use mir.Syntax.{w32}
 use mir.Val.{SFits}
 use mir.Facts.{to_z-of_z}
-use Rattle.series.specs.Series.{all_z_fit}
 use Rattle.series.proofs.EachZ.{scan-next, scan-all}
 use Rattle.series.proofs.all_z_fit.Goals as goal
 
@@ -33,7 +30,7 @@ loop-i-smaller c = omega arith
 
 pub loop-i-preserved : goal.loop-i-preserved
 loop-i-preserved c =
-    let zt : SFits w32 (get_or c.args.z.now c.loop-i.i (pos 0)) = record { sfits = c.t-1.given } in
+    let zt : SFits w32 (get_or c.args.z.now c.loop-i.i (pos 0)) = search rules in
     (omega arith, scan-next c.args.z.now c.loop-i.i c.loop-i.fit c.z_fits-fit.result (omega arith) (rw (to_z-of_z zt) at c.z_fits-fit.ensures) c.loop-i.invariant.1)
 
 pub returns : goal.returns

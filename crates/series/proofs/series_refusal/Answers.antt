@@ -1,6 +1,5 @@
 -- `series::series_refusal`: each way by its tests, in the paper's order. Assumes nothing.
 use borrow.Author.Rules.{rules}
-use borrow.Author.Tests.{not-true, not-false}
 use mathlib.Core.Path.{sym, ◌∙◌}
 use Rattle.series.specs.Series.{series_refusal}
 use Rattle.series.proofs.series_refusal.Goals as goal
@@ -10,7 +9,7 @@ lists_fit-requires c = search rules
 
 pub returns-then-not-lists_fit : goal.returns-then-not-lists_fit
 unfolding series_refusal
-returns-then-not-lists_fit c = rw (sym c.lists_fit.ensures ∙ not-true _ c.if-not-lists_fit.true-raw)
+returns-then-not-lists_fit c = rw (sym c.lists_fit.ensures ∙ c.if-not-lists_fit.true)
 
 pub all_z_fit-requires : goal.all_z_fit-requires
 all_z_fit-requires c = search rules
@@ -18,9 +17,9 @@ all_z_fit-requires c = search rules
 pub returns-then-not-all_z_fit : goal.returns-then-not-all_z_fit
 unfolding series_refusal
 returns-then-not-all_z_fit c =
-    rw (sym c.lists_fit.ensures ∙ not-false _ c.if-not-lists_fit.false-raw, sym c.all_z_fit.ensures ∙ not-true _ c.if-not-all_z_fit.true-raw)
+    rw (sym c.lists_fit.ensures ∙ c.if-not-lists_fit.false, sym c.all_z_fit.ensures ∙ c.if-not-all_z_fit.true)
 
 pub returns : goal.returns
 unfolding series_refusal
 returns c =
-    rw (sym c.lists_fit.ensures ∙ not-false _ c.if-not-lists_fit.false-raw, sym c.all_z_fit.ensures ∙ not-false _ c.if-not-all_z_fit.false-raw)
+    rw (sym c.lists_fit.ensures ∙ c.if-not-lists_fit.false, sym c.all_z_fit.ensures ∙ c.if-not-all_z_fit.false)

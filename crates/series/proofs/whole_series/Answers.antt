@@ -17,7 +17,7 @@ pub look_forward-requires : goal.look_forward-requires
 look_forward-requires c =
     let none : c.series_refusal-number.result ≡ 0 = omega arith in
     let f = (done-exactly c.args.z.now (length c.args.index.now) (length c.args.mark.now)).0 (sym c.series_refusal-number.ensures ∙ none) in
-    ((f.0.within, f.0.index_long, f.0.mark_long), f.1)
+    record { z_len_bound = (f.0.within, f.0.index_long, f.0.mark_long); each_fits = f.1 }
 
 pub shape_of-index : goal.shape_of-index
 shape_of-index c = search rules
