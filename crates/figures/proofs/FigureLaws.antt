@@ -1,12 +1,12 @@
 -- The laws of the figures: a value's size, the twelve months of a line, and what is seen of them one after another. Assumes nothing.
-use mathlib.Core.Path.{◌≡◌, refl, sym, ap, ◌∙◌}
+use mathlib.Core.Path.{◌≡◌, refl, ap}
 use mathlib.Core.Bool.{Bool, true, false, ◌&&◌, ◌||◌, and-eq-true_iff}
 use mathlib.Core.List.{List, [], ◌∷◌, ◌++◌, map, map-append}
-use Prim.Native.Nat.{ℕ, zero, suc, ◌+◌, ◌*◌, ◌^◌, ◌≤◌, ◌<◌}
+use Prim.Native.Nat.{ℕ, zero, suc, ◌+◌, ◌*◌, ◌^◌, ◌<◌}
 use native.Mathlib.Omega.{arith}
 use lib.Dec.{eqb}
 use lib.ListN.{length, take, drop, get_or, length-take, length-map}
-use Rattle.text.specs.Bytes.{point, all_digits, natural}
+use Rattle.text.specs.Bytes.{point, all_digits}
 use Rattle.fields.specs.Columns.{values, heading_columns, months_of_year, width}
 use Rattle.fields.specs.Field.{units, decimals, plain, well_formed, hundredths, field_of}
 use Rattle.fields.proofs.Naturals.{natural-small}

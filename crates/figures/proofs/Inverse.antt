@@ -1,11 +1,10 @@
 -- What is written of a figure that fits is read as that figure: no value can be read as the mark, and the mark is. Assumes nothing.
 use mathlib.Core.Path.{◌≡◌, refl, ap, ◌∙◌}
-use mathlib.Core.Bool.{Bool, true, false, not, ◌&&◌, and-eq-true_iff}
+use mathlib.Core.Bool.{Bool, true, false, not, and-eq-true_iff}
 use Prim.Native.Nat.{ℕ, suc}
 use native.Mathlib.Omega.{arith}
-use lib.IntN.{ℤ, pos, negsuc}
+use lib.IntN.{pos, negsuc}
 use lib.Dec.{eqb}
-use borrow.Author.Tests.{not-false}
 use Rattle.fields.specs.Written.{value_text, size_fits}
 use Rattle.fields.proofs.Inverse.{read_written}
 use Rattle.figures.specs.Figures.{mark_hundredths, is_mark, figure_said, figure_of, figure_text, figure_fits}

@@ -1,5 +1,4 @@
 -- `division_input::named`: one or two bytes, if they are digits. Assumes nothing.
-use borrow.Author.Rules.{rules}
 use borrow.Author.Tests.{le-leb, lt-leb}
 use Rattle.division_input.specs.Arguments.{named_of}
 use lib.ListN.{length}
@@ -12,9 +11,6 @@ returns-then-part-lt1 c = rw (lt-leb 1 (length c.args.part.now) c.if-part-lt1.tr
 pub returns-then-part-gt2 : goal.returns-then-part-gt2
 unfolding named_of
 returns-then-part-gt2 c = let s = c.args.part.now in rw (le-leb 1 (length s) c.if-part-lt1.false, lt-leb (length s) 2 c.if-part-gt2.true)
-
-pub number_of-requires : goal.number_of-requires
-number_of-requires c = search rules
 
 pub returns : goal.returns
 unfolding named_of

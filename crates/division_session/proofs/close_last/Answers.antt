@@ -1,5 +1,4 @@
 -- `division_session::close_last`: a line of which anything has come is closed. Assumes nothing.
-use borrow.Author.Rules.{rules}
 use mathlib.Core.Path.{sym, ◌∙◌}
 use borrow.Author.Tests.{eq-eqb, ne_eqb}
 use Rattle.division_session.specs.Session.{closed, last_closed}
@@ -14,12 +13,6 @@ pub returns-then-s-eq0 : goal.returns-then-s-eq0
 unfolding last_closed
 returns-then-s-eq0 c =
     sym (is-done c.args.s.refused _ (closed c.args.s c.args.out.now) c.if-s-ne0.false ∙ rw (eq-eqb c.args.s.kept 0 c.if-s-eq0.true))
-
-pub close_line-requires : goal.close_line-requires
-close_line-requires c = search rules
-
-pub shape_of-out : goal.shape_of-out
-shape_of-out c = search rules
 
 pub returns : goal.returns
 unfolding last_closed

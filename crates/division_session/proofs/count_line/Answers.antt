@@ -1,11 +1,7 @@
 -- `division_session::count_line`: its test is the least of the definition. Assumes nothing.
-use borrow.Author.Rules.{rules}
 use native.Mathlib.Omega.{arith}
 use Rattle.division_session.specs.ByLines.{counted}
 use Rattle.division_session.proofs.count_line.Goals as goal
-
-pub overflow_add-result : goal.overflow_add-result
-overflow_add-result c = search rules
 
 pub returns-then-lines-lt-MOST_LINES : goal.returns-then-lines-lt-MOST_LINES
 unfolding counted

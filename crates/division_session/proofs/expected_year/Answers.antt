@@ -1,5 +1,4 @@
 -- `division_session::expected_year`: the next year, or the line's own where that is 0. Assumes nothing.
-use borrow.Author.Rules.{rules}
 use mathlib.Core.Path.{◌≡◌, refl, sym, ◌∙◌}
 use mathlib.Core.List.{List}
 use Prim.Native.Nat.{ℕ, zero, suc}
@@ -15,9 +14,6 @@ later : (n : ℕ) (line : List ℕ) → (n ≡ 0 → ⊥) → expected n line �
 unfolding expected
 later zero line e = absurd (e refl)
 later (suc n) line e = refl
-
-pub year_of-requires : goal.year_of-requires
-year_of-requires c = search rules
 
 pub returns-then-next-eq0 : goal.returns-then-next-eq0
 returns-then-next-eq0 c = c.year_of.ensures ∙ sym (first _ _ c.if-next-eq0.true)

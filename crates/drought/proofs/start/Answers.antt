@@ -1,10 +1,6 @@
 -- `drought::start`: what `runs::start` gives. Assumes nothing.
-use borrow.Author.Rules.{rules}
 use mir.Facts.{to_z-of_z}
 use Rattle.drought.proofs.start.Goals as goal
-
-pub start-requires : goal.start-requires
-start-requires c = search rules
 
 pub returns : goal.returns
 returns c =

@@ -1,5 +1,4 @@
 -- `figures::read_figures`: what is seen so far is what is seen in the months so far, and the hundredths so far are theirs. Assumes nothing.
-use borrow.Author.Rules.{rules}
 use mathlib.Core.Path.{◌≡◌, refl, sym, ap, ◌∙◌}
 use mathlib.Core.List.{List, [], ◌∷◌, ◌++◌, map, map-append}
 use Prim.Native.Nat.{ℕ, ◌+◌, ◌-◌, ◌*◌, ◌^◌, ◌≤◌, ◌<◌}
@@ -15,11 +14,12 @@ use lib.Seq.{take-suc, take-suc-set, take_all, length-take-le}
 use Rattle.fields.specs.Columns.{heading_columns, months_of_year, width}
 use Rattle.layout_months.specs.Months.{some, set_of}
 use Rattle.figures.specs.Figures.{figure_said, figure_of, figures_of, hundredths_of}
-use Rattle.figures.specs.Steps.{Small, seen_in, and_figure}
+use Rattle.figures.specs.Steps.{seen_in, and_figure}
 use Rattle.figures.specs.declared.Figure.{Figure}
 use Rattle.figures.specs.declared.Figure.TheVariants.{Malformed}
 use Rattle.figures.proofs.FigureLaws.{field-small, figures-twelve, field, figure-at, seen_more, seen_below}
 use Rattle.figures.proofs.read_figures.Goals as goal
+use Rattle.figures.proofs.read_figures.Goals.{After-read_field}
 
 -- ---- the months so far, and one more
 module _ (line : List ℕ) (m : ℕ) (h : m < months_of_year) where
@@ -53,13 +53,10 @@ pow-next m = rw (add-one m) (pow-suc 2 m)
 seven : (k : ℕ) → k + width - k ≡ width
 seven k = omega arith
 
-said-is : (c : goal.After-read_field) → figure_said c.read_field.result ≡ figure_of (field c.args.line.now c.loop-m.m)
+said-is : (c : After-read_field) → figure_said c.read_field.result ≡ figure_of (field c.args.line.now c.loop-m.m)
 unfolding figure_of
 said-is c =
     ap figure_said c.read_field.ensures ∙ ap (λ (n : ℕ). figure_of (take n (drop (heading_columns + width * c.loop-m.m) c.args.line.now))) (seven (heading_columns + width * c.loop-m.m))
-
-figure-is : (c : goal.After-figure_said-figure) → c.figure_said-figure.result ≡ figure_of (field c.args.line.now c.loop-m.m)
-figure-is c = c.figure_said-figure.ensures ∙ said-is c.before
 
 pub loop-m-init : goal.loop-m-init
 unfolding seen_in set_of some
@@ -92,9 +89,6 @@ read_field-requires c =
 pub figure_said-figure-requires : goal.figure_said-figure-requires
 figure_said-figure-requires c = rw c.read_field.ensures (field-small _)
 
-pub hundredths_of-requires : goal.hundredths_of-requires
-hundredths_of-requires c = search rules
-
 pub offset_bounds-hundredths-m : goal.offset_bounds-hundredths-m
 offset_bounds-hundredths-m c = record { fits = omega (arith, c.loop-m-test.true) }
 
@@ -125,7 +119,7 @@ loop-m-preserved c =
     let l = c.args.line.now in
     let m = c.loop-m.m in
     let h = c.loop-m-test.true in
-    let x = figure-is c.before.before in
+    let x = c.figure_said-figure.ensures ∙ said-is (goal.at.loop-m-preserved c).After-read_field in
     let f = to_z-of_z {w = w32} {z = c.hundredths_of.result} (record { sfits = c.hundredths_of.type_inv }) in (
       omega (arith, h),
       length-set c.loop-m.hundredths m _ ∙ c.loop-m.invariant.1,
@@ -140,7 +134,7 @@ shape_of-hundredths c = c.loop-m.invariant.1
 pub returns : goal.returns
 returns c =
     let l = c.args.line.now in
-    let t : take c.loop-m.m (figures_of l) ≡ figures_of l = take_all c.loop-m.m (figures_of l) (omega (arith, figures-twelve l, c.loop-m-test.false)) in (
-      c.loop-m.invariant.3 ∙ ap seen_in t,
-      sym (take_all c.loop-m.m c.loop-m.hundredths (omega (arith, c.loop-m.invariant.1, c.requires.hundredths_len, c.loop-m-test.false))) ∙ c.loop-m.invariant.4 ∙ ap (map hundredths_of) t,
-    )
+    let t : take c.loop-m.m (figures_of l) ≡ figures_of l = take_all c.loop-m.m (figures_of l) (omega (arith, figures-twelve l, c.loop-m-test.false)) in record {
+      value = c.loop-m.invariant.3 ∙ ap seen_in t;
+      hundredths_after = sym (take_all c.loop-m.m c.loop-m.hundredths (omega (arith, c.loop-m.invariant.1, c.requires.hundredths_len, c.loop-m-test.false))) ∙ c.loop-m.invariant.4 ∙ ap (map hundredths_of) t;
+    }

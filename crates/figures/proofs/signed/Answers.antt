@@ -1,5 +1,4 @@
 -- `figures::signed`: hundredths below 2^31 are the same number as an `i32`. Assumes nothing.
-use borrow.Author.Rules.{rules}
 use mathlib.Core.Path.{◌≡◌}
 use Prim.Native.Nat.{ℕ, ◌<◌, ◌^◌}
 use native.Mathlib.Omega.{arith}
@@ -18,9 +17,6 @@ turned-fits n x e = rw e (simp zs (omega arith))
 
 turned : (x : ℤ) → pos 0 -ℤ x ≡ neg_ℤ x
 turned x = rw (is-Z x) (simp zs (omega arith))
-
-pub overflow_cast-n : goal.overflow_cast-n
-overflow_cast-n c = search rules
 
 pub overflow_sub-result : goal.overflow_sub-result
 overflow_sub-result c =
