@@ -1,35 +1,34 @@
 -- The refusal of a line, by its heading and by what follows it. The idea: a month is malformed for the one reader exactly where it is for the other,
 -- and only a line of precipitation has values out of range. Assumes nothing.
-use mathlib.Core.Path.{◌≡◌, refl, sym, ap, ◌∙◌}
-use mathlib.Core.Bool.{Bool, true, false, cond, not, ◌&&◌, and-false}
+use mathlib.Core.Path.{◌≡◌, refl, sym, ◌∙◌}
+use mathlib.Core.Bool.{Bool, true, false, not, ◌&&◌, and-false}
 use mathlib.Core.List.{List, [], ◌∷◌, map}
-use Prim.Native.Nat.{ℕ, zero, suc, ◌≤◌, ◌<◌}
-use native.Mathlib.Omega.{arith}
-use lib.Dec.{leb, eqb}
+use Prim.Native.Nat.{ℕ, ◌≤◌, ◌<◌}
+use lib.Dec.{eqb}
 use lib.ListN.{length}
-use borrow.Author.Tests.{eq-eqb, ne_eqb, eqb-true, le-leb, lt-leb}
+use borrow.Author.Tests.{eq-eqb, ne_eqb, le-leb, lt-leb}
 use Rattle.text.specs.Bytes.{all_spaces, natural}
 use Rattle.fields.specs.Columns.{state, division, element, year, values, last_column, after}
-use Rattle.fields.specs.Refusals.{malformed, another, not_the_year}
+use Rattle.fields.specs.Refusals.{malformed, another}
 use Rattle.fields.specs.Field.{field_of}
 use Rattle.fields.specs.declared.Field.{Field}
 use Rattle.fields.specs.declared.Field.TheVariants as field
-use Rattle.layout_months.specs.Months.{is_mark, in_range, rain_of, month_said, month_of, months_of, is_outside, some}
-use Rattle.layout_months.specs.Months.{is_malformed as rainMalformed}
+use Rattle.layout_months.specs.Months.{is_mark, in_range, rain_of, month_said, month_of, months_of, some}
+use Rattle.layout_months.specs.Months.{is_malformed as rain_malformed}
 use Rattle.layout_heading.specs.Heading.{precipitation, headed}
 use Rattle.layout_heading.specs.Steps.{element_refusal}
 use Rattle.layout.specs.Rainfall.{is_line, rain_fits, is_year}
 use Rattle.layout.specs.Fault.{fault_of}
 use Rattle.layout.proofs.Faults.{fault-tells}
 use Rattle.figures.specs.Figures.{number_of, figure_said, figure_of, figures_of, is_malformed}
-use Rattle.figures.specs.Figures.{is_mark as isTheMark}
+use Rattle.figures.specs.Figures.{is_mark as is_the_mark}
 use Rattle.figures.specs.declared.Element.{Element}
 use Rattle.figures.specs.declared.Element.TheVariants.{Index, Z, Modified}
 use Rattle.layout_figures.specs.Line.{is_named, refusal}
 use Rattle.layout_figures.specs.Steps.{some_malformed, rest_fits, rain_refusal}
 
 -- ---- a month is malformed for both readers, or for none
-number_by : (minus : Bool) (n : ℕ) (a b c : Bool) → is_mark minus n ≡ a → in_range minus n ≡ b → isTheMark minus n ≡ c → rainMalformed (month_said (field.Number minus n)) ≡ is_malformed (figure_said (field.Number minus n))
+number_by : (minus : Bool) (n : ℕ) (a b c : Bool) → is_mark minus n ≡ a → in_range minus n ≡ b → is_the_mark minus n ≡ c → rain_malformed (month_said (field.Number minus n)) ≡ is_malformed (figure_said (field.Number minus n))
 unfolding rain_of
 number_by minus n true b true p q r = rw (p, r)
 number_by minus n true b false p q r = rw (p, r)
@@ -38,16 +37,16 @@ number_by minus n false true false p q r = rw (p, q, r)
 number_by minus n false false true p q r = rw (p, q, r)
 number_by minus n false false false p q r = rw (p, q, r)
 
-same-value : (x : Field) → rainMalformed (month_said x) ≡ is_malformed (figure_said x)
+same-value : (x : Field) → rain_malformed (month_said x) ≡ is_malformed (figure_said x)
 same-value (field.Number minus n) = number_by minus n _ _ _ refl refl refl
 same-value field.Malformed = refl
 
-same-values : (vs : List (List ℕ)) → some (map rainMalformed (map month_of vs)) ≡ some (map is_malformed (map figure_of vs))
+same-values : (vs : List (List ℕ)) → some (map rain_malformed (map month_of vs)) ≡ some (map is_malformed (map figure_of vs))
 unfolding some month_of figure_of
 same-values [] = refl
 same-values (v ∷ vs) = rw (same-value (field_of v), same-values vs) refl
 
-malformed-same : (line : List ℕ) → some (map rainMalformed (months_of line)) ≡ some_malformed line
+malformed-same : (line : List ℕ) → some (map rain_malformed (months_of line)) ≡ some_malformed line
 unfolding months_of figures_of some_malformed
 malformed-same line = same-values (values line)
 

@@ -9,7 +9,7 @@ ghost use Rattle.std.specs.Prelude.{◌≡◌, true, false, ◌≤◌, length};
 ghost use Rattle.fields.specs.Columns.{last_column};
 ghost use Rattle.layout_months.specs.Months.{some};
 ghost use Rattle.layout_figures.specs.Line.{refusal, figures_said};
-ghost use Rattle.layout_figures.specs.Line.{refused as refusedLine};
+ghost use Rattle.layout_figures.specs.Line.{refused as refused_line};
 ghost use Rattle.layout_figures.specs.Steps.{some_malformed, rest_fits, rain_refusal};
 
 use fields::{LAST_COLUMN, MALFORMED, MONTHS, OTHER_LINE};
@@ -90,7 +90,7 @@ fn line_refusal(
 }
 
 fn refused(number: u8) -> Figures
-    ensures { result ≡ refusedLine number }
+    ensures { result ≡ refused_line number }
 {
     Figures {
         number,

@@ -3,6 +3,8 @@ use mathlib.Core.Path.{◌∙◌}
 use native.Mathlib.Omega.{arith}
 use lib.IntN.{nat_abs}
 use Prim.Native.Nat.{◌≤◌}
+use mir.Syntax.{w64}
+use mir.Val.{SFits}
 use mir.Facts.{to_z-of_z}
 use Rattle.exact.specs.Bounds.{most_rounded}
 use Rattle.water.specs.Expected.{cafec_of}
@@ -15,4 +17,5 @@ pub returns : goal.returns
 unfolding cafec_of
 returns c =
     let f = c.ranges.n in
-    to_z-of_z (record { sfits = c.nearest_signed.type_inv }) ∙ (simp to_z-of_z at c.nearest_signed.ensures)
+    let g : SFits w64 c.nearest_signed.result = record { sfits = c.nearest_signed.type_inv } in
+    to_z-of_z g ∙ (simp to_z-of_z at c.nearest_signed.ensures)

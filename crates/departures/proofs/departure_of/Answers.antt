@@ -12,14 +12,17 @@ use mir.Syntax.{w32, w64}
 use mir.Val.{Fits, SFits, to_z, of_z}
 use mir.Facts.{to_z-of_z, to_z_pos}
 use Rattle.exact.proofs.Z.{zs, zs-abs, is-Z, fits-within}
-use Rattle.exact.proofs.Held.{held}
-use Rattle.water.specs.Bounds.{most_n}
 use Rattle.water.specs.Expected.{n_of, cafec_of}
 use Rattle.water.proofs.WaterLaws.{potential-shares, potential-loss}
 use Rattle.sums.specs.Sums.{potentials_in}
+use Rattle.given_rows.specs.Facts.{RowFits}
+use Rattle.given_rows.specs.declared.WaterRow.{WaterRow}
+use Rattle.water.specs.Bounds.{ConstantsFit}
+use Rattle.water.specs.declared.Constants.{Constants}
 use Rattle.departures.specs.Departures.{expected_in, departure_of}
 use Rattle.departures.proofs.DepartureLaws.{most_departure, short-most, wanted-most, expected-most}
 use Rattle.departures.proofs.departure_of.Goals as goal
+use Rattle.departures.proofs.departure_of.Goals.{After-n_of-n, After-cafec_of}
 
 -- a number below 0 turned is above 0, and of the same size
 turned_same : (x : ℤ) → nat_abs (pos 0 -ℤ x) ≡ nat_abs x
@@ -34,78 +37,105 @@ above x = rw (is-Z x) (simp zs (omega arith))
 fits : (x : ℤ) → nat_abs x ≤ most_departure → Fits w32 (nat_abs x)
 fits x h = omega arith
 
-pub potentials_of-q-requires : goal.potentials_of-q-requires
-potentials_of-q-requires c = search held
+-- P - CAFEC, as the machine reads it, where x is CAFEC as the call gives it
+module _ (k : Constants) (w : WaterRow) (kf : ConstantsFit k) (rf : RowFits w) (x : ℤ) (fx : SFits w64 x) (cafec : x ≡ expected_in k w) where
+  abbrev short : ℤ
+  short = pos w.p -ℤ expected_in k w
+
+  small : nat_abs short ≤ most_departure
+  small = short-most w.p (expected_in k w) rf.p (expected-most k w kf rf)
+
+  abbrev read : ℤ
+  read = to_z w64 w.p -ℤ to_z w64 (of_z w64 x)
+
+  read_is : read ≡ short
+  read_is = ap₂ ◌-ℤ◌ (to_z_pos w64 (lt_of_le_of_lt rf.p (lit< tt))) (to_z-of_z fx ∙ cafec)
+
+  read-fits : SFits w64 read
+  read-fits = rw read_is (fits-within w64 short most_departure small (lit< tt))
+
+  -- read back, and turned
+  held-is : to_z w64 (of_z w64 read) ≡ short
+  held-is = to_z-of_z read-fits ∙ read_is
+
+  turned-fits : SFits w64 (pos 0 -ℤ short)
+  turned-fits = fits-within w64 (pos 0 -ℤ short) most_departure (rw (turned_same short) small) (lit< tt)
+
+  turned-is : to_z w64 (of_z w64 (pos 0 -ℤ to_z w64 (of_z w64 read))) ≡ pos 0 -ℤ short
+  turned-is = rw held-is (to_z-of_z turned-fits)
 
 pub n_of-n-requires : goal.n_of-n-requires
 n_of-n-requires c =
     let w = c.args.w in
     let f = c.requires.row_fits.soil in
-    (c.requires.constants_fit, (c.requires.row_fits.pe, f.most, rw c.potentials_of-q.ensures (potential-shares w.soil w.pe f), rw c.potentials_of-q.ensures (potential-loss w.soil w.pe)))
-
-pub overflow_cast-short : goal.overflow_cast-short
-overflow_cast-short c = search held
+    record {
+      constants_fit = c.requires.constants_fit;
+      pe_le_most_reading = (c.requires.row_fits.pe, f.most, rw c.potentials_of-q.ensures (potential-shares w.soil w.pe f), rw c.potentials_of-q.ensures (potential-loss w.soil w.pe));
+    }
 
 -- N, of the row and the constants handed in
-n-is : (c : goal.After-n_of-n) → let a = c.args in c.n_of-n.result ≡ n_of a.k a.w.pe (potentials_in a.w)
+n-is : (c : After-n_of-n) → let a = c.args in c.n_of-n.result ≡ n_of a.k a.w.pe (potentials_in a.w)
 n-is c = let a = c.args in c.n_of-n.ensures ∙ ap (n_of a.k a.w.pe) c.potentials_of-q.ensures
 
-bounded : (c : goal.After-n_of-n) → nat_abs c.n_of-n.result ≤ most_n
-bounded c = rw (n-is c) (wanted-most c.args.k c.args.w c.requires.constants_fit c.requires.row_fits)
-
 pub cafec_of-requires : goal.cafec_of-requires
-cafec_of-requires c = rw (to_z-of_z (record { sfits = c.n_of-n.type_inv })) (bounded c.before)
+cafec_of-requires c =
+    let f : SFits w64 c.n_of-n.result = record { sfits = c.n_of-n.type_inv } in
+    rw (to_z-of_z f, n-is (goal.at.cafec_of-requires c).After-n_of-n) (wanted-most c.args.k c.args.w c.requires.constants_fit c.requires.row_fits)
 
--- ---- P - CAFEC
-abbrev entered : goal.After-cafec_of → goal.Start
-entered c = c.before.before.before.before.before
-
-abbrev short : goal.After-cafec_of → ℤ
-short c = let a = c.args in pos a.w.p -ℤ expected_in a.k a.w
-
-cafec-is : (c : goal.After-cafec_of) → let a = c.args in c.cafec_of.result ≡ expected_in a.k a.w
+cafec-is : (c : After-cafec_of) → let a = c.args in c.cafec_of.result ≡ expected_in a.k a.w
 cafec-is c =
-    c.cafec_of.ensures ∙ ap cafec_of (to_z-of_z (record { sfits = c.n_of-n.type_inv }) ∙ n-is c.before.before)
+    let a = c.args in
+    let f : SFits w64 c.n_of-n.result = record { sfits = c.n_of-n.type_inv } in
+    c.cafec_of.ensures ∙ ap cafec_of (to_z-of_z f ∙ c.n_of-n.ensures ∙ ap (n_of a.k a.w.pe) c.potentials_of-q.ensures)
 
-small : (c : goal.After-cafec_of) → nat_abs (short c) ≤ most_departure
-small c =
-    short-most c.args.w.p (expected_in c.args.k c.args.w) c.pre.1.p (expected-most c.args.k c.args.w c.pre.0 c.pre.1)
-
--- as the machine reads it
-abbrev read : goal.After-cafec_of → ℤ
-read c = to_z w64 c.args.w.p -ℤ to_z w64 (of_z w64 c.cafec_of.result)
-
-read_is : (c : goal.After-cafec_of) → read c ≡ short c
-read_is c = ap₂ ◌-ℤ◌ (to_z_pos w64 (lt_of_le_of_lt c.requires.row_fits.p (lit< tt))) (to_z-of_z (record { sfits = c.cafec_of.type_inv }) ∙ cafec-is c)
+cafec-fits : (c : After-cafec_of) → SFits w64 c.cafec_of.result
+cafec-fits c = record { sfits = c.cafec_of.type_inv }
 
 pub overflow_sub-short : goal.overflow_sub-short
-overflow_sub-short c = rw (read_is c) (fits-within w64 (short c) most_departure (small c) (lit< tt))
-
--- read back, and turned
-held-is : (c : goal.After-cafec_of) → to_z w64 (of_z w64 (read c)) ≡ short c
-held-is c = to_z-of_z (overflow_sub-short c) ∙ read_is c
-
-turned-fits : (c : goal.After-cafec_of) → SFits w64 (pos 0 -ℤ short c)
-turned-fits c = fits-within w64 (pos 0 -ℤ short c) most_departure (rw (turned_same (short c)) (small c)) (lit< tt)
-
-turned-is : (c : goal.After-cafec_of) → to_z w64 (of_z w64 (pos 0 -ℤ to_z w64 (of_z w64 (read c)))) ≡ pos 0 -ℤ short c
-turned-is c = rw (held-is c) (to_z-of_z (turned-fits c))
+overflow_sub-short c =
+    let at = (goal.at.overflow_sub-short c).After-cafec_of in
+    read-fits c.args.k c.args.w c.requires.constants_fit c.requires.row_fits c.cafec_of.result (cafec-fits at) (cafec-is at)
 
 pub overflow_sub-result : goal.overflow_sub-result
-overflow_sub-result c = rw (held-is c.before) (turned-fits c.before)
+overflow_sub-result c =
+    let at = (goal.at.overflow_sub-result c).After-cafec_of in
+    let kf = c.requires.constants_fit in
+    let rf = c.requires.row_fits in
+    rw (held-is c.args.k c.args.w kf rf c.cafec_of.result (cafec-fits at) (cafec-is at)) (turned-fits c.args.k c.args.w kf rf c.cafec_of.result (cafec-fits at) (cafec-is at))
 
 pub overflow_cast-result : goal.overflow_cast-result
 overflow_cast-result c =
-    rw (turned-is c.before) (turned-above (short c.before) (rw (held-is c.before) at c.if-short-lt0.true), rw (turned_same (short c.before)) (fits (short c.before) (small c.before)))
+    let at = (goal.at.overflow_cast-result c).After-cafec_of in
+    let a = c.args in
+    let kf = c.requires.constants_fit in
+    let rf = c.requires.row_fits in
+    let x = c.cafec_of.result in
+    let e = cafec-is at in
+    let fx = cafec-fits at in
+    let d = pos a.w.p -ℤ expected_in a.k a.w in
+    rw (turned-is a.k a.w kf rf x fx e) (turned-above d (rw (held-is a.k a.w kf rf x fx e) at c.if-short-lt0.true), rw (turned_same d) (fits d (small a.k a.w kf rf x fx e)))
 
 pub overflow_cast-result-else-short-lt0 : goal.overflow_cast-result-else-short-lt0
 overflow_cast-result-else-short-lt0 c =
-    rw (held-is c.before) (above (short c.before) (rw (held-is c.before) at c.if-short-lt0.false), fits (short c.before) (small c.before))
+    let at = (goal.at.overflow_cast-result-else-short-lt0 c).After-cafec_of in
+    let a = c.args in
+    let kf = c.requires.constants_fit in
+    let rf = c.requires.row_fits in
+    let x = c.cafec_of.result in
+    let e = cafec-is at in
+    let fx = cafec-fits at in
+    let d = pos a.w.p -ℤ expected_in a.k a.w in
+    rw (held-is a.k a.w kf rf x fx e) (above d (rw (held-is a.k a.w kf rf x fx e) at c.if-short-lt0.false), fits d (small a.k a.w kf rf x fx e))
 
 pub returns-then-short-lt0 : goal.returns-then-short-lt0
 unfolding departure_of
-returns-then-short-lt0 c = rw (turned-is c.before) (turned_same (short c.before))
+returns-then-short-lt0 c =
+    let at = (goal.at.returns-then-short-lt0 c).After-cafec_of in
+    let a = c.args in
+    rw (turned-is a.k a.w c.requires.constants_fit c.requires.row_fits c.cafec_of.result (cafec-fits at) (cafec-is at)) (turned_same (pos a.w.p -ℤ expected_in a.k a.w))
 
 pub returns-else-short-lt0 : goal.returns-else-short-lt0
 unfolding departure_of
-returns-else-short-lt0 c = rw (held-is c.before)
+returns-else-short-lt0 c =
+    let at = (goal.at.returns-else-short-lt0 c).After-cafec_of in
+    rw (held-is c.args.k c.args.w c.requires.constants_fit c.requires.row_fits c.cafec_of.result (cafec-fits at) (cafec-is at))

@@ -1,7 +1,7 @@
 -- `departures::departures_of` meets its contract. The loop's invariant: the sum is that of the years passed, and so at most 350,000 for each.
 -- Assumes nothing.
 use mathlib.Core.Path.{◌≡◌, sym, ap, ap₂, ◌∙◌}
-use Prim.Native.Nat.{ℕ, ◌+◌, ◌-◌, ◌≤◌, ◌<◌}
+use Prim.Native.Nat.{ℕ, ◌+◌, ◌<◌}
 use native.Mathlib.Omega.{arith}
 use Rattle.given_rows.specs.Facts.{RowFits}
 use Rattle.given_rows.specs.declared.WaterRow.{WaterRow}
@@ -10,18 +10,20 @@ use Rattle.departures.specs.Departures.{departure_of, departures_of}
 use Rattle.sums.proofs.SumLaws.{rows_fit}
 use Rattle.departures.proofs.DepartureLaws.{departures-none, departures-more, departures-most}
 use Rattle.departures.proofs.departures_of.Goals as goal
+use Rattle.departures.proofs.departures_of.Goals.{Start, After-departure_of-sum}
 
 -- the rows of the calendar month, each of which fits
-abbrev row : goal.Start → ℕ → WaterRow
+abbrev row : Start → ℕ → WaterRow
 row s = let a = s.args in row_in a.capacity a.records.now a.at
 
-fit : (s : goal.Start) (y : ℕ) → y < s.args.years → RowFits (row s y)
-fit s = let a = s.args in rows_fit a.capacity a.records.now a.at a.years s.requires.1
+fit : (s : Start) (y : ℕ) → y < s.args.years → RowFits (row s y)
+fit s = let a = s.args in rows_fit a.capacity a.records.now a.at a.years s.requires.watered
 
 -- the sum with the next year's
-next-is : (c : goal.After-departure_of-sum) → c.loop-y.sum + c.departure_of-sum.result ≡ departures_of c.args.k (row c.before.before.before.before) (c.loop-y.y + 1)
+next-is : (c : After-departure_of-sum) → let a = c.args in c.loop-y.sum + c.departure_of-sum.result ≡ departures_of a.k (row_in a.capacity a.records.now a.at) (c.loop-y.y + 1)
 next-is c =
-    ap₂ ◌+◌ c.loop-y.invariant.1 (c.departure_of-sum.ensures ∙ ap (departure_of c.args.k) c.water_at-w.ensures) ∙ sym (departures-more c.args.k (row c.before.before.before.before) c.loop-y.y)
+    let a = c.args in
+    ap₂ ◌+◌ c.loop-y.invariant.1 (c.departure_of-sum.ensures ∙ ap (departure_of c.args.k) c.water_at-w.ensures) ∙ sym (departures-more c.args.k (row_in a.capacity a.records.now a.at) c.loop-y.y)
 
 pub loop-y-init : goal.loop-y-init
 loop-y-init c = (omega arith, sym (departures-none c.args.k (row c)))
@@ -42,12 +44,13 @@ water_at-w-requires c =
 
 pub departure_of-sum-requires : goal.departure_of-sum-requires
 departure_of-sum-requires c =
-    (c.requires.constants_fit, rw c.water_at-w.ensures (fit c.before.before.before c.loop-y.y c.loop-y-test.true))
+    record { constants_fit = c.requires.constants_fit; row_fits = rw c.water_at-w.ensures (fit (goal.at.departure_of-sum-requires c).Start c.loop-y.y c.loop-y-test.true) }
 
 pub overflow_add-sum : goal.overflow_add-sum
 overflow_add-sum c =
-    let e = next-is c in
-    let m = departures-most c.args.k (row c.before.before.before.before) (c.loop-y.y + 1) c.requires.constants_fit (λ i b. fit c.before.before.before.before i (omega arith)) in
+    let at = goal.at.overflow_add-sum c in
+    let e = next-is at.After-departure_of-sum in
+    let m = departures-most c.args.k (row at.Start) (c.loop-y.y + 1) c.requires.constants_fit (λ i b. fit at.Start i (omega arith)) in
     omega arith
 
 pub overflow_add-y : goal.overflow_add-y
@@ -57,7 +60,7 @@ pub loop-y-smaller : goal.loop-y-smaller
 loop-y-smaller c = omega arith
 
 pub loop-y-preserved : goal.loop-y-preserved
-loop-y-preserved c = (omega arith, next-is c)
+loop-y-preserved c = (omega arith, next-is (goal.at.loop-y-preserved c).After-departure_of-sum)
 
 pub returns : goal.returns
 returns c =

@@ -10,9 +10,6 @@ use Rattle.sums.proofs.SumLaws.{rows_fit}
 use Rattle.departures.proofs.DepartureLaws.{mean-most}
 use Rattle.departures.proofs.mean_of.Goals as goal
 
-pub departures_of-sum-requires : goal.departures_of-sum-requires
-departures_of-sum-requires c = search rules
-
 pub overflow_cast-sum : goal.overflow_cast-sum
 overflow_cast-sum c = search rules
 

@@ -1,87 +1,68 @@
 -- `given_rows::holds` meets its contract: each of the six against the balance's. Assumes nothing.
 use borrow.Author.Rules.{rules}
-use mathlib.Core.Path.{◌≡◌}
+use mathlib.Core.Path.{◌≡◌, sym, ◌∙◌}
 use mathlib.Core.Bool.{true}
 use Prim.Native.Nat.{◌+◌}
 use mir.Syntax.{w32}
 use mir.Val.{SFits}
 use mir.Facts.{to_z-of_z}
-use Rattle.outline.proofs.Tests.{fails, passes}
 use Rattle.records.specs.Record.{record_at}
 use Rattle.records.specs.Ends.{amounts}
 use Rattle.records.specs.declared.Record.{Record}
 use Rattle.given_rows.specs.GivenRows.{holds}
 use Rattle.given_rows.proofs.holds.Goals as goal
+use Rattle.given_rows.proofs.holds.Goals.{Start, After-amounts, After-amounts-2, After-amounts-3, After-amounts-4, After-amounts-5, After-amounts-6, Else-not-amounts, Else-not-amounts-2, Else-not-amounts-3, Else-not-amounts-4, Else-not-amounts-5}
 
 -- the record at the place
-abbrev held : goal.Start → Record
+abbrev held : Start → Record
 held s = record_at s.args.records.now s.args.i
 
--- from each call back to the entry
-abbrev at_1 : goal.After-amounts → goal.Start
-at_1 c = c.before.before
-
-abbrev at-2 : goal.After-amounts-2 → goal.Start
-at-2 c = at_1 c.before.before.before
-
-abbrev at-3 : goal.After-amounts-3 → goal.Start
-at-3 c = at-2 c.before.before.before.before
-
-abbrev at-4 : goal.After-amounts-4 → goal.Start
-at-4 c = at-3 c.before.before.before
-
-abbrev at_5 : goal.After-amounts-5 → goal.Start
-at_5 c = at-4 c.before.before.before
-
-abbrev at-6 : goal.After-amounts-6 → goal.Start
-at-6 c = at_5 c.before.before.before
-
 -- what each call answers with
-et-is : (c : goal.After-amounts) → c.amounts.result ≡ amounts (held c.before.before).et c.args.b.et
+et-is : (c : After-amounts) → c.amounts.result ≡ amounts (held c.before.before).et c.args.b.et
 et-is c =
     let f : SFits w32 (held c.before.before).et = record { sfits = c.amounts-arg-1.given } in
     rw (to_z-of_z f) at c.amounts.ensures
 
-r-is : (c : goal.After-amounts-2) → c.amounts-2.result ≡ amounts (held c.before.before.before.before.before).r c.args.b.r
+r-is : (c : After-amounts-2) → c.amounts-2.result ≡ amounts (held c.before.before.before.before.before).r c.args.b.r
 r-is c =
     let f : SFits w32 (held c.before.before.before.before.before).r = record { sfits = c.amounts-arg-2-1.given } in
     rw (to_z-of_z f) at c.amounts-2.ensures
 
-l-is : (c : goal.After-amounts-3) → c.amounts-3.result ≡ amounts (held c.before.before.before.before.before.before.before.before.before).l (c.args.b.ls + c.args.b.lu)
+l-is : (c : After-amounts-3) → c.amounts-3.result ≡ amounts (held c.before.before.before.before.before.before.before.before.before).l (c.args.b.ls + c.args.b.lu)
 l-is c =
     let f : SFits w32 (held c.before.before.before.before.before.before.before.before.before).l = record { sfits = c.amounts-arg-3-1.given } in
     rw (to_z-of_z f) at c.amounts-3.ensures
 
-ro-is : (c : goal.After-amounts-4) → c.amounts-4.result ≡ amounts (held c.before.before.before.before.before.before.before.before.before.before.before.before).ro c.args.b.ro
+ro-is : (c : After-amounts-4) → c.amounts-4.result ≡ amounts (held c.before.before.before.before.before.before.before.before.before.before.before.before).ro c.args.b.ro
 ro-is c =
     let f : SFits w32 (held c.before.before.before.before.before.before.before.before.before.before.before.before).ro = record { sfits = c.amounts-arg-4-1.given } in
     rw (to_z-of_z f) at c.amounts-4.ensures
 
-surface-is : (c : goal.After-amounts-5) → c.amounts-5.result ≡ amounts (held c.before.before.before.before.before.before.before.before.before.before.before.before.before.before.before).surface c.args.b.surface
+surface-is : (c : After-amounts-5) → c.amounts-5.result ≡ amounts (held c.before.before.before.before.before.before.before.before.before.before.before.before.before.before.before).surface c.args.b.surface
 surface-is c =
     let f : SFits w32 (held c.before.before.before.before.before.before.before.before.before.before.before.before.before.before.before).surface = record { sfits = c.amounts-arg-5-1.given } in
     rw (to_z-of_z f) at c.amounts-5.ensures
 
-underlying-is : (c : goal.After-amounts-6) → c.amounts-6.result ≡ amounts (held c.before.before.before.before.before.before.before.before.before.before.before.before.before.before.before.before.before.before).underlying c.args.b.underlying
+underlying-is : (c : After-amounts-6) → c.amounts-6.result ≡ amounts (held c.before.before.before.before.before.before.before.before.before.before.before.before.before.before.before.before.before.before).underlying c.args.b.underlying
 underlying-is c =
     let f : SFits w32 (held c.before.before.before.before.before.before.before.before.before.before.before.before.before.before.before.before.before.before).underlying = record { sfits = c.amounts-arg-6-1.given } in
     rw (to_z-of_z f) at c.amounts-6.ensures
 
 -- and where it is passed
-et-pass : (c : goal.Else-not-amounts) → amounts (held c.before.before.before).et c.args.b.et ≡ true
-et-pass c = passes (et-is c.before) c.if-not-amounts.false-raw
+et-pass : (c : Else-not-amounts) → amounts (held c.before.before.before).et c.args.b.et ≡ true
+et-pass c = sym (et-is c.before) ∙ c.if-not-amounts.false
 
-r-pass : (c : goal.Else-not-amounts-2) → amounts (held c.before.before.before.before.before.before).r c.args.b.r ≡ true
-r-pass c = passes (r-is c.before) c.if-not-amounts-2.false-raw
+r-pass : (c : Else-not-amounts-2) → amounts (held c.before.before.before.before.before.before).r c.args.b.r ≡ true
+r-pass c = sym (r-is c.before) ∙ c.if-not-amounts-2.false
 
-l-pass : (c : goal.Else-not-amounts-3) → amounts (held c.before.before.before.before.before.before.before.before.before.before).l (c.args.b.ls + c.args.b.lu) ≡ true
-l-pass c = passes (l-is c.before) c.if-not-amounts-3.false-raw
+l-pass : (c : Else-not-amounts-3) → amounts (held c.before.before.before.before.before.before.before.before.before.before).l (c.args.b.ls + c.args.b.lu) ≡ true
+l-pass c = sym (l-is c.before) ∙ c.if-not-amounts-3.false
 
-ro-pass : (c : goal.Else-not-amounts-4) → amounts (held c.before.before.before.before.before.before.before.before.before.before.before.before.before).ro c.args.b.ro ≡ true
-ro-pass c = passes (ro-is c.before) c.if-not-amounts-4.false-raw
+ro-pass : (c : Else-not-amounts-4) → amounts (held c.before.before.before.before.before.before.before.before.before.before.before.before.before).ro c.args.b.ro ≡ true
+ro-pass c = sym (ro-is c.before) ∙ c.if-not-amounts-4.false
 
-surface-pass : (c : goal.Else-not-amounts-5) → amounts (held c.before.before.before.before.before.before.before.before.before.before.before.before.before.before.before.before).surface c.args.b.surface ≡ true
-surface-pass c = passes (surface-is c.before) c.if-not-amounts-5.false-raw
+surface-pass : (c : Else-not-amounts-5) → amounts (held c.before.before.before.before.before.before.before.before.before.before.before.before.before.before.before.before).surface c.args.b.surface ≡ true
+surface-pass c = sym (surface-is c.before) ∙ c.if-not-amounts-5.false
 
 pub offset_bounds-records-i : goal.offset_bounds-records-i
 offset_bounds-records-i c = search rules
@@ -160,27 +141,27 @@ amounts-requires-6 c = c.requires.surface_le_most_reading.1
 
 pub returns-then-not-amounts : goal.returns-then-not-amounts
 unfolding holds
-returns-then-not-amounts c = rw (fails (et-is c.before) c.if-not-amounts.true-raw)
+returns-then-not-amounts c = rw (sym (et-is c.before) ∙ c.if-not-amounts.true)
 
 pub returns-then-not-amounts-2 : goal.returns-then-not-amounts-2
 unfolding holds
 returns-then-not-amounts-2 c =
-    rw (et-pass c.before.before.before, fails (r-is c.before) c.if-not-amounts-2.true-raw)
+    rw (et-pass c.before.before.before, sym (r-is c.before) ∙ c.if-not-amounts-2.true)
 
 pub returns-then-not-amounts-3 : goal.returns-then-not-amounts-3
 unfolding holds
 returns-then-not-amounts-3 c =
-    rw (et-pass c.before.before.before.before.before.before.before, r-pass c.before.before.before.before, fails (l-is c.before) c.if-not-amounts-3.true-raw)
+    rw (et-pass c.before.before.before.before.before.before.before, r-pass c.before.before.before.before, sym (l-is c.before) ∙ c.if-not-amounts-3.true)
 
 pub returns-then-not-amounts-4 : goal.returns-then-not-amounts-4
 unfolding holds
 returns-then-not-amounts-4 c =
-    rw (et-pass c.before.before.before.before.before.before.before.before.before.before, r-pass c.before.before.before.before.before.before.before, l-pass c.before.before.before, fails (ro-is c.before) c.if-not-amounts-4.true-raw)
+    rw (et-pass c.before.before.before.before.before.before.before.before.before.before, r-pass c.before.before.before.before.before.before.before, l-pass c.before.before.before, sym (ro-is c.before) ∙ c.if-not-amounts-4.true)
 
 pub returns-then-not-amounts-5 : goal.returns-then-not-amounts-5
 unfolding holds
 returns-then-not-amounts-5 c =
-    rw (et-pass c.before.before.before.before.before.before.before.before.before.before.before.before.before, r-pass c.before.before.before.before.before.before.before.before.before.before, l-pass c.before.before.before.before.before.before, ro-pass c.before.before.before, fails (surface-is c.before) c.if-not-amounts-5.true-raw)
+    rw (et-pass c.before.before.before.before.before.before.before.before.before.before.before.before.before, r-pass c.before.before.before.before.before.before.before.before.before.before, l-pass c.before.before.before.before.before.before, ro-pass c.before.before.before, sym (surface-is c.before) ∙ c.if-not-amounts-5.true)
 
 pub returns : goal.returns
 unfolding holds

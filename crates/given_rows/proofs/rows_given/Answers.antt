@@ -1,23 +1,19 @@
 -- `given_rows::rows_given` meets its contract. The loop's invariant: each row passed is given. Assumes nothing.
 use borrow.Author.Rules.{rules}
-use mathlib.Core.Path.{◌≡◌, sym}
-use mathlib.Core.Bool.{Bool, true}
-use Prim.Native.Nat.{ℕ, ◌-◌, ◌≤◌}
+use mathlib.Core.Path.{◌≡◌, sym, ◌∙◌}
+use mathlib.Core.Bool.{Bool}
+use Prim.Native.Nat.{ℕ}
 use native.Mathlib.Omega.{arith}
-use Rattle.outline.proofs.Tests.{fails, passes}
 use Rattle.outline.proofs.Every.{all_none, all_more, all-spoilt}
 use Rattle.records.specs.Record.{record_at}
-use Rattle.given_rows.specs.GivenRows.{row_given, rows_given}
+use Rattle.given_rows.specs.GivenRows.{row_given}
 use Rattle.given_rows.proofs.rows_given.Goals as goal
+use Rattle.given_rows.proofs.rows_given.Goals.{Start, After-row_given, At-loop-row}
 
-abbrev test : goal.Start → ℕ → Bool
+abbrev test : Start → ℕ → Bool
 test s = let a = s.args in λ i. row_given a.capacity (record_at a.records.now i)
 
--- from the row's test back to the loop
-abbrev at_row : goal.After-row_given → goal.At-loop-row
-at_row c = c.before.before
-
-row_is : (c : goal.After-row_given) → c.row_given.result ≡ test c.before.before.before c.loop-row.row
+row_is : (c : After-row_given) → c.row_given.result ≡ test c.before.before.before c.loop-row.row
 row_is c = c.row_given.ensures
 
 pub loop-row-init : goal.loop-row-init
@@ -31,7 +27,7 @@ row_given-requires c = (c.requires.0, c.requires.1, omega arith)
 
 pub returns-then-not-row_given : goal.returns-then-not-row_given
 returns-then-not-row_given c =
-    sym (all-spoilt (test c.before.before.before.before) c.args.months c.loop-row.row (omega arith) (fails (row_is c.before) c.if-not-row_given.true-raw))
+    sym (all-spoilt (test c.before.before.before.before) c.args.months c.loop-row.row (omega arith) (sym (row_is c.before) ∙ c.if-not-row_given.true))
 
 pub overflow_add-row : goal.overflow_add-row
 overflow_add-row c = omega arith
@@ -41,7 +37,7 @@ loop-row-smaller c = omega arith
 
 pub loop-row-preserved : goal.loop-row-preserved
 loop-row-preserved c =
-    (omega arith, all_more (test c.before.before.before.before) c.loop-row.row c.loop-row.inv.1 (passes (row_is c.before) c.if-not-row_given.false-raw))
+    (omega arith, all_more (test c.before.before.before.before) c.loop-row.row c.loop-row.invariant.1 (sym (row_is c.before) ∙ c.if-not-row_given.false))
 
 pub returns : goal.returns
 returns c =

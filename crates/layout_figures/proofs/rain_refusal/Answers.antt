@@ -1,11 +1,7 @@
 -- `layout_figures::rain_refusal`: a line of precipitation with a fault, or without one. Assumes nothing.
-use borrow.Author.Rules.{rules}
 use mathlib.Core.Path.{sym, ◌∙◌}
 use Rattle.layout_figures.proofs.Refusals.{rain-at-fault, rain-faultless}
 use Rattle.layout_figures.proofs.rain_refusal.Goals as goal
-
-pub fault-requires : goal.fault-requires
-fault-requires c = search rules
 
 pub returns-then-fault-ne0 : goal.returns-then-fault-ne0
 returns-then-fault-ne0 c = sym (rain-at-fault _ (λ e. c.if-fault-ne0.true (c.fault.ensures ∙ e)))

@@ -1,9 +1,8 @@
 -- `layout_figures::read`: a line that is too short is refused, as is one with a refusal, and any other's figures are those of its months. Assumes
 -- nothing.
-use borrow.Author.Rules.{rules}
 use mathlib.Core.Path.{◌≡◌, refl, sym, ap, ◌∙◌}
 use mathlib.Core.List.{List, map}
-use Prim.Native.Nat.{ℕ, zero, suc, ◌≤◌, ◌<◌}
+use Prim.Native.Nat.{ℕ, zero, suc, ◌≤◌}
 use native.Mathlib.Omega.{arith}
 use lib.Count.{ones}
 use lib.IntN.{ℤ}
@@ -40,28 +39,16 @@ told_is line hs s gap a e g =
     let p = seen-present (figures_of line) s e in
     rw (g, p, a, ones-count (map is_present (figures_of line)), lowest-first (map is_present (figures_of line)) (flags-twelve line))
 
-pub refused-requires : goal.refused-requires
-refused-requires c = search rules
-
 pub returns-then-line-lt-LAST_COLUMN : goal.returns-then-line-lt-LAST_COLUMN
 unfolding figures_said
 returns-then-line-lt-LAST_COLUMN c =
     let a = c.args in
     c.refused.ensures ∙ sym (ap (λ (k : ℕ). answered k (figures_of a.line.now)) (too_short a.line.now _ _ _ _ c.if-line-lt-LAST_COLUMN.true))
 
-pub slice_bounds-read_figures-end : goal.slice_bounds-read_figures-end
-slice_bounds-read_figures-end c = search rules
-
-pub read_figures-seen-requires : goal.read_figures-seen-requires
-read_figures-seen-requires c = search rules
-
 pub line_refusal-number-requires : goal.line_refusal-number-requires
 unfolding some_malformed
 line_refusal-number-requires c =
-    (c.if-line-lt-LAST_COLUMN.false, seen-malformed (figures_of _) c.read_figures-seen.result c.read_figures-seen.ensures.value)
-
-pub refused-requires-then-number-ne0 : goal.refused-requires-then-number-ne0
-refused-requires-then-number-ne0 c = search rules
+    record { last_column_in_bounds = c.if-line-lt-LAST_COLUMN.false; malformed_value = seen-malformed (figures_of c.args.line.now) c.read_figures-seen.result c.read_figures-seen.ensures.value }
 
 pub returns-then-number-ne0 : goal.returns-then-number-ne0
 unfolding figures_said

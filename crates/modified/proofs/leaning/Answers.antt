@@ -101,9 +101,6 @@ overflow_cast-w c = let r = w-read c in (r.not-below, r.it-fits)
 pub lacking-d-requires : goal.lacking-d-requires
 lacking-d-requires c = search rooms
 
-abbrev given : goal.After-lacking-d → goal.Start
-given c = c.before.before.before.before
-
 d-read : (c : goal.After-lacking-d) → Read c.lacking-d.result (d c.before.before.before.before)
 d-read c =
     let e : c.lacking-d.result ≡ lacking_of c.args.wet c.args.x3 c.args.z = c.lacking-d.ensures ∙ (search rooms) in
@@ -113,8 +110,11 @@ pub overflow_cast-d : goal.overflow_cast-d
 overflow_cast-d c = let r = d-read c in (r.not-below, r.it-fits)
 
 -- ---- their mixture, turned back
+bounds : (c : goal.After-lacking-d) → let s = c.before.before.before.before in Weighed (high s) (low s) (w s) (d s)
+bounds c = weighed c.before.before.before.before
+
 pub between-requires : goal.between-requires
-between-requires c = rw ((high_read c.before.before.before).is, (low_read c.before.before).is, (w-read c.before).is, (d-read c).is) (weighed c.before.before.before.before)
+between-requires c = rw ((high_read c.before.before.before).is, (low_read c.before.before).is, (w-read c.before).is, (d-read c).is) (bounds c)
 
 value-is : (c : goal.After-between) → c.between.result ≡ valued c.before.before.before.before.before
 value-is c = rw ((high_read c.before.before.before.before).is, (low_read c.before.before.before).is, (w-read c.before.before).is, (d-read c.before).is) at c.between.ensures

@@ -1,30 +1,14 @@
 -- `sums::shares_of` meets its contract: no share passes what its range lets in, so each fits. Assumes nothing.
-use borrow.Author.Rules.{rules}
 use native.Mathlib.Omega.{arith}
 use Rattle.given_rows.specs.Facts.{most_years}
 use Rattle.sums.proofs.SumLaws.{alpha-most, beta-most, delta-most}
 use Rattle.sums.proofs.shares_of.Goals as goal
 
-pub share-requires : goal.share-requires
-share-requires c = search rules
-
 pub overflow_cast-result : goal.overflow_cast-result
 overflow_cast-result c = omega (arith, c.share.ensures, alpha-most c.args.s most_years c.requires.sums_fit)
 
-pub share-requires-2 : goal.share-requires-2
-share-requires-2 c = search rules
-
 pub overflow_cast-result-2 : goal.overflow_cast-result-2
 overflow_cast-result-2 c = omega (arith, c.share-2.ensures, beta-most c.args.s most_years c.requires.sums_fit)
-
-pub share-requires-3 : goal.share-requires-3
-share-requires-3 c = search rules
-
-pub overflow_cast-result-3 : goal.overflow_cast-result-3
-overflow_cast-result-3 c = search rules
-
-pub share-requires-4 : goal.share-requires-4
-share-requires-4 c = search rules
 
 pub overflow_cast-result-4 : goal.overflow_cast-result-4
 overflow_cast-result-4 c = omega (arith, c.share-4.ensures, delta-most c.args.s most_years c.requires.sums_fit)

@@ -1,8 +1,7 @@
 -- `sums::sums_of` meets its contract. The loop's invariant: the sums but PR's are those of the years passed; PR's is then what is left of the
 -- capacities. Assumes nothing.
-use borrow.Author.Rules.{rules}
 use mathlib.Core.Path.{◌≡◌, refl, ◌∙◌}
-use Prim.Native.Nat.{ℕ, ◌+◌, ◌-◌, ◌*◌, ◌≤◌, ◌<◌}
+use Prim.Native.Nat.{ℕ, ◌+◌, ◌-◌, ◌*◌, ◌<◌}
 use native.Mathlib.Nat.{mul-le-mul}
 use native.Mathlib.Omega.{arith}
 use Rattle.given_rows.specs.Facts.{RowFits}
@@ -11,12 +10,13 @@ use Rattle.sums.specs.Sums.{row_in, sums_of}
 use Rattle.sums.specs.SumsFit.{without_pr, most_before}
 use Rattle.sums.proofs.SumLaws.{rows_fit, sums_none, sums-more, pr-rest, sums-fit, fit-within}
 use Rattle.sums.proofs.sums_of.Goals as goal
+use Rattle.sums.proofs.sums_of.Goals.{Start, After-loop-y}
 
 -- the rows of the years, each of which fits
-abbrev row : goal.Start → ℕ → WaterRow
+abbrev row : Start → ℕ → WaterRow
 row c = row_in c.args.capacity c.args.records.now c.args.at
 
-fits : (c : goal.Start) (y : ℕ) → y < c.args.years → RowFits (row c y)
+fits : (c : Start) (y : ℕ) → y < c.args.years → RowFits (row c y)
 fits c = rows_fit c.args.capacity c.args.records.now c.args.at c.args.years c.requires
 
 pub loop-y-init : goal.loop-y-init
@@ -24,9 +24,6 @@ loop-y-init c = (omega arith, sums_none (row c))
 
 pub overflow_mul-row : goal.overflow_mul-row
 overflow_mul-row c = omega (arith, c.requires.few)
-
-pub overflow_cast-row : goal.overflow_cast-row
-overflow_cast-row c = search rules
 
 pub overflow_add-row : goal.overflow_add-row
 overflow_add-row c = omega (arith, c.requires.inside c.loop-y.y c.loop-y-test.true)
@@ -37,8 +34,11 @@ water_at-w-requires c =
 
 pub plus-s-requires : goal.plus-s-requires
 plus-s-requires c =
-    let h = c.loop-y-test.true in
-    (rw c.loop-y.invariant.1 (fit-within (sums_of (row c.before.before.before) c.loop-y.y) c.loop-y.y most_before (omega (arith, c.requires.few)) (sums-fit (row c.before.before.before) c.loop-y.y (λ y b. fits c.before.before.before y (omega arith)))), rw c.water_at-w.ensures (fits c.before.before.before c.loop-y.y h))
+    let st = (goal.at.plus-s-requires c).Start in
+    record {
+      within = rw c.loop-y.invariant.1 (fit-within (sums_of (row st) c.loop-y.y) c.loop-y.y most_before (omega (arith, c.requires.few)) (sums-fit (row st) c.loop-y.y (λ y b. fits st y (omega arith))));
+      row_fits = rw c.water_at-w.ensures (fits st c.loop-y.y c.loop-y-test.true);
+    }
 
 pub overflow_add-y : goal.overflow_add-y
 overflow_add-y c = omega arith
@@ -48,15 +48,15 @@ loop-y-smaller c = omega arith
 
 pub loop-y-preserved : goal.loop-y-preserved
 loop-y-preserved c =
-    (omega arith, sums-more (row c.before.before.before.before) c.loop-y.y c.loop-y.s c.plus-s.result c.loop-y.invariant.1 (rw c.water_at-w.ensures at c.plus-s.ensures))
+    (omega arith, sums-more (row (goal.at.loop-y-preserved c).Start) c.loop-y.y c.loop-y.s c.plus-s.result c.loop-y.invariant.1 (rw c.water_at-w.ensures at c.plus-s.ensures))
 
 -- after the last year
-done : (c : goal.After-loop-y) → c.loop-y.s ≡ without_pr (sums_of (row c.before.before) c.args.years)
+done : (c : After-loop-y) → c.loop-y.s ≡ without_pr (sums_of (row_in c.args.capacity c.args.records.now c.args.at) c.args.years)
 done c =
     let e : c.loop-y.y ≡ c.args.years = omega arith in
     rw e at c.loop-y.invariant.1
 
-shared : (c : goal.Start) → let t = sums_of (row c) c.args.years in t.pr + t.pro ≡ c.args.capacity * c.args.years
+shared : (c : Start) → let t = sums_of (row c) c.args.years in t.pr + t.pro ≡ c.args.capacity * c.args.years
 shared c = pr-rest (row c) c.args.capacity (λ y. refl) c.args.years (fits c)
 
 pub overflow_mul-capacity : goal.overflow_mul-capacity
@@ -65,10 +65,13 @@ overflow_mul-capacity c =
     omega arith
 
 pub with_pr-requires : goal.with_pr-requires
-with_pr-requires c = rw (done c) (omega (arith, shared c.before.before))
+with_pr-requires c =
+    let at = goal.at.with_pr-requires c in
+    rw (done at.After-loop-y) (omega (arith, shared at.Start))
 
 pub returns : goal.returns
 returns c =
-    let t = sums_of (row c.before.before.before) c.args.years in
-    let e : c.args.capacity * c.args.years - t.pro ≡ t.pr = omega (arith, shared c.before.before.before) in
-    (rw (done c.before) at c.with_pr.ensures) ∙ rw e refl
+    let at = goal.at.returns c in
+    let t = sums_of (row at.Start) c.args.years in
+    let e : c.args.capacity * c.args.years - t.pro ≡ t.pr = omega (arith, shared at.Start) in
+    (rw (done at.After-loop-y) at c.with_pr.ensures) ∙ rw e refl

@@ -1,12 +1,10 @@
 -- `weighing::products` meets its contract. The loop's invariant: the sum is that of the months passed, and twelve of the largest fit 64 bits.
 -- Assumes nothing.
 use mathlib.Core.Path.{◌≡◌, sym, ap, ap₂, ◌∙◌}
-use Prim.Native.Nat.{ℕ, ◌+◌, ◌-◌, ◌*◌, ◌≤◌}
+use Prim.Native.Nat.{ℕ, ◌+◌, ◌*◌}
 use native.Mathlib.Omega.{arith}
 use lib.ListN.{get_or}
 use Rattle.outline.specs.Numbers.{last_month}
-use Rattle.weighing.specs.Weighing.{products}
-use Rattle.weighing.specs.Stores.{most_product}
 use Rattle.weighing.proofs.WeightLaws.{weight-most, products-none, products-more}
 use Rattle.weighing.proofs.products.Goals as goal
 

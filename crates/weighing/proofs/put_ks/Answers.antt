@@ -1,29 +1,29 @@
 -- `weighing::put_ks` meets its contract. The loop's invariant: each K passed is in its range and stands at its place. Assumes nothing.
 use mathlib.Core.Path.{◌≡◌, sym, ap, ◌∙◌}
-use mathlib.Core.Bool.{Bool, true, false≢true}
-use Prim.Native.Nat.{ℕ, ◌-◌, ◌≤◌}
+use mathlib.Core.Bool.{Bool, false≢true}
+use Prim.Native.Nat.{ℕ}
 use native.Mathlib.Nat.{lt_of_le_of_lt}
 use native.Mathlib.Omega.{arith}
-use borrow.Author.Rules.{rules}
 use borrow.Author.Tests.{le-leb, lt-leb}
 use lib.Dec.{leb, lit<}
-use lib.IntN.{pos}
+use mathlib.Core.List.{List}
+use lib.IntN.{ℤ, pos}
 use mir.Syntax.{w32}
 use mir.Facts.{to_z_pos}
 use Rattle.outline.specs.Numbers.{last_month}
 use Rattle.outline.proofs.Every.{all_none, all_more, all-spoilt}
 use Rattle.water.specs.Constants.{most_k}
-use Rattle.weighing.specs.Weighing.{weight_at, k_of, ks_fit}
-use Rattle.weighing.specs.Stores.{ks_to}
+use Rattle.weighing.specs.Weighing.{weight_at, k_of}
 use Rattle.weighing.proofs.WeightLaws.{weight-most}
 use Rattle.weighing.proofs.SetLaws.{ks-none, ks-more}
 use Rattle.weighing.proofs.put_ks.Goals as goal
+use Rattle.weighing.proofs.put_ks.Goals.{After-nearest_unsigned-k}
 
-abbrev test : goal.Start → ℕ → Bool
-test s = let a = s.args in λ m. leb (k_of a.total (weight_at a.weights.now m)) most_k
+abbrev test : ℕ → List ℤ → ℕ → Bool
+test total weights = λ m. leb (k_of total (weight_at weights m)) most_k
 
 pub loop-m-init : goal.loop-m-init
-loop-m-init c = (omega arith, all_none (test c), ks-none c.args.total c.args.weights.now c.args.set.now)
+loop-m-init c = (omega arith, all_none (test c.args.total c.args.weights.now), ks-none c.args.total c.args.weights.now c.args.set.now)
 
 pub weight_at-requires : goal.weight_at-requires
 weight_at-requires c = (c.requires.0, c.requires.1, omega arith)
@@ -32,23 +32,15 @@ pub overflow_mul-weight_at : goal.overflow_mul-weight_at
 overflow_mul-weight_at c =
     omega (arith, c.weight_at.ensures, weight-most c.args.weights.now c.loop-m.m c.requires.1 (omega arith))
 
-pub nearest_unsigned-k-requires : goal.nearest_unsigned-k-requires
-nearest_unsigned-k-requires c = search rules
-
-pub overflow_cast-t-7 : goal.overflow_cast-t-7
-overflow_cast-t-7 c = search rules
-
--- from a K back to the loop, and the K is the month's
-abbrev at-k : goal.After-nearest_unsigned-k → goal.At-loop-m
-at-k c = c.before.before.before
-
-k-is : (c : goal.After-nearest_unsigned-k) → let a = c.args in c.nearest_unsigned-k.result ≡ k_of a.total (weight_at a.weights.now c.loop-m.m)
+-- the K is the month's
+k-is : (c : After-nearest_unsigned-k) → let a = c.args in c.nearest_unsigned-k.result ≡ k_of a.total (weight_at a.weights.now c.loop-m.m)
 unfolding k_of
 k-is c = rw c.weight_at.ensures at c.nearest_unsigned-k.ensures
 
 pub returns-then-k : goal.returns-then-k
 returns-then-k c =
-    (sym (all-spoilt (test c.before.before.before.before.before) last_month c.loop-m.m (omega arith) (lt-leb _ _ (rw (k-is c.before) at c.if-k.true))), λ e. absurd (false≢true e))
+    let e = k-is (goal.at.returns-then-k c).After-nearest_unsigned-k in
+    record { value = sym (all-spoilt (test c.args.total c.args.weights.now) last_month c.loop-m.m (omega arith) (lt-leb _ _ (rw e at c.if-k.true))); set_after = λ t. absurd (false≢true t) }
 
 pub overflow_cast-set : goal.overflow_cast-set
 overflow_cast-set c = omega arith
@@ -74,13 +66,13 @@ loop-m-smaller c = omega arith
 pub loop-m-preserved : goal.loop-m-preserved
 loop-m-preserved c =
     let a = c.args in
-    let e = k-is c.before in (
+    let e = k-is (goal.at.loop-m-preserved c).After-nearest_unsigned-k in (
       omega arith,
-      all_more (test c.before.before.before.before.before) c.loop-m.m c.loop-m.inv.1 (le-leb _ _ (rw e at c.if-k.false)),
-      ks-more a.total a.weights.now a.set.now c.loop-m.m c.loop-m.set _ c.loop-m.inv.2 (to_z_pos w32 (lt_of_le_of_lt c.if-k.false (lit< tt)) ∙ ap pos e),
+      all_more (test c.args.total c.args.weights.now) c.loop-m.m c.loop-m.invariant.1 (le-leb _ _ (rw e at c.if-k.false)),
+      ks-more a.total a.weights.now a.set.now c.loop-m.m c.loop-m.set _ c.loop-m.invariant.2 (to_z_pos w32 (lt_of_le_of_lt c.if-k.false (lit< tt)) ∙ ap pos e),
     )
 
 pub returns : goal.returns
 returns c =
     let e : c.loop-m.m ≡ last_month = omega arith in
-    (sym (rw e at c.loop-m.invariant.1), λ t. rw e at c.loop-m.invariant.2)
+    record { value = sym (rw e at c.loop-m.invariant.1); set_after = λ t. rw e at c.loop-m.invariant.2 }

@@ -1,14 +1,14 @@
 -- `weighing::weights_fit` meets its contract. The loop's invariant: whether the weights passed are in range is known. Assumes nothing.
 use mathlib.Core.Path.{◌≡◌, refl}
 use mathlib.Core.Bool.{Bool, not, not-not}
-use Prim.Native.Nat.{ℕ, ◌-◌, ◌≤◌}
+use Prim.Native.Nat.{ℕ}
 use native.Mathlib.Omega.{arith}
-use lib.IntN.{pos}
+use mathlib.Core.List.{List}
+use lib.IntN.{ℤ, pos}
 use lib.ListN.{get_or}
 use mir.Syntax.{w32}
 use mir.Val.{SFits}
 use mir.Facts.{to_z-of_z}
-use borrow.Author.Rules.{rules}
 use Rattle.outline.specs.Numbers.{last_month}
 use Rattle.outline.proofs.Every.{all_none, bad-on}
 use Rattle.exact.proofs.Held.{held}
@@ -16,27 +16,22 @@ use Rattle.water.specs.Constants.{most_k}
 use Rattle.kept_rows.specs.KeptRows.{amount_fits}
 use Rattle.weighing.specs.Weighing.{weights_fit}
 use Rattle.weighing.proofs.weights_fit.Goals as goal
+use Rattle.weighing.proofs.weights_fit.Goals.{After-beyond-bad}
 
-abbrev test : goal.Start → ℕ → Bool
-test s = λ m. amount_fits most_k (get_or s.args.weights.now m (pos 0))
+abbrev test : List ℤ → ℕ → Bool
+test weights = λ m. amount_fits most_k (get_or weights m (pos 0))
 
-number_is : (c : goal.After-beyond-bad) → c.beyond-bad.result ≡ not (test c.before.before.before.before c.loop-m.m)
+number_is : (c : After-beyond-bad) → c.beyond-bad.result ≡ not (test c.args.weights.now c.loop-m.m)
 unfolding amount_fits
 number_is c =
     let f : SFits w32 (get_or c.args.weights.now c.loop-m.m (pos 0)) = search held in
     rw (to_z-of_z f) at c.beyond-bad.ensures
 
 pub loop-m-init : goal.loop-m-init
-loop-m-init c = (omega arith, rw (all_none (test c)) refl)
-
-pub offset_bounds-weights-m : goal.offset_bounds-weights-m
-offset_bounds-weights-m c = search rules
+loop-m-init c = (omega arith, rw (all_none (test c.args.weights.now)) refl)
 
 pub bounds-weights-m : goal.bounds-weights-m
 bounds-weights-m c = omega arith
-
-pub beyond-bad-requires : goal.beyond-bad-requires
-beyond-bad-requires c = search rules
 
 pub overflow_add-m : goal.overflow_add-m
 overflow_add-m c = omega arith
@@ -46,7 +41,7 @@ loop-m-smaller c = omega arith
 
 pub loop-m-preserved : goal.loop-m-preserved
 loop-m-preserved c =
-    (omega arith, bad-on (test c.before.before.before.before) c.loop-m.m c.loop-m.bad c.beyond-bad.result c.loop-m.invariant.1 (number_is c))
+    (omega arith, bad-on (test c.args.weights.now) c.loop-m.m c.loop-m.bad c.beyond-bad.result c.loop-m.invariant.1 (number_is (goal.at.loop-m-preserved c).After-beyond-bad))
 
 pub returns : goal.returns
 returns c =

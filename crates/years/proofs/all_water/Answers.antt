@@ -1,7 +1,7 @@
 -- `years::all_water` meets its contract. The loop's invariant: whether each month passed had water is known. Assumes nothing.
 use mathlib.Core.Path.{◌≡◌, refl, ap, ◌∙◌}
 use mathlib.Core.Bool.{Bool, not, not-not}
-use Prim.Native.Nat.{ℕ, ◌+◌, ◌-◌, ◌≤◌}
+use Prim.Native.Nat.{ℕ, ◌+◌}
 use native.Mathlib.Omega.{arith}
 use lib.Dec.{eqb}
 use mir.Syntax.{w32}
@@ -16,10 +16,6 @@ use Rattle.years.proofs.all_water.Goals as goal
 
 abbrev had : goal.Start → ℕ → Bool
 had s = let a = s.args in λ k. had_water (record_at a.records.now (a.first + k))
-
--- from the test of a month back to the loop
-abbrev at-month : goal.After-struct_told-1 → goal.At-loop-k
-at-month t = t.before.before.before.before
 
 -- the test of its mark
 test-is : (t : goal.After-struct_told-1) → eqb (of_z w32 t.record_at-m.result.water) 1 ≡ had t.before.before.before.before.before t.loop-k.k
@@ -48,7 +44,7 @@ loop-k-smaller c = omega arith
 
 pub loop-k-preserved : goal.loop-k-preserved
 loop-k-preserved c =
-    (omega arith, bad-on (had c.before.before.before.before.before) c.loop-k.k c.loop-k.bad _ c.loop-k.inv.1 (ap not (test-is c)))
+    (omega arith, bad-on (had c.before.before.before.before.before) c.loop-k.k c.loop-k.bad _ c.loop-k.invariant.1 (ap not (test-is c)))
 
 pub returns : goal.returns
 returns c =

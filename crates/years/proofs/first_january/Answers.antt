@@ -9,7 +9,7 @@ pub overflow_add-result : goal.overflow_add-result
 overflow_add-result c = search rules
 
 pub overflow_sub-result : goal.overflow_sub-result
-overflow_sub-result c = let h = calendar-is c.args.calendar c.pre in omega arith
+overflow_sub-result c = let h = calendar-is c.args.calendar c.requires in omega arith
 
 pub returns : goal.returns
 unfolding first_january
