@@ -1,8 +1,8 @@
 # To be read by the wrappers, which set `name` and `help`: their arguments and input, and for host/palmer and
-# host/division the program itself, which is proved and built first where it is not yet. The program ends with status 0 whatever
-# came, so its output is held back until it has ended: the wrapper tells by it what happened, and whether it can be written.
+# host/division the program itself, which is proved and built first where it is not yet. These two end with status 0
+# whatever they say, so what they print is held back until they have ended: the wrapper tells by it what happened, and
+# whether it can be written.
 top=$(dirname "$(dirname "$(readlink -f "$0")")")
-. "$top/host/built.sh"
 
 say() {
     printf '%s: %s\n' "$name" "$*" >&2
@@ -48,19 +48,14 @@ unwritten() {
     exit 3
 }
 
-# Proves and builds the program.
+# Proves and builds the program, where it is not built yet of what stands here.
 build() {
-    command -v rt >/dev/null 2>&1 || {
-        say "rt, the Rattle kit's command, is not on this machine"
-        exit 4
-    }
-    mkdir -p "$top/target" || exit 4
-    [ -x "$top/target/bin/$name" ] || say 'proving and building first, some minutes'
-    (cd "$top" && build_program "$name" "target/$name.log") || {
-        tail -20 "$top/target/$name.log" >&2
-        say 'the program cannot be built'
-        exit 4
-    }
+    (
+        cd "$top" || exit 4
+        . host/built.sh
+        has_rt
+        build_program "$name"
+    ) || exit 4
 }
 
 # told FILE WORDS: whether a program said this on standard error.

@@ -1,29 +1,26 @@
-"""Running a program on an input that is given whole or, through a pipe, in pieces that cut lines anywhere."""
+"""Running a program on an input that is given whole or, through a pipe, in pieces that cut lines anywhere. One of rt's is
+proved and built first, where it is not built yet of what stands here."""
 import functools
 import os
 import subprocess
-import sys
 import tempfile
 import threading
 import time
 
 from stored import TOP
 
-
-@functools.cache
-def built(name):
-    """Proves and builds a program, and answers where it is."""
-    log = os.path.join('target', name + '.log')
-    words = ['sh', '-c', '. host/built.sh && build_program "$1" "$2"', 'sh', name, log]
-    os.makedirs(os.path.join(TOP, 'target'), exist_ok=True)
-    if subprocess.run(words, cwd=TOP).returncode:
-        sys.exit('%s: the program cannot be built: %s says why' % (name, log))
-    return os.path.join(TOP, 'target', 'bin', name)
+START = os.path.join(TOP, 'host', 'start')
 
 
 def command(name, *arguments):
-    """How a program that rt builds is started."""
-    return [os.path.join(TOP, 'host', 'start'), built(name), *arguments]
+    """How a program that rt built is started."""
+    return [START, os.path.join(TOP, 'target', 'bin', name), *arguments]
+
+
+@functools.lru_cache(maxsize=None)
+def build(program):
+    """Builds it, once in a run of these tests."""
+    subprocess.run([os.path.join(TOP, 'host', 'build'), os.path.basename(program)], check=True)
 
 
 def given(pipe, data, pieces):
@@ -42,6 +39,8 @@ def given(pipe, data, pieces):
 
 def printed(words, data, pieces):
     """What it prints on standard output and on standard error, as bytes, and its exit status."""
+    if words[0] == START:
+        build(words[1])
     with tempfile.TemporaryFile() as errors:
         program = subprocess.Popen(words, stdin=subprocess.PIPE, stdout=subprocess.PIPE, stderr=errors)
         writer = threading.Thread(target=given, args=(program.stdin, data, pieces))
