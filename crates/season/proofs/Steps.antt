@@ -101,20 +101,6 @@ most r cs g =
     let l = columns_are cs g.fit in
     omega (arith, l.most, (run_is r cs g).months)
 
--- ---- the lists keep their lengths
-abbrev pub SameLengths : Book → Book → Type 0
-SameLengths cs ds =
-    (length cs.x1 ≡ length ds.x1)
-    × (length cs.x2 ≡ length ds.x2)
-    × (length cs.x3 ≡ length ds.x3)
-    × (length cs.index ≡ length ds.index)
-    × (length cs.mark ≡ length ds.mark)
-    × (length cs.records ≡ length ds.records)
-    × (length cs.v ≡ length ds.v)
-
-pub lengths-then : (bs cs ds : Book) → SameLengths bs cs → SameLengths cs ds → SameLengths bs ds
-lengths-then bs cs ds p q = (p.0 ∙ q.0, p.1 ∙ q.1, p.2 ∙ q.2, p.3 ∙ q.3, p.4 ∙ q.4, p.5 ∙ q.5, p.6 ∙ q.6)
-
 -- ---- a pass: what the single add left, in the code's terms
 module _ (ps pes : List ℤ) (same : length ps ≡ length pes) (s : Season) (cs : Book) (i : ℕ) (h : i < length ps) (a : Added) (ds : Book)
     (e : result_of a ds ≡ single (season_result s cs) (get_or ps i (pos 0)) (get_or pes i (pos 0))) where

@@ -1,7 +1,6 @@
 -- A month of the lists as a single add: what a list's -1 says, and the refusals that are left once 1 and 7 have been asked for. Assumes nothing.
-use mathlib.Core.Logic.{inl, inr}
 use mathlib.Core.Path.{◌≡◌, refl, sym, ap, ◌∙◌}
-use mathlib.Core.List.{List, [], ◌∷◌}
+use mathlib.Core.List.{List}
 use Prim.Native.Nat.{ℕ, zero, suc}
 use native.Mathlib.Omega.{arith}
 use lib.IntN.{ℤ, pos, negsuc}
@@ -9,10 +8,7 @@ use Rattle.door.specs.Outcome.{trace, Outcome, outcome, kinds_of}
 use Rattle.door.specs.Readings.{reading}
 use Rattle.door.specs.declared.Answer.{Answer}
 use Rattle.door.specs.declared.Answer.TheVariants.{Water, Trace, NoReading, NotAcceptable}
-use Rattle.door.specs.contracts.Answer.{the_type}
 use Rattle.door.proofs.Traces.{whole-no-trace}
-use denote.Enum.Declared.{tag_of}
-use types.Run.{OneOf}
 use Rattle.door.specs.declared.Reading.{Reading}
 use Rattle.door.specs.declared.Reading.TheVariants.{Whole, Missing}
 use Rattle.outline.specs.Refusals.{or_else}
@@ -51,8 +47,8 @@ listed-no-trace (negsuc zero) h = omega arith
 listed-no-trace (negsuc (suc n)) h = whole-no-trace (negsuc (suc n)) h
 
 -- so where its answer is not water, that has a refusal's number
-pub not-water : (a : Answer) (n : ℤ) → outcome a ≡ reading (listed n) → OneOf (1 ∷ 2 ∷ 3 ∷ []) (tag_of the_type a) → (outcome a).number ≡ 0 → ⊥
-not-water (Water m) n f t e = elim t [ inl h ↦ omega arith | inr h ↦ elim h [ inl h ↦ omega arith | inr h ↦ omega arith ] ]
+pub not-water : (a : Answer) (n : ℤ) → outcome a ≡ reading (listed n) → ((m : ℕ) → a ≡ Water m → ⊥) → (outcome a).number ≡ 0 → ⊥
+not-water (Water m) n f t e = t m refl
 not-water Trace n f t e = listed-no-trace n (sym (ap (λ (o : Outcome). o.kind) f))
 not-water NoReading n f t e = omega arith
 not-water NotAcceptable n f t e = omega arith

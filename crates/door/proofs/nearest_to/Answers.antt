@@ -23,15 +23,6 @@ pub returns-then-exponent-lt100 : goal.returns-then-exponent-lt100
 returns-then-exponent-lt100 c =
     tiny c.args.x (held c.before) c.requires.0 c.args.per c.args.of c.requires.2 c.requires.1 c.if-exponent-lt100.true
 
-pub overflow_add-fraction : goal.overflow_add-fraction
-overflow_add-fraction c = search rules
-
-pub overflow_cast-doubled : goal.overflow_cast-doubled
-overflow_cast-doubled c = search rules
-
-pub overflow_mul-doubled : goal.overflow_mul-doubled
-overflow_mul-doubled c = search rules
-
 -- the exponent, the fraction, and the fraction times per
 abbrev exponent : goal.Else-exponent-lt100 → ℕ
 exponent c = to_bits binary32 c.args.x % 2147483648 / 8388608
@@ -61,12 +52,6 @@ overflow_mul-doubled-2 c = omega (arith, num-lt c, twice c)
 pub overflow_sub-doubled : goal.overflow_sub-doubled
 overflow_sub-doubled c = omega (arith, top c)
 
-pub overflow_cast-doubled-2 : goal.overflow_cast-doubled-2
-overflow_cast-doubled-2 c = search rules
-
-pub overflow_shr-doubled : goal.overflow_shr-doubled
-overflow_shr-doubled c = search rules
-
 few : (c : goal.Else-exponent-lt100) → fraction c * (2 * c.args.per) / 2 ^ (150 - exponent c) < 2 ^ 26
 few c = rw (twice c) (shifted-lt (fraction c * c.args.per) (150 - exponent c) (num-lt c) (omega (arith, top c)))
 
@@ -75,12 +60,6 @@ overflow_cast-result c = omega (arith, few c)
 
 pub overflow_add-result : goal.overflow_add-result
 overflow_add-result c = omega (arith, few c, c.requires.3)
-
-pub overflow_mul-result : goal.overflow_mul-result
-overflow_mul-result c = search rules
-
-pub nonzero_div-result : goal.nonzero_div-result
-nonzero_div-result c = search rules
 
 pub returns : goal.returns
 returns c =

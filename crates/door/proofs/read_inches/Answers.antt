@@ -5,7 +5,6 @@ use mathlib.Core.Bool.{true}
 use Prim.Native.Nat.{ℕ}
 use lib.Ieee.{Float, binary32, le, of_bits}
 use lib.Dec.{lit<, lit≤}
-use borrow.Author.Rules.{rules}
 use Rattle.door.specs.Exact.{above_zero, nearest_to}
 use Rattle.door.specs.Outcome.{Outcome, accepted}
 use Rattle.door.specs.Readings.{fallen, inches}
@@ -24,9 +23,6 @@ told x n p q e o f = taken_in 25 2 0x42c8_0000 (lit< tt) hundred-is 1000 1 x o n
 
 pub returns-then-n-ne0 : goal.returns-then-n-ne0
 returns-then-n-ne0 c = told c.args.x c.nearest_to-n.result c.if-x.true c.if-x-2.true c.nearest_to-n.ensures _ (not-dry c.args.x c.nearest_to-n.result c.if-n-ne0.true)
-
-pub above_zero-requires : goal.above_zero-requires
-above_zero-requires c = search rules
 
 pub returns-then-above_zero : goal.returns-then-above_zero
 returns-then-above_zero c =

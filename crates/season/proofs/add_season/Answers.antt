@@ -2,14 +2,13 @@
 -- nothing.
 use mathlib.Core.Path.{◌≡◌, refl, sym, ap, ◌∙◌}
 use mathlib.Core.Bool.{cond}
-use mathlib.Core.List.{List}
-use Prim.Native.Nat.{ℕ, suc, ◌+◌, ◌-◌, ◌*◌, ◌≤◌, ◌<◌}
+use Prim.Native.Nat.{ℕ}
 use native.Mathlib.Omega.{arith}
 use borrow.Author.Rules.{rules}
 use borrow.Author.Tests.{eqb-true}
-use lib.IntN.{ℤ, pos}
+use lib.IntN.{pos}
 use lib.Dec.{eqb}
-use lib.ListN.{length, drop, get_or}
+use lib.ListN.{length, get_or}
 use mir.Syntax.{w32}
 use mir.Val.{SFits}
 use mir.Facts.{to_z-of_z}
@@ -22,251 +21,120 @@ use Rattle.refusals.specs.Refusals.{run_refusal}
 use Rattle.refusals.proofs.Refused.{run-passes}
 use Rattle.adding.specs.Taken.{result_of}
 use Rattle.adding.specs.Progress.{added_of}
-use Rattle.runs.specs.Progress.{progress_of, run_of}
+use Rattle.runs.specs.Progress.{progress_of}
 use Rattle.adding.proofs.Readiness.{run_is}
 use Rattle.season.specs.Season.{SeasonResult, season_result, nothing, single, add_each, season_refusal, add_season}
 use Rattle.season.specs.SoFar.{begun, season_of}
 use Rattle.season.specs.declared.Season.{Season}
 use Rattle.season.specs.declared.SoFar.{SoFar}
-use Rattle.season.proofs.Steps.{most, SameLengths, lengths-then, ends, joins, breaks, good-joined, counts-joined}
+use Rattle.season.proofs.Steps.{most, ends, joins, breaks, good-joined, counts-joined}
 use Rattle.season.proofs.add_season.Goals as goal
+use Rattle.season.proofs.add_season.Goals.{After-nothing_added-s, After-add_listed-m}
 
 -- ---- before the first month
-abbrev lent : goal.Start → Book
-lent s = let a = s.args in book a.x1.now a.x2.now a.x3.now a.index.now a.mark.now a.records.now a.v.now
-
-abbrev apart : goal.After-season_refusal-number → goal.After-progress_of-at
-apart q = q.before.before.before.before.before.before.before.before.before
-
-abbrev entered : goal.After-season_refusal-number → goal.Start
-entered q = q.before.before.before.before.before
+abbrev lent : After-nothing_added-s → Book
+lent c = let a = c.args in book a.x1.now a.x2.now a.x3.now a.index.now a.mark.now a.records.now a.v.now
 
 -- what is asked and where the season begins, of the run at entry
-number_is : (q : goal.After-season_refusal-number) → q.season_refusal-number.result ≡ season_refusal q.args.run q.args.p.now q.args.pe.now (lent q.before.before.before.before.before)
-number_is q = rw q.progress_of-at.ensures at q.season_refusal-number.ensures
+number_is : (c : After-nothing_added-s) → c.season_refusal-number.result ≡ season_refusal c.args.run c.args.p.now c.args.pe.now (lent c)
+number_is c = rw c.progress_of-at.ensures at c.season_refusal-number.ensures
 
-begins : (n : goal.After-nothing_added-s) → n.nothing_added-s.result ≡ begun (progress_of n.args.run)
-begins n = n.nothing_added-s.ensures ∙ ap begun n.progress_of-at.ensures
-
-pub progress_of-at-requires : goal.progress_of-at-requires
-progress_of-at-requires c = search rules
-
-pub season_refusal-number-requires : goal.season_refusal-number-requires
-season_refusal-number-requires c = search rules
-
-pub shape_of-x1-then-number-ne0 : goal.shape_of-x1-then-number-ne0
-shape_of-x1-then-number-ne0 c = search rules
-
-pub shape_of-x2-then-number-ne0 : goal.shape_of-x2-then-number-ne0
-shape_of-x2-then-number-ne0 c = search rules
-
-pub shape_of-x3-then-number-ne0 : goal.shape_of-x3-then-number-ne0
-shape_of-x3-then-number-ne0 c = search rules
-
-pub shape_of-index-then-number-ne0 : goal.shape_of-index-then-number-ne0
-shape_of-index-then-number-ne0 c = search rules
-
-pub shape_of-mark-then-number-ne0 : goal.shape_of-mark-then-number-ne0
-shape_of-mark-then-number-ne0 c = search rules
-
-pub shape_of-records-then-number-ne0 : goal.shape_of-records-then-number-ne0
-shape_of-records-then-number-ne0 c = search rules
-
-pub shape_of-v-then-number-ne0 : goal.shape_of-v-then-number-ne0
-shape_of-v-then-number-ne0 c = search rules
-
-pub nothing_added-s-requires : goal.nothing_added-s-requires
-nothing_added-s-requires c = search rules
-
-pub season_of-requires : goal.season_of-requires
-season_of-requires c = search rules
+begins : (c : After-nothing_added-s) → c.nothing_added-s.result ≡ begun (progress_of c.args.run)
+begins c = c.nothing_added-s.ensures ∙ ap begun c.progress_of-at.ensures
 
 pub returns-then-number-ne0 : goal.returns-then-number-ne0
 unfolding add_season
 returns-then-number-ne0 c =
-    let e = number_is c.before.before.before in
+    let t = (goal.at.returns-then-number-ne0 c).After-nothing_added-s in
+    let e = number_is t in
     let n = c.if-number-ne0.true in
-    rw (c.season_of.ensures, begins c.before.before) (ap (λ (k : ℕ). season_result (nothing k c.args.run) (lent c.before.before.before.before.before.before.before.before)) e ∙ sym (is-refused (season_refusal c.args.run c.args.p.now c.args.pe.now (lent c.before.before.before.before.before.before.before.before)) _ _ (λ z. n (e ∙ z))))
+    rw (c.season_of.ensures, begins t) (ap (λ (k : ℕ). season_result (nothing k c.args.run) (lent t)) e ∙ sym (is-refused (season_refusal c.args.run c.args.p.now c.args.pe.now (lent t)) _ _ (λ z. n (e ∙ z))))
 
-passes : (e : goal.Else-number-ne0) → (length e.args.p.now ≡ length e.args.pe.now) × Good e.args.run (lent e.before.before.before.before.before.before.before)
-unfolding season_refusal
-passes e =
-    let t = eqb (length e.args.p.now) (length e.args.pe.now) in
-    let a = or-zero (cond t 0 bad_lists) (run_refusal e.args.run (lent e.before.before.before.before.before.before.before)) (sym (number_is e.before.before) ∙ e.if-number-ne0.false) in
-    (eqb-true _ _ (cond-zero t 0 a.0), run-passes e.args.run (lent e.before.before.before.before.before.before.before) a.1)
+-- with nothing refused before the first month, the lists are of one length, the run is good, and all is what the months make
+module _ (c : After-nothing_added-s) (z : c.season_refusal-number.result ≡ 0) where
+  passes : (length c.args.p.now ≡ length c.args.pe.now) × Good c.args.run (lent c)
+  unfolding season_refusal
+  passes =
+      let t = eqb (length c.args.p.now) (length c.args.pe.now) in
+      let a = or-zero (cond t 0 bad_lists) (run_refusal c.args.run (lent c)) (sym (number_is c) ∙ z) in
+      (eqb-true _ _ (cond-zero t 0 a.0), run-passes c.args.run (lent c) a.1)
+
+  whole : (w : SeasonResult) → w ≡ add_each (season_result (season_of c.nothing_added-s.result 0 c.args.run.constants) (lent c)) c.args.p.now c.args.pe.now → w ≡ add_season c.args.run c.args.p.now c.args.pe.now (lent c)
+  unfolding add_season
+  whole w h = h ∙ rw (begins c) (sym (is-done _ _ _ (sym (number_is c) ∙ z)))
 
 pub loop-i-init : goal.loop-i-init
 loop-i-init c =
-    let n = begins c.before in
-    let g = (passes c).1 in
-    let s = entered c.before.before in
-    let f = run_is s.args.run (lent s) g in
-    (omega arith, refl, rw n g, rw n (omega (arith, f.opens)), rw n (omega arith), (refl, refl, refl, refl, refl, refl, refl))
-
-abbrev start : goal.At-loop-i → goal.Start
-start a = entered a.before.before.before
-
--- a place in the lists, counted in bytes
-place : (l : goal.In-loop-i) → l.loop-i.i * 4 < 9223372036854775808
-place l = omega (arith, l.loop-i-test.true, l.good.1.0.1)
-
-pub offset_bounds-p-i : goal.offset_bounds-p-i
-offset_bounds-p-i c = record { fits = omega (arith, place c.before) }
-
-pub bounds-p-i : goal.bounds-p-i
-bounds-p-i c = search rules
-
-pub offset_bounds-pe-i : goal.offset_bounds-pe-i
-offset_bounds-pe-i c = record { fits = omega (arith, place c.before.before) }
+    let t = (goal.at.loop-i-init c).After-nothing_added-s in
+    let n = begins t in
+    let g = (passes t c.if-number-ne0.false).1 in
+    let f = run_is c.args.run (lent t) g in
+    (omega arith, refl, rw n g, rw n (omega (arith, f.opens)), rw n (omega arith))
 
 pub bounds-pe-i : goal.bounds-pe-i
 bounds-pe-i c =
-    omega (arith, c.loop-i-test.true, (passes c.before.before.before.before).0)
+    let e = (passes (goal.at.bounds-pe-i c).After-nothing_added-s c.if-number-ne0.false).0 in
+    omega (arith, c.loop-i-test.true)
 
 pub add_listed-m-requires : goal.add_listed-m-requires
 add_listed-m-requires c = c.loop-i.invariant.2
 
--- with nothing refused before the first month, all is what the months make
-whole : (e : goal.Else-number-ne0) (w : SeasonResult)
-    → let q = e.before in
-    let s = entered q.before in
-    w ≡ add_each (season_result (season_of q.nothing-added.result 0 s.args.run.constants) (lent s)) s.args.p.now s.args.pe.now → w ≡ add_season s.args.run s.args.p.now s.args.pe.now (lent s)
-unfolding add_season
-whole e w h =
-    let q = e.before in
-    let z = e.if1.false in
-    let k = number_is q.before in
-    h ∙ rw (begins q) (sym (is-done _ _ _ (sym k ∙ z)))
-
 -- ---- a pass
-abbrev inside : goal.After-add_listed-m → goal.In-loop-i
-inside t = t.before.before.before.before.before.before.before.before.before.before.before.before
-
-abbrev so_far : goal.At-loop-i → Book
-so_far a = let l = a.loop-i in book l.x1 l.x2 l.x3 l.index l.mark l.records l.v
+abbrev so_far : After-add_listed-m → Book
+so_far c = let l = c.loop-i in book l.x1 l.x2 l.x3 l.index l.mark l.records l.v
 
 -- what the single add has left
-abbrev then : goal.After-add_listed-m → Book
-then t = let l = t.add_listed-m.new.1.1.1.1 in book l.0 l.1.0 l.1.1.0 l.1.1.1.0 l.1.1.1.1.0 l.1.1.1.1.1.0 l.1.1.1.1.1.1.0
+abbrev then : After-add_listed-m → Book
+then c = let n = c.add_listed-m.new in book n.x1 n.x2 n.x3 n.index n.mark n.records n.v
 
--- the run's constants, and the season before the pass
-abbrev constants : goal.At-loop-i → List ℤ
-constants a = a.args.run.constants
+-- the season before the pass
+abbrev before : After-add_listed-m → Season
+before c = season_of c.loop-i.s 0 c.args.run.constants
 
-abbrev before : goal.At-loop-i → Season
-before a = season_of a.loop-i.s 0 (constants a)
-
-abbrev ps : goal.At-loop-i → List ℤ
-ps a = a.args.p.now
-
-abbrev pes : goal.At-loop-i → List ℤ
-pes a = a.args.pe.now
-
-alone : (t : goal.After-add_listed-m)
-    → result_of (added_of t.add_listed-m.result (constants t.before.before.before.before.before.before.before.before.before.before.before.before.before)) (then t) ≡ single (season_result (before t.before.before.before.before.before.before.before.before.before.before.before.before.before) (so_far t.before.before.before.before.before.before.before.before.before.before.before.before.before)) (get_or (ps t.before.before.before.before.before.before.before.before.before.before.before.before.before) t.loop-i.i (pos 0)) (get_or (pes t.before.before.before.before.before.before.before.before.before.before.before.before.before) t.loop-i.i (pos 0))
-alone t =
-    let f : SFits w32 (get_or (ps t.before.before.before.before.before.before.before.before.before.before.before.before.before) t.loop-i.i (pos 0)) = record { sfits = t.rain-1.given } in
-    let g : SFits w32 (get_or (pes t.before.before.before.before.before.before.before.before.before.before.before.before.before) t.loop-i.i (pos 0)) = record { sfits = t.demand-1.given } in
-    rw (to_z-of_z f, to_z-of_z g) at t.add_listed-m.ensures
-
-long_kept : (t : goal.After-add_listed-m) → SameLengths (then t) (lent t.before.before.before.before.before.before.before.before.before.before.before.before.before.before.before.before.before.before.before.before.before)
-long_kept t =
-    let k = t.add_listed-m.auto.1.1.1.1 in
-    lengths-then (then t) (so_far t.before.before.before.before.before.before.before.before.before.before.before.before.before) (lent t.before.before.before.before.before.before.before.before.before.before.before.before.before.before.before.before.before.before.before.before.before) (k.0, k.1.0, k.1.1.0, k.1.1.1.0, k.1.1.1.1.0, k.1.1.1.1.1.0, k.1.1.1.1.1.1.0) t.loop-i.inv.5
+alone : (c : After-add_listed-m)
+    → result_of (added_of c.add_listed-m.result c.args.run.constants) (then c) ≡ single (season_result (before c) (so_far c)) (get_or c.args.p.now c.loop-i.i (pos 0)) (get_or c.args.pe.now c.loop-i.i (pos 0))
+alone c =
+    let f : SFits w32 (get_or c.args.p.now c.loop-i.i (pos 0)) = search rules in
+    let g : SFits w32 (get_or c.args.pe.now c.loop-i.i (pos 0)) = search rules in
+    rw (to_z-of_z f, to_z-of_z g) at c.add_listed-m.ensures
 
 -- a month that is refused
-abbrev stopped-at : goal.After-season_of-then-m-ne0 → goal.After-add_listed-m
-stopped-at c = c.before.before.before.before.before.before.before.before.before.before.before
-
-pub season_of-requires-then-m-ne0 : goal.season_of-requires-then-m-ne0
-season_of-requires-then-m-ne0 c = search rules
-
-pub shape_of-x1-then-m-ne0 : goal.shape_of-x1-then-m-ne0
-shape_of-x1-then-m-ne0 c = (long_kept c.before.before.before.before.before.before.before.before.before.before.before).0
-
-pub shape_of-x2-then-m-ne0 : goal.shape_of-x2-then-m-ne0
-shape_of-x2-then-m-ne0 c = (long_kept c.before.before.before.before.before.before.before.before.before.before.before).1
-
-pub shape_of-x3-then-m-ne0 : goal.shape_of-x3-then-m-ne0
-shape_of-x3-then-m-ne0 c = (long_kept c.before.before.before.before.before.before.before.before.before.before.before).2
-
-pub shape_of-index-then-m-ne0 : goal.shape_of-index-then-m-ne0
-shape_of-index-then-m-ne0 c = (long_kept c.before.before.before.before.before.before.before.before.before.before.before).3
-
-pub shape_of-mark-then-m-ne0 : goal.shape_of-mark-then-m-ne0
-shape_of-mark-then-m-ne0 c = (long_kept c.before.before.before.before.before.before.before.before.before.before.before).4
-
-pub shape_of-records-then-m-ne0 : goal.shape_of-records-then-m-ne0
-shape_of-records-then-m-ne0 c = (long_kept c.before.before.before.before.before.before.before.before.before.before.before).5
-
-pub shape_of-v-then-m-ne0 : goal.shape_of-v-then-m-ne0
-shape_of-v-then-m-ne0 c = (long_kept c.before.before.before.before.before.before.before.before.before.before.before).6
-
 pub returns-then-m-ne0 : goal.returns-then-m-ne0
 returns-then-m-ne0 c =
-    whole c.before.before.before.before.before.before.before.before.before.before.before.before.before.before.before.before.before.before.before.before.before.before.before.before.before _ (breaks (ps c.before.before.before.before.before.before.before.before.before.before.before.before.before.before.before.before.before.before.before.before.before.before.before.before) (pes c.before.before.before.before.before.before.before.before.before.before.before.before.before.before.before.before.before.before.before.before.before.before.before.before) (passes c.before.before.before.before.before.before.before.before.before.before.before.before.before.before.before.before.before.before.before.before.before.before.before.before.before).0 (before c.before.before.before.before.before.before.before.before.before.before.before.before.before.before.before.before.before.before.before.before.before.before.before.before) (so_far c.before.before.before.before.before.before.before.before.before.before.before.before.before.before.before.before.before.before.before.before.before.before.before.before) c.loop-i.i c.loop-i-test.taken (added_of c.add_listed-m.result (constants c.before.before.before.before.before.before.before.before.before.before.before.before.before.before.before.before.before.before.before.before.before.before.before.before)) (then c.before.before.before.before.before.before.before.before.before.before.before) (alone c.before.before.before.before.before.before.before.before.before.before.before) c.season_of-then-m-ne0.result c.if-m-ne0.true c.season_of-then-m-ne0.ensures c.loop-i.inv.1)
+    let t = (goal.at.returns-then-m-ne0 c).After-nothing_added-s in
+    let m = (goal.at.returns-then-m-ne0 c).After-add_listed-m in
+    whole t c.if-number-ne0.false _ (breaks c.args.p.now c.args.pe.now (passes t c.if-number-ne0.false).0 (before m) (so_far m) c.loop-i.i c.loop-i-test.true (added_of c.add_listed-m.result c.args.run.constants) (then m) (alone m) c.season_of-then-m-ne0.result c.if-m-ne0.true c.season_of-then-m-ne0.ensures c.loop-i.invariant.1)
 
 -- a month that is added
-abbrev pass : goal.Else-m-ne0 → goal.After-add_listed-m
-pass k = k.before.before.before.before.before.before.before.before.before.before
-
-counts : (k : goal.Else-m-ne0)
-    → let m = k.add_listed-m.result in
-    let s = k.loop-i.s in
-    (m.progress.months ≡ suc s.progress.months) × (m.settled + m.progress.opens ≤ suc s.progress.opens)
-counts k =
-    counts-joined (ps k.before.before.before.before.before.before.before.before.before.before.before.before.before.before.before.before.before.before.before.before.before.before.before) (pes k.before.before.before.before.before.before.before.before.before.before.before.before.before.before.before.before.before.before.before.before.before.before.before) (passes k.before.before.before.before.before.before.before.before.before.before.before.before.before.before.before.before.before.before.before.before.before.before.before.before).0 (before k.before.before.before.before.before.before.before.before.before.before.before.before.before.before.before.before.before.before.before.before.before.before.before) (so_far k.before.before.before.before.before.before.before.before.before.before.before.before.before.before.before.before.before.before.before.before.before.before.before) k.loop-i.i k.loop-i-test.taken (added_of k.add_listed-m.result (constants k.before.before.before.before.before.before.before.before.before.before.before.before.before.before.before.before.before.before.before.before.before.before.before)) (then k.before.before.before.before.before.before.before.before.before.before) (alone k.before.before.before.before.before.before.before.before.before.before) k.if-m-ne0.false
-
 pub joined_by-s-requires : goal.joined_by-s-requires
 joined_by-s-requires c =
-    let n = counts c in
-    let m = most (before c.before.before.before.before.before.before.before.before.before.before.before.before.before.before.before.before.before.before.before.before.before.before.before).run (so_far c.before.before.before.before.before.before.before.before.before.before.before.before.before.before.before.before.before.before.before.before.before.before.before) c.loop-i.inv.2 in
-    (omega (arith, c.loop-i.inv.4, m), omega (arith, c.loop-i.inv.3, n.1, m))
-
-pub overflow_add-i : goal.overflow_add-i
-overflow_add-i c = record { fits = omega (arith, place c.before.before.before.before.before.before.before.before.before.before.before.before.before.before.before.before.before.before.before.before.before.before.before) }
-
-pub loop-i-smaller : goal.loop-i-smaller
-loop-i-smaller c = omega (arith, c.loop-i-test.taken)
+    let a = c.args in
+    let t = (goal.at.joined_by-s-requires c).After-nothing_added-s in
+    let k = (goal.at.joined_by-s-requires c).After-add_listed-m in
+    let n = counts-joined a.p.now a.pe.now (passes t c.if-number-ne0.false).0 (before k) (so_far k) c.loop-i.i c.loop-i-test.true (added_of c.add_listed-m.result a.run.constants) (then k) (alone k) c.if-m-ne0.false in
+    let m = most (before k).run (so_far k) c.loop-i.invariant.2 in
+    (omega (arith, c.loop-i.invariant.4, m), omega (arith, c.loop-i.invariant.3, n.1, m))
 
 pub loop-i-preserved : goal.loop-i-preserved
 loop-i-preserved c =
-    let e = (passes c.before.before.before.before.before.before.before.before.before.before.before.before.before.before.before.before.before.before.before.before.before.before.before.before.before).0 in
-    let m = added_of c.add_listed-m.result (constants c.before.before.before.before.before.before.before.before.before.before.before.before.before.before.before.before.before.before.before.before.before.before.before.before) in
-    let u = c.joined_by-s.ensures in
-    let n = counts c.before in (
-      omega (arith, c.loop-i-test.taken),
-      joins (ps c.before.before.before.before.before.before.before.before.before.before.before.before.before.before.before.before.before.before.before.before.before.before.before.before) (pes c.before.before.before.before.before.before.before.before.before.before.before.before.before.before.before.before.before.before.before.before.before.before.before.before) e (before c.before.before.before.before.before.before.before.before.before.before.before.before.before.before.before.before.before.before.before.before.before.before.before.before) (so_far c.before.before.before.before.before.before.before.before.before.before.before.before.before.before.before.before.before.before.before.before.before.before.before.before) c.loop-i.i c.loop-i-test.taken m (then c.before.before.before.before.before.before.before.before.before.before.before) (alone c.before.before.before.before.before.before.before.before.before.before.before) (season_of c.joined_by-s.result 0 (constants c.before.before.before.before.before.before.before.before.before.before.before.before.before.before.before.before.before.before.before.before.before.before.before.before)) c.if-m-ne0.false (ap (λ (g : SoFar). season_of g 0 (constants c.before.before.before.before.before.before.before.before.before.before.before.before.before.before.before.before.before.before.before.before.before.before.before.before)) u) c.loop-i.inv.1,
-      rw u (good-joined (ps c.before.before.before.before.before.before.before.before.before.before.before.before.before.before.before.before.before.before.before.before.before.before.before.before) (pes c.before.before.before.before.before.before.before.before.before.before.before.before.before.before.before.before.before.before.before.before.before.before.before.before) e (before c.before.before.before.before.before.before.before.before.before.before.before.before.before.before.before.before.before.before.before.before.before.before.before.before) (so_far c.before.before.before.before.before.before.before.before.before.before.before.before.before.before.before.before.before.before.before.before.before.before.before.before) c.loop-i.i c.loop-i-test.taken m (then c.before.before.before.before.before.before.before.before.before.before.before) (alone c.before.before.before.before.before.before.before.before.before.before.before) c.if-m-ne0.false),
-      rw u (omega (arith, c.loop-i.inv.3, n.0, n.1)),
-      rw u (omega (arith, c.loop-i.inv.4, n.0)),
-      long_kept c.before.before.before.before.before.before.before.before.before.before.before,
+    let a = c.args in
+    let t = (goal.at.loop-i-preserved c).After-nothing_added-s in
+    let k = (goal.at.loop-i-preserved c).After-add_listed-m in
+    let e = (passes t c.if-number-ne0.false).0 in
+    let m = added_of c.add_listed-m.result a.run.constants in
+    let n = counts-joined a.p.now a.pe.now e (before k) (so_far k) c.loop-i.i c.loop-i-test.true m (then k) (alone k) c.if-m-ne0.false in
+    let u = c.joined_by-s.ensures in (
+      omega (arith, c.loop-i-test.true),
+      joins a.p.now a.pe.now e (before k) (so_far k) c.loop-i.i c.loop-i-test.true m (then k) (alone k) (season_of c.joined_by-s.result 0 a.run.constants) c.if-m-ne0.false (ap (λ (g : SoFar). season_of g 0 a.run.constants) u) c.loop-i.invariant.1,
+      rw u (good-joined a.p.now a.pe.now e (before k) (so_far k) c.loop-i.i c.loop-i-test.true m (then k) (alone k) c.if-m-ne0.false),
+      rw u (omega (arith, c.loop-i.invariant.3, n.0, n.1)),
+      rw u (omega (arith, c.loop-i.invariant.4, n.0)),
     )
-
-pub season_of-requires-2 : goal.season_of-requires-2
-season_of-requires-2 c = search rules
-
-pub shape_of-x1 : goal.shape_of-x1
-shape_of-x1 c = c.loop-i.invariant.5.0
-
-pub shape_of-x2 : goal.shape_of-x2
-shape_of-x2 c = c.loop-i.invariant.5.1
-
-pub shape_of-x3 : goal.shape_of-x3
-shape_of-x3 c = c.loop-i.invariant.5.2
-
-pub shape_of-index : goal.shape_of-index
-shape_of-index c = c.loop-i.invariant.5.3
-
-pub shape_of-mark : goal.shape_of-mark
-shape_of-mark c = c.loop-i.invariant.5.4
-
-pub shape_of-records : goal.shape_of-records
-shape_of-records c = c.loop-i.invariant.5.5
-
-pub shape_of-v : goal.shape_of-v
-shape_of-v c = c.loop-i.invariant.5.6
 
 pub returns : goal.returns
 returns c =
-    whole c.before.before.before _ (ap (λ (s : Season). season_result s (so_far c.before.before)) c.season_of-2.ensures ∙ sym (ends (ps c.before.before) (pes c.before.before) (passes c.before.before.before).0 (season_result (before c.before.before) (so_far c.before.before)) c.loop-i.i c.loop-i-test.false) ∙ c.loop-i.invariant.1)
+    let a = c.args in
+    let l = c.loop-i in
+    let t = (goal.at.returns c).After-nothing_added-s in
+    let now = book l.x1 l.x2 l.x3 l.index l.mark l.records l.v in
+    whole t c.if-number-ne0.false _ (ap (λ (s : Season). season_result s now) c.season_of-2.ensures ∙ sym (ends a.p.now a.pe.now (passes t c.if-number-ne0.false).0 (season_result (season_of l.s 0 a.run.constants) now) l.i c.loop-i-test.false) ∙ l.invariant.1)

@@ -1,27 +1,24 @@
 -- `season::season_refusal`: 1 for lists of unequal length, then the run's. Assumes nothing.
 use mathlib.Core.Path.{◌∙◌}
-use borrow.Author.Rules.{rules}
 use borrow.Author.Tests.{eq-eqb, ne_eqb}
 use Rattle.runs.specs.Progress.{run_of}
 use Rattle.refusals.specs.Book.{Book, book}
 use Rattle.refusals.proofs.Lent.{lent-records, run_lent}
 use Rattle.season.specs.Season.{season_refusal}
 use Rattle.season.proofs.season_refusal.Goals as goal
+use Rattle.season.proofs.season_refusal.Goals.{After-lent_length-n}
 
-abbrev lent : goal.Start → Book
-lent s = let a = s.args in book a.x1.now a.x2.now a.x3.now a.index.now a.mark.now a.records.now a.v.now
+abbrev lent : After-lent_length-n → Book
+lent c = let a = c.args in book a.x1.now a.x2.now a.x3.now a.index.now a.mark.now a.records.now a.v.now
 
 pub returns-then-p-pe : goal.returns-then-p-pe
 unfolding season_refusal
 returns-then-p-pe c = rw (ne_eqb _ _ c.if-p-pe.true)
 
-pub lent_length-n-requires : goal.lent_length-n-requires
-lent_length-n-requires c = search rules
-
 pub run_refusal-requires : goal.run_refusal-requires
-run_refusal-requires c = rw c.lent_length-n.ensures (lent-records (lent c.before.before.before))
+run_refusal-requires c = rw c.lent_length-n.ensures (lent-records (lent (goal.at.run_refusal-requires c).After-lent_length-n))
 
 pub returns : goal.returns
 unfolding season_refusal
 returns c =
-    rw (eq-eqb _ _ c.if-p-pe.false) ((rw c.lent_length-n.ensures at c.run_refusal.ensures) ∙ run_lent (lent c.before.before.before.before) (run_of c.args.at c.args.constants.now))
+    rw (eq-eqb _ _ c.if-p-pe.false) ((rw c.lent_length-n.ensures at c.run_refusal.ensures) ∙ run_lent (lent (goal.at.returns c).After-lent_length-n) (run_of c.args.at c.args.constants.now))

@@ -29,8 +29,8 @@ pub returns-then-not-capacity_fits : goal.returns-then-not-capacity_fits
 returns-then-not-capacity_fits c =
     let a = c.args in
     let f = c.ranges.c in
-    let t = taken a.given.now a.kept.now a.c a.ss a.su a.m c.requires.0 c.requires.1 (sym c.constants_serve.ensures ∙ c.if-not-constants_serve.false) in
-    sym (refused-4 a.given.now a.c a.ss a.su a.m t (sym (simp to_z-of_z at c.capacity_fits.ensures) ∙ c.if-not-capacity_fits.true))
+    let so-far = taken a.given.now a.kept.now a.c a.ss a.su a.m c.requires.0 c.requires.1 (sym c.constants_serve.ensures ∙ c.if-not-constants_serve.false) in
+    sym (refused-4 a.given.now a.c a.ss a.su a.m so-far (sym (simp to_z-of_z at c.capacity_fits.ensures) ∙ c.if-not-capacity_fits.true))
 
 pub storages_fit-requires : goal.storages_fit-requires
 storages_fit-requires c = sym c.capacity_fits.ensures ∙ c.if-not-capacity_fits.false

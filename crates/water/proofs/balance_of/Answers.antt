@@ -1,14 +1,7 @@
 -- `water::balance_of` meets its contract, by its branch. Assumes nothing.
-use borrow.Author.Rules.{rules}
 use borrow.Author.Tests.{lt-ltb, le-ltb}
 use Rattle.water.specs.Balance.{balance_of}
 use Rattle.water.proofs.balance_of.Goals as goal
-
-pub dry_month-requires : goal.dry_month-requires
-dry_month-requires c = search rules
-
-pub wet_month-requires : goal.wet_month-requires
-wet_month-requires c = search rules
 
 pub returns-then-p-pe : goal.returns-then-p-pe
 unfolding balance_of

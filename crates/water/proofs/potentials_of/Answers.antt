@@ -1,17 +1,10 @@
 -- `water::potentials_of` meets its contract, figure by figure. What the soil holds is within its capacity. Assumes nothing.
-use borrow.Author.Rules.{rules}
 use Prim.Native.Nat.{◌≤◌}
 use native.Mathlib.Omega.{arith}
 use Rattle.water.specs.Expected.{potentials_of, potential_surface, potential_underlying}
 use Rattle.water.proofs.LayerLaws.{soil-sum, soil-under}
 use Rattle.water.proofs.WaterLaws.{under-held}
 use Rattle.water.proofs.potentials_of.Goals as goal
-
-pub smaller-pls-requires : goal.smaller-pls-requires
-smaller-pls-requires c = search rules
-
-pub overflow_sub-pe : goal.overflow_sub-pe
-overflow_sub-pe c = search rules
 
 pub under_loss-plu-requires : goal.under_loss-plu-requires
 under_loss-plu-requires c = omega (arith, soil-under c.args.s c.requires.soil_fits)

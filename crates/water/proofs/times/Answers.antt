@@ -1,5 +1,4 @@
 -- `water::times` meets its contract: the product of the two largest `u32` fits a `u64`. Assumes nothing.
-use borrow.Author.Rules.{rules}
 use Prim.Native.Nat.{ℕ, ◌≤◌}
 use native.Mathlib.Nat.{mul-le-mul}
 use native.Mathlib.Omega.{arith}
@@ -12,6 +11,3 @@ most f = omega arith
 
 pub overflow_mul-result : goal.overflow_mul-result
 overflow_mul-result c = omega (arith, mul-le-mul (most c.ranges.a) (most c.ranges.b))
-
-pub returns : goal.returns
-returns c = search rules

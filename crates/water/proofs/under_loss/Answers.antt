@@ -1,5 +1,4 @@
 -- `water::under_loss` meets its contract: each number on the way fits a `u32`, and the part is the nearest. Assumes nothing.
-use borrow.Author.Rules.{rules}
 use mathlib.Core.Path.{ap, sym, ◌∙◌}
 use Prim.Native.Nat.{ℕ, ◌*◌, ◌≤◌, min}
 use native.Mathlib.Nat.{mul-le-mul}
@@ -19,12 +18,6 @@ overflow_mul-part c = omega (arith, product c)
 
 pub overflow_add-part : goal.overflow_add-part
 overflow_add-part c = omega (arith, product c)
-
-pub nonzero_div-part-2 : goal.nonzero_div-part-2
-nonzero_div-part-2 c = search rules
-
-pub smaller-requires : goal.smaller-requires
-smaller-requires c = search rules
 
 pub returns : goal.returns
 unfolding under_loss
