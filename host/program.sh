@@ -1,7 +1,7 @@
 # To be read by the wrappers, which set `name` and `help`: their arguments and input, and for host/palmer and
-# host/division the program itself, which is proved and built first where it is not yet. The language has no exit status,
-# so that program's output is held back until it has ended: the wrapper tells by it what happened, and whether it can be
-# written.
+# host/division the program itself, which is proved and built first where it is not yet. These two end with status 0
+# whatever they say, so what they print is held back until they have ended: the wrapper tells by it what happened, and
+# whether it can be written.
 top=$(dirname "$(dirname "$(readlink -f "$0")")")
 
 say() {
@@ -48,19 +48,14 @@ unwritten() {
     exit 3
 }
 
-# Proves and builds the program. rt itself sees what has not changed.
+# Proves and builds the program, where it is not built yet of what stands here.
 build() {
-    command -v rt >/dev/null 2>&1 || {
-        say "rt, the Rattle kit's command, is not on this machine"
-        exit 4
-    }
-    mkdir -p "$top/target" || exit 4
-    [ -x "$top/target/bin/$name" ] || say 'proving and building first, some minutes'
-    (cd "$top" && rt check "$name") </dev/null >"$top/target/$name.log" 2>&1 || {
-        tail -20 "$top/target/$name.log" >&2
-        say 'the program cannot be built'
-        exit 4
-    }
+    (
+        cd "$top" || exit 4
+        . host/built.sh
+        has_rt
+        build_program "$name"
+    ) || exit 4
 }
 
 # told FILE WORDS: whether a program said this on standard error.

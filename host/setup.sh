@@ -9,13 +9,8 @@
 . host/built.sh
 
 OUT=target/host
-LIBRARY=target/staticlib/libcard.a
 mkdir -p "$OUT"
-
-command -v rt >/dev/null 2>&1 || {
-    echo "setup: rt, the Rattle kit's command, is not on this machine" >&2
-    exit 4
-}
+has_rt
 
 # install PACKAGE..
 install() {
@@ -66,22 +61,7 @@ else
 fi
 provide
 
-# The files that the library is made of: rt's list of crates, and what is proved of each that `card` names there.
-sources() {
-    # shellcheck disable=SC2046
-    find crates.txt crates/card $(sed -n 's/^card: *//p' crates.txt | tr ' ' '\n' | sed 's,^,crates/,') \
-        -type f ! -path '*/must-fail/*' | sort
-}
-
-# shellcheck disable=SC2046
-is_made "$LIBRARY" library $(sources) || {
-    [ -n "${QUIET-}" ] || echo "setup: proving and building the card's library, some minutes where nothing is proved yet" >&2
-    rt staticlib card </dev/null >"$OUT/staticlib.log" 2>&1 || {
-        tail -20 "$OUT/staticlib.log" >&2
-        exit 4
-    }
-    note_made "$LIBRARY" library $(sources)
-}
+build_library
 
 # build_c SOURCE PROGRAM, build_rust SOURCE PROGRAM MODULE..: a program over the library, where it is not built yet of
 # what stands here.

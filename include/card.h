@@ -74,8 +74,8 @@
  *
  * BUILDING AND LINKING
  *
- * In the project's top folder, `rt staticlib card` proves the library and writes it to
- * target/staticlib/libcard.a. A program that includes this header, in C99 or later or in C++11 or later,
+ * In the project's top folder, `host/build card` proves the library and writes it to
+ * target/staticlib/libcard.a (by `rt lib --cpu x86-64`, in crates/card). A program that includes this header, in C99 or later or in C++11 or later,
  * is compiled and linked there with
  *
  *     cc -Iinclude program.c target/staticlib/libcard.a

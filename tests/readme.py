@@ -118,7 +118,7 @@ def groups():
     for (crate, name), head in group.items():
         if head is None:
             sys.exit('readme: crates/%s/specs/Lib.antt has %s in no group' % (crate, name))
-        used = re.findall(r'^use Rattle·(\w+?)(?:·specs)?\.specs\.(\w+)\.', text('crates', crate, 'specs', name + '.antt'), re.M)
+        used = re.findall(r'^use Rattle\.(\w+)\.specs\.(\w+)\.', text('crates', crate, 'specs', name + '.antt'), re.M)
         bad = [pair for pair in used if head == 'believed' and group.get(pair) == 'wanted']
         if bad:
             sys.exit('readme: crates/%s/specs/%s.antt must be believed, and uses what only a proof wants: %s of %s' % (crate, name, bad[0][1], bad[0][0]))

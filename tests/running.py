@@ -1,4 +1,6 @@
-"""Running a program on an input that is given whole or, through a pipe, in pieces that cut lines anywhere."""
+"""Running a program on an input that is given whole or, through a pipe, in pieces that cut lines anywhere. One of rt's is
+proved and built first, where it is not built yet of what stands here."""
+import functools
 import os
 import subprocess
 import tempfile
@@ -7,10 +9,18 @@ import time
 
 from stored import TOP
 
+START = os.path.join(TOP, 'host', 'start')
+
 
 def command(name, *arguments):
     """How a program that rt built is started."""
-    return [os.path.join(TOP, 'host', 'start'), os.path.join(TOP, 'target', 'bin', name), *arguments]
+    return [START, os.path.join(TOP, 'target', 'bin', name), *arguments]
+
+
+@functools.lru_cache(maxsize=None)
+def build(program):
+    """Builds it, once in a run of these tests."""
+    subprocess.run([os.path.join(TOP, 'host', 'build'), os.path.basename(program)], check=True)
 
 
 def given(pipe, data, pieces):
@@ -29,6 +39,8 @@ def given(pipe, data, pieces):
 
 def printed(words, data, pieces):
     """What it prints on standard output and on standard error, as bytes, and its exit status."""
+    if words[0] == START:
+        build(words[1])
     with tempfile.TemporaryFile() as errors:
         program = subprocess.Popen(words, stdin=subprocess.PIPE, stdout=subprocess.PIPE, stderr=errors)
         writer = threading.Thread(target=given, args=(program.stdin, data, pieces))

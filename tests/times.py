@@ -1,51 +1,61 @@
 #!/usr/bin/env python3
-"""What the gate's time goes to, from what it printed.
+"""What the gate's time went to, from what it printed.
 
     .ci/run >log; python3 tests/times.py <log    a table by crate
-    python3 tests/times.py --used <log           one line: what of the budget is used
+    python3 tests/times.py --used <log           two lines: what rt ci did anew, and what of the budget it used
 
-Seconds by the clock, with as many crates or edits at a time as the machine has processors: a crate's proof, and its
-must-fail edits together. The table's last line is the whole gate's.
+rt ci tells no seconds of a crate or an edit. What is told is which crates it proved in this run and which it took over
+from an earlier one, how many must-fail edits of each were refused, and, by .ci/run, the seconds of the whole of rt ci:
+by the clock, and of all processors together.
 """
 import re
 import sys
 
-# Proofs and edits added up, in seconds on two quiet x86-64 processors. docs/TESTING.md says where it comes from.
+# Proofs and edits from nothing, in seconds of all processors together. docs/TESTING.md says where it comes from.
 BUDGET = 4000
 
 
 def read(lines):
-    """Each crate's proof, its edits added up, how many they are, and the whole gate's time where it was printed."""
-    proofs, edits, counts, whole = {}, {}, {}, None
+    """Whether each crate was proved in this run, how many of its edits were refused, what rt ci says that it did, its seconds, and
+    the whole gate's where they were printed."""
+    proofs, edits, did, spent, whole = {}, {}, None, None, None
     for line in lines:
-        proved = re.match(r'rt: (\w+) proved \((\d+) s\)', line)
-        refused = re.match(r'rt: must-fail (\w+)/\w+: refused, .*; (\d+) s\)', line)
+        proved = re.match(r'rt: (\w+) (proved|is kept: .*)$', line)
+        refused = re.match(r'rt: must-fail (\w+)/\S+: refused, as it must be', line)
+        seconds = re.match(r'gate: rt ci (\d+) s, (\d+) s of processors$', line)
         if proved:
-            proofs[proved[1]] = int(proved[2])
+            proofs[proved[1]] = proved[2] == 'proved'
         if refused:
-            edits[refused[1]] = edits.get(refused[1], 0) + int(refused[2])
-            counts[refused[1]] = counts.get(refused[1], 0) + 1
+            edits[refused[1]] = edits.get(refused[1], 0) + 1
+        if line.startswith('rt: ok; '):
+            did = line.rstrip('\n').split('; ')[-2 if '; the others are kept' in line else -1]
+        if seconds:
+            spent = int(seconds[1]), int(seconds[2])
         if line.startswith('gate: ') and line.endswith(' s in all\n'):
             whole = int(line.split()[1])
-    return proofs, edits, counts, whole
+    return proofs, edits, did, spent, whole
 
 
-def used(proofs, edits):
-    spent = sum(proofs.values()) + sum(edits.values())
-    left = BUDGET - spent
-    print('gate: proofs %d s and edits %d s, %d of a budget of %d; %s' % (
-        sum(proofs.values()), sum(edits.values()), spent, BUDGET,
-        '%d are left' % left if left >= 0 else 'cut %d before anything is added' % -left))
-    name = max(proofs, key=proofs.get, default=None)
-    if name is not None:
-        print('gate: the longest proof is %s, %d s; a crate above 60 is cut' % (name, proofs[name]))
+def used(proofs, edits, did, spent):
+    print('gate: %d crates, of which %d were proved in this run; %d must-fail edits refused; rt: %s' % (
+        len(proofs), sum(proofs.values()), sum(edits.values()), did or 'not ok'))
+    if spent is None or not did:
+        print('gate: what of the budget is used is not known')
+    elif not did.startswith('every '):
+        print('gate: %d s of processors, of a budget of %d for a run that does all anew' % (spent[1], BUDGET))
+    else:
+        left = BUDGET - spent[1]
+        print('gate: %d s of processors, of a budget of %d; %s' % (
+            spent[1], BUDGET, '%d are left' % left if left >= 0 else 'cut %d before anything is added' % -left))
 
 
-def table(proofs, edits, counts, whole):
-    print('| Crate | Proof, s | Edits | Edits together, s |\n|---|---|---|---|')
-    for name, seconds in proofs.items():
-        print('| `%s` | %d | %d | %d |' % (name, seconds, counts.get(name, 0), edits.get(name, 0)))
-    print('| all | %d | %d | %d |' % (sum(proofs.values()), sum(counts.values()), sum(edits.values())))
+def table(proofs, edits, spent, whole):
+    print('| Crate | Proved in this run | Edits refused |\n|---|---|---|')
+    for name, anew in proofs.items():
+        print('| `%s` | %s | %d |' % (name, 'yes' if anew else 'earlier', edits.get(name, 0)))
+    print('| all | %d of %d | %d |' % (sum(proofs.values()), len(proofs), sum(edits.values())))
+    if spent is not None:
+        print('\nrt ci: %d s by the clock, %d s of processors.' % spent)
     if whole is not None:
         print('\nThe gate in all: %d s.' % whole)
 
@@ -55,11 +65,11 @@ def main():
     if asked not in ([], ['--used']):
         print('usage: times.py [--used] <log', file=sys.stderr)
         sys.exit(2)
-    proofs, edits, counts, whole = read(sys.stdin)
+    proofs, edits, did, spent, whole = read(sys.stdin)
     if asked:
-        used(proofs, edits)
+        used(proofs, edits, did, spent)
     else:
-        table(proofs, edits, counts, whole)
+        table(proofs, edits, spent, whole)
 
 
 if __name__ == '__main__':

@@ -30,7 +30,9 @@ class Source:
     def __init__(self, name, crate=None):
         self.text, self.crate = text(name), crate
         self.own = set(re.findall(r'^(?:pub )?(?:struct|const|type) (\w+)', self.text, re.M))
-        self.used = {word: '%s::%s' % (other, word) for other, word in re.findall(r'^use (\w+)::(\w+);', self.text, re.M)}
+        self.used = {word: '%s::%s' % (other, word)
+                     for other, words in re.findall(r'^use (\w+)::(\w+|\{[^}]*\});', self.text, re.M)
+                     for word in re.findall(r'\w+', words)}
 
     def full(self, kind):
         """A type or a number with each name in it as all sources call it: of a crate's, with the crate before it."""

@@ -4,7 +4,6 @@ use mathlib.Core.Bool.{true, false}
 use mathlib.Core.List.{List}
 use Prim.Native.Nat.{ℕ}
 use lib.IntN.{ℤ}
-use lib.ListN.{length}
 use borrow.Author.Tests.{eq-eqb, ne_eqb}
 use Rattle.outline.proofs.Refusals.{is-done, is-refused}
 use Rattle.text.specs.Bytes.{line_feed}
@@ -64,23 +63,3 @@ held line k run x1 x2 x3 index mark records v ps = state (record { line = line; 
 
 pub held_same : {l m : Line} {k j : ℕ} {r s : Run} {a1 b1 a2 b2 a3 b3 ai bi av bv : List ℤ} {am bm ps qs : List ℕ} {ar br : List (List ℤ)} → a1 ≡ b1 → a2 ≡ b2 → a3 ≡ b3 → ai ≡ bi → am ≡ bm → ar ≡ br → av ≡ bv → ps ≡ qs → l ≡ m → k ≡ j → r ≡ s → held l k r a1 a2 a3 ai am ar av ps ≡ held m j s b1 b2 b3 bi bm br bv qs
 held_same e1 e2 e3 e4 e5 e6 e7 e8 e9 e10 e11 = rw (e1, e2, e3, e4, e5, e6, e7, e8, e9, e10, e11)
-
--- ---- how long the lent lists are
-pub record Lengths : Type 0 where
-  pub x1 : ℕ
-  pub x2 : ℕ
-  pub x3 : ℕ
-  pub index : ℕ
-  pub mark : ℕ
-  pub records : ℕ
-  pub v : ℕ
-  pub percent : ℕ
-
-abbrev pub long : ℕ → ℕ → ℕ → ℕ → ℕ → ℕ → ℕ → ℕ → Lengths
-long a b c d e f g h = record { x1 = a; x2 = b; x3 = c; index = d; mark = e; records = f; v = g; percent = h }
-
-abbrev pub lengths : State → Lengths
-lengths t = let cs = t.columns in long (length cs.x1) (length cs.x2) (length cs.x3) (length cs.index) (length cs.mark) (length cs.records) (length cs.v) (length t.percents)
-
-pub long_same : {a a' b b' c c' d d' e e' f f' g g' h h' : ℕ} → a ≡ a' → b ≡ b' → c ≡ c' → d ≡ d' → e ≡ e' → f ≡ f' → g ≡ g' → h ≡ h' → long a b c d e f g h ≡ long a' b' c' d' e' f' g' h'
-long_same e1 e2 e3 e4 e5 e6 e7 e8 = rw (e1, e2, e3, e4, e5, e6, e7, e8)

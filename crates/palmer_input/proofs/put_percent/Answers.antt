@@ -3,20 +3,10 @@ use mathlib.Core.Path.{sym, ◌∙◌}
 use native.Mathlib.Omega.{arith}
 use lib.Seq.{set_out}
 use Rattle.outline.proofs.Refusals.{is-done, is-refused}
-use borrow.Author.Rules.{rules}
 use Rattle.palmer_input.proofs.put_percent.Goals as goal
 
 pub returns-then-number-ne0 : goal.returns-then-number-ne0
 returns-then-number-ne0 c = sym (is-refused _ _ _ c.if-number-ne0.true)
-
-pub offset_bounds-percent-at : goal.offset_bounds-percent-at
-offset_bounds-percent-at c = search rules
-
-pub bounds-percent-at : goal.bounds-percent-at
-bounds-percent-at c = search rules
-
-pub shape_of-percent : goal.shape_of-percent
-shape_of-percent c = search rules
 
 pub returns-then-at-percent : goal.returns-then-at-percent
 returns-then-at-percent c = sym (is-done _ _ _ c.if-number-ne0.false)

@@ -3,14 +3,7 @@ use mathlib.Core.Path.{refl, sym}
 use native.Mathlib.Omega.{arith}
 use lib.ListN.{get_or-eq_default}
 use Rattle.palmer_output.specs.Printed.{percent_at}
-use borrow.Author.Rules.{rules}
 use Rattle.palmer_output.proofs.percent_at.Goals as goal
-
-pub offset_bounds-percent-i : goal.offset_bounds-percent-i
-offset_bounds-percent-i c = search rules
-
-pub bounds-percent-i : goal.bounds-percent-i
-bounds-percent-i c = search rules
 
 pub returns-then-i-percent : goal.returns-then-i-percent
 unfolding percent_at

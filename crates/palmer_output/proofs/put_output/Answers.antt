@@ -1,5 +1,4 @@
 -- `palmer_output::put_output`: the rows where the number is 0, and otherwise the line that was refused. Assumes nothing.
-use borrow.Author.Rules.{rules}
 use mathlib.Core.Path.{◌≡◌, refl}
 use mathlib.Core.List.{List}
 use Prim.Native.Nat.{ℕ, zero, suc}
@@ -28,30 +27,16 @@ module _ (run : Run) (cs : Book) (ps o : List ℕ) (r : ℕ) (q : List ℕ) wher
   refusal-put zero line h e p = absurd (h refl)
   refusal-put (suc k) line h e p = rw (← e) (omega (arith, p.0), p.1)
 
-pub put_rows-requires : goal.put_rows-requires
-put_rows-requires c = search rules
-
-pub shape_of-out-then-number-eq0 : goal.shape_of-out-then-number-eq0
-shape_of-out-then-number-eq0 c = search rules
-
 pub returns-then-number-eq0 : goal.returns-then-number-eq0
 returns-then-number-eq0 c =
     let a = c.args in
     let e = c.put_rows.ensures in
-    (e.0, rows-put a.run (book a.x1.now a.x2.now a.x3.now a.index.now a.mark.now a.records.now a.v.now) a.percent.now a.out.now _ _ a.number (omega arith) e.1)
-
-pub line_after-requires : goal.line_after-requires
-line_after-requires c = search rules
-
-pub lay_refusal-requires : goal.lay_refusal-requires
-lay_refusal-requires c = search rules
-
-pub shape_of-out : goal.shape_of-out
-shape_of-out c = search rules
+    let p = rows-put a.run (book a.x1.now a.x2.now a.x3.now a.index.now a.mark.now a.records.now a.v.now) a.percent.now a.out.now _ _ a.number (omega arith) (e.value, e.out_after) in
+    record { upper_bound = e.upper_bound; value = p.0; out_after = p.1 }
 
 pub returns : goal.returns
 returns c =
     let a = c.args in
     let e = c.lay_refusal.ensures in
-    let l = c.line_after.ensures in
-    (omega (arith, e.1.0), refusal-put a.run (book a.x1.now a.x2.now a.x3.now a.index.now a.mark.now a.records.now a.v.now) a.percent.now a.out.now _ _ a.number _ (search rules) l (e.0, e.1.1))
+    let p = refusal-put a.run (book a.x1.now a.x2.now a.x3.now a.index.now a.mark.now a.records.now a.v.now) a.percent.now a.out.now _ _ a.number _ c.if-number-eq0.false c.line_after.ensures (e.value, e.out_after) in
+    record { upper_bound = omega (arith, e.upper_bound); value = p.0; out_after = p.1 }

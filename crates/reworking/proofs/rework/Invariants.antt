@@ -1,21 +1,10 @@
-use mathlib.Core.Path.{◌≡◌, refl, sym, ap, ◌∙◌}
-use mathlib.Core.List.{List}
-use Prim.Native.Nat.{suc, ◌-◌, ◌≤◌, ◌<◌}
-use native.Mathlib.Omega.{arith}
-use lib.IntN.{ℤ}
+use mathlib.Core.Path.{◌≡◌}
+use Prim.Native.Nat.{◌-◌, ◌≤◌}
 use Rattle.runs.specs.Progress.{run_of}
-use Rattle.runs.specs.declared.Run.{Run}
-use Rattle.records.specs.Record.{record_at}
-use Rattle.refusals.specs.Book.{Book, book, long}
-use Rattle.adding.specs.Progress.{added_of}
-use Rattle.adding.specs.Taken.{result_of}
-use Rattle.adding.specs.declared.Added.{Added}
-use Rattle.reopening.specs.Before.{opens_before, run_before, reopened}
-use Rattle.reopening.proofs.Laws.{opens-most}
-use Rattle.reworking.specs.Reworked.{left, again, reworked, reworked_from, renewed_in}
+use Rattle.refusals.specs.Book.{book}
+use Rattle.reworking.specs.Reworked.{reworked}
 use Rattle.reworking.specs.Workable.{Stands}
-use Rattle.reworking.proofs.Passes.{Recorded, SameLengths, lengths-then, ends, stands-first, recorded-first, reworks-first, months-next, stands-next, recorded-next, reworks-next}
-use Rattle.reworking.proofs.Entry.{lengths, run_fits, calendar-fits, ranges, sided, stands-begun, recorded-begun, begins}
+use Rattle.reworking.proofs.Passes.{Recorded, SameLengths}
 use Rattle.reworking.proofs.rework.Given as goal
 
 abbrev pub invariant-loop-s : goal.invariant-loop-s
@@ -26,6 +15,6 @@ invariant-loop-s l =
     × Recorded l.at.months (run_of l.s l.constants) (book l.x1 l.x2 l.x3 l.index l.mark l.records l.v)
     × SameLengths (book l.x1 l.x2 l.x3 l.index l.mark l.records l.v) (book l.initial.x1 l.initial.x2 l.initial.x3 l.initial.index l.initial.mark l.initial.records l.initial.v)
 
-abbrev pub measure-loop-s : goal.measure-loop-s
-measure-loop-s l =
+abbrev pub decreases-loop-s : goal.decreases-loop-s
+decreases-loop-s l =
     l.at.months - l.s.months

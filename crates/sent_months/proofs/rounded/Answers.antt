@@ -4,14 +4,11 @@ use native.Mathlib.Omega.{arith}
 use mir.Facts.{to_z-of_z}
 use Rattle.sent_months.specs.Signed.{size_of}
 use Rattle.sent_months.proofs.Sizes.{size-most, sent-zero, sent-some}
-use borrow.Author.Rules.{rules}
 use Rattle.sent_months.proofs.rounded.Goals as goal
+use Rattle.sent_months.proofs.rounded.Goals.{After-size_of-s}
 
-size_is : (k : goal.After-size_of-s) → k.size_of-s.result ≡ size_of k.args.thousandths
+size_is : (k : After-size_of-s) → k.size_of-s.result ≡ size_of k.args.thousandths
 size_is k = k.size_of-s.ensures ∙ ap size_of (to_z-of_z k.ranges.thousandths)
-
-pub size_of-s-requires : goal.size_of-s-requires
-size_of-s-requires c = search rules
 
 pub overflow_add-hundredths : goal.overflow_add-hundredths
 overflow_add-hundredths c =

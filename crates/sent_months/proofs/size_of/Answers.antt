@@ -6,12 +6,13 @@ use lib.Signed.{lt_z}
 use Rattle.exact.proofs.Held.{held}
 use Rattle.sent_months.proofs.Sizes.{seen-is, turned-is, minus-fits, minus-size, plus-size, size_below, size_above}
 use Rattle.sent_months.proofs.size_of.Goals as goal
+use Rattle.sent_months.proofs.size_of.Goals.{Then-wide-lt0, Else-wide-lt0}
 
 -- ---- the two tests
-below : (c : goal.Then-wide-lt0) → lt_z c.args.x (pos 0) ≡ true
+below : (c : Then-wide-lt0) → lt_z c.args.x (pos 0) ≡ true
 below c = rw (seen-is c.ranges.x) at c.if-wide-lt0.true
 
-above : (c : goal.Else-wide-lt0) → lt_z c.args.x (pos 0) ≡ false
+above : (c : Else-wide-lt0) → lt_z c.args.x (pos 0) ≡ false
 above c = rw (seen-is c.ranges.x) at c.if-wide-lt0.false
 
 pub overflow_cast-wide : goal.overflow_cast-wide
