@@ -89,22 +89,22 @@
  * The deepest stack of each call of the library in bytes, as bench/run measures it:
  *
  *     card_read                    8
- *     card_start                 312
- *     card_add_water             824
+ *     card_start                 360
+ *     card_add_water             808
  *     card_add_inches            824
- *     card_add_z                 568
- *     card_add_season           1192
- *     card_repair                840
- *     card_row                   376
- *     card_sum_month             504
- *     card_work_out             1432
- *     card_whole_series           88
+ *     card_add_z                 584
+ *     card_add_season           1144
+ *     card_repair                776
+ *     card_row                   408
+ *     card_sum_month             392
+ *     card_work_out             1352
+ *     card_whole_series          104
  *     card_write_index_line      648
  *     card_write_z_line          648
  *     card_write_modified_line   648
- *     card_read_index_line       440
- *     card_read_z_line           440
- *     card_read_modified_line    440
+ *     card_read_index_line       328
+ *     card_read_z_line           328
+ *     card_read_modified_line    328
  *
  * It is counted from the return address, which is included, down to the lowest word of 8 bytes that was
  * written by the call or by what it calls, memcpy and memset included. Not counted is what the caller
