@@ -9,9 +9,13 @@
 ghost use Rattle.std.specs.Prelude.{◌+◌, ◌≤◌, ◌<◌, length};
 
 use door::{MonthInches, Reading, Told};
-use libc::{STDIN_FILENO, STDOUT_FILENO};
+use std::io::Read;
+use std::num::f32_from_bits_with_nan;
 
 const LINE: usize = 20;
+
+// How many lines are read at most.
+const MOST_LINES: u32 = 100_000;
 
 fn digit(b: u8) -> u32
     ensures { result < 16 }
@@ -36,20 +40,15 @@ fn word(s: &[u8], at: usize) -> u32
     requires { at + 8 ≤ length s.now }
 {
     let mut n: u32 = 0;
-    let mut i = 0;
-    while i < 8 {
-        n = n % 0x1000_0000 * 16 + digit(s[at + i]);
-        i += 1;
+    for b in &s[at..at + 8] {
+        n = n % 0x1000_0000 * 16 + digit(*b);
     }
     n
 }
 
 // A pattern as the number that it stands for. The language has one NaN, so any NaN's pattern is that.
 fn float(bits: u32) -> f32 {
-    if bits % 0x8000_0000 > 0x7f80_0000 {
-        return 0.0 / 0.0;
-    }
-    f32::from_bits(bits)
+    f32_from_bits_with_nan(bits)
 }
 
 fn signed(bits: u32) -> i32 {
@@ -59,15 +58,11 @@ fn signed(bits: u32) -> i32 {
     (bits as i64 - 0x1_0000_0000) as i32
 }
 
-fn show(t: Told) {
-    io::print_decimal(STDOUT_FILENO, t.number as u64);
-    io::write_all(STDOUT_FILENO, b" ");
-    io::print_decimal(STDOUT_FILENO, t.water as u64);
-    io::write_all(STDOUT_FILENO, b" ");
-    io::print_decimal(STDOUT_FILENO, t.kind as u64);
+fn show(stdout: &impl Print, t: Told) {
+    let _ = print!(stdout; "{} {} {}", t.number, t.water, t.kind);
 }
 
-fn answer(kind: u8, first: u32, second: u32) {
+fn answer(stdout: &impl Print, kind: u8, first: u32, second: u32) {
     if kind == b'p' {
         let q = MonthInches {
             p: float(first),
@@ -76,30 +71,38 @@ fn answer(kind: u8, first: u32, second: u32) {
         let d = door::read_month(q);
         let p = d.p;
         let pe = d.pe;
-        show(p);
-        io::write_all(STDOUT_FILENO, b" ");
-        show(pe);
+        show(stdout, p);
+        let _ = print!(stdout; " ");
+        show(stdout, pe);
     } else if kind == b'w' {
-        show(door::tell(door::read(Reading::Whole(signed(first)))));
+        show(
+            stdout,
+            door::tell(door::read(Reading::Whole(signed(first)))),
+        );
     } else if kind == b'i' {
-        show(door::tell(door::read(Reading::Inches(float(first)))));
+        show(
+            stdout,
+            door::tell(door::read(Reading::Inches(float(first)))),
+        );
     } else if kind == b'm' {
-        show(door::tell(door::read(Reading::Millimetres(float(first)))));
+        show(
+            stdout,
+            door::tell(door::read(Reading::Millimetres(float(first)))),
+        );
     } else {
-        show(door::tell(door::read(Reading::Missing)));
+        show(stdout, door::tell(door::read(Reading::Missing)));
     }
-    io::write_all(STDOUT_FILENO, b"\n");
+    let _ = println!(stdout);
 }
 
-fn main() {
-    let mut line = [0u8; 20];
-    let mut left: u32 = 100_000;
-    while left > 0 {
-        let got = io::read_full(STDIN_FILENO, &mut line);
-        if got < LINE {
+fn main(rt: HostRuntime) {
+    let mut stdin = rt.stdin();
+    let stdout = rt.stdout();
+    let mut line = [0u8; LINE];
+    for _ in 0..MOST_LINES {
+        if stdin.read_exact(&mut line).is_err() {
             return;
         }
-        answer(line[0], word(&line, 2), word(&line, 11));
-        left -= 1;
+        answer(&stdout, line[0], word(&line, 2), word(&line, 11));
     }
 }

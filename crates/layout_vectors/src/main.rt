@@ -7,9 +7,8 @@
 
 ghost use Rattle.std.specs.Prelude.{◌+◌, ◌≤◌, ◌<◌, length};
 
-use fields::MONTHS;
 use layout::Year;
-use libc::{STDIN_FILENO, STDOUT_FILENO};
+use std::io::Read;
 
 // Room for the input. What does not fit is not read.
 const ROOM: usize = 262_144;
@@ -22,30 +21,25 @@ fn asked(input: &[u8], from: usize, to: usize) -> u32
     requires { to ≤ length input.now }
 {
     let mut n: u32 = 0;
-    let mut i = from;
-    while i < to {
+    for i in from..to {
         n = n % 1_000 * 10 + (input[i] % 16) as u32;
-        i += 1;
     }
     n
 }
 
-fn show(n: u32) {
-    io::write_all(STDOUT_FILENO, b" ");
-    io::print_decimal(STDOUT_FILENO, n as u64);
+fn show(stdout: &impl Print, n: u32) {
+    let _ = print!(stdout; " {n}");
 }
 
-fn show_year(year: Year) {
-    io::print_decimal(STDOUT_FILENO, year.number as u64);
-    let mut m = 0;
-    while m < MONTHS {
-        show(year.amounts[m]);
-        m += 1;
+fn show_year(stdout: &impl Print, year: Year) {
+    let _ = stdout.print(year.number);
+    for amount in &year.amounts {
+        show(stdout, *amount);
     }
-    show(year.present);
-    show(year.count);
-    show(year.first_missing);
-    io::write_all(STDOUT_FILENO, b"\n");
+    show(stdout, year.present);
+    show(stdout, year.count);
+    show(stdout, year.first_missing);
+    let _ = println!(stdout);
 }
 
 // Where the line that begins at `from` ends.
@@ -54,37 +48,49 @@ fn line_end(input: &[u8], from: usize) -> usize
     ensures lower_bound { from ≤ result }
     ensures upper_bound { result ≤ length input.now }
 {
-    let mut i = from;
-    while i < input.len() {
+    for i in from..input.len() {
         if input[i] == b'\n' {
             return i;
         }
-        i += 1;
     }
-    i
+    input.len()
 }
 
-fn answer(part: &[u8]) {
+fn answer(stdout: &impl Print, part: &[u8]) {
     if part.len() < ASKED {
         return;
     }
     let state = asked(part, 0, 2);
     let division = asked(part, 2, 4);
     let year = asked(part, 4, 8);
-    show_year(layout::read(&part[ASKED..], state, division, year));
+    show_year(stdout, layout::read(&part[ASKED..], state, division, year));
 }
 
-fn answer_all(input: &[u8]) {
+fn answer_all(stdout: &impl Print, input: &[u8]) {
     let mut from = 0;
     while from < input.len() {
         let end = line_end(input, from);
-        answer(&input[from..end]);
+        answer(stdout, &input[from..end]);
         from = end + 1;
     }
 }
 
-fn main() {
+// Reads until the buffer is full, the input ends or a read fails, and answers how many bytes there are at its start.
+fn read_full(stdin: &mut impl Read, buffer: &mut [u8]) -> usize
+    ensures { result ≤ length buffer.new }
+{
+    let mut done = 0;
+    while done < buffer.len() {
+        match stdin.read(&mut buffer[done..]) {
+            Ok(0) | Err(_) => return done,
+            Ok(n) => done += n,
+        }
+    }
+    done
+}
+
+fn main(rt: HostRuntime) {
     let mut input = [0u8; ROOM];
-    let got = io::read_full(STDIN_FILENO, &mut input);
-    answer_all(&input[..got]);
+    let got = read_full(&mut rt.stdin(), &mut input);
+    answer_all(&rt.stdout(), &input[..got]);
 }

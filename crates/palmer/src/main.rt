@@ -8,9 +8,13 @@ use palmer_output::MOST_LINES;
 use quoted::Start;
 use records::{NUMBERS, RecordNumbers};
 use runs::Run;
+use std::io::Read;
 
 // No line is at fault yet.
 const NO_LINE: u32 = 4_294_967_295;
+
+// How many bytes a piece of the input has at most.
+const MOST_BYTES: usize = 65_536;
 
 // What has been read: whether the reading has ended, with the input or at a refused line, whether a read failed, the session,
 // and the start of the line that the reading has come to. `division` reads in the same two steps over its own session and
@@ -33,6 +37,7 @@ fn line_at_fault(refused: u8, months: u32) -> u32 {
 
 // Reads once.
 fn read_some(
+    stdin: &mut impl Read,
     session: Session,
     start: Start,
     buffer: &mut [u8],
@@ -45,7 +50,7 @@ fn read_some(
     v: &mut [i64],
     percent: &mut [u32],
 ) -> Heard {
-    let piece = stdio::read(buffer);
+    let piece = stdio::read(stdin, buffer);
     let n = piece.count;
     if n == 0 {
         return Heard {
@@ -80,6 +85,7 @@ fn read_some(
 
 // Reads until the input ends or a line is refused.
 fn read_all(
+    stdin: &mut impl Read,
     buffer: &mut [u8],
     x1: &mut [i32],
     x2: &mut [i32],
@@ -103,7 +109,7 @@ fn read_all(
         let session = heard.session;
         let start = heard.start;
         heard = read_some(
-            session, start, buffer, x1, x2, x3, index, mark, records, v, percent,
+            stdin, session, start, buffer, x1, x2, x3, index, mark, records, v, percent,
         );
         left = stdio::reads_left(left, heard.ended);
     }
@@ -112,6 +118,8 @@ fn read_all(
 
 // Writes what comes of the input: the rows, or which line was refused.
 fn print_output(
+    stdout: &impl Print,
+    stderr: &impl Print,
     number: u8,
     run: Run,
     x1: &[i32],
@@ -127,11 +135,13 @@ fn print_output(
     let end = palmer_output::put_output(
         &mut out, number, run, x1, x2, x3, index, mark, records, v, percent,
     );
-    stdio::write_out(b"palmer", &out[..end]);
+    stdio::write_out(stdout, stderr, b"palmer", &out[..end]);
 }
 
 // Writes what comes of the input, and says why a line was refused.
 fn print(
+    stdout: &impl Print,
+    stderr: &impl Print,
     s: Session,
     start: Start,
     x1: &[i32],
@@ -145,14 +155,18 @@ fn print(
 ) {
     let run = s.run;
     let number = s.refused;
-    print_output(number, run, x1, x2, x3, index, mark, records, v, percent);
+    print_output(
+        stdout, stderr, number, run, x1, x2, x3, index, mark, records, v, percent,
+    );
     if number != 0 {
-        words::explain(palmer_output::line_after(run.months), number, start);
+        words::explain(stderr, palmer_output::line_after(run.months), number, start);
     }
 }
 
 // Closes the last line, and writes what comes of the input or that it cannot be read.
 fn finish(
+    stdout: &impl Print,
+    stderr: &impl Print,
     heard: Heard,
     x1: &mut [i32],
     x2: &mut [i32],
@@ -164,15 +178,28 @@ fn finish(
     percent: &mut [u32],
 ) {
     if heard.failed {
-        stdio::say_unread(b"palmer");
+        stdio::say_unread(stderr, b"palmer");
         return;
     }
     let read = heard.session;
     let s = palmer_input::end(read, x1, x2, x3, index, mark, records, v, percent);
-    print(s, heard.start, x1, x2, x3, index, mark, records, v, percent);
+    print(
+        stdout,
+        stderr,
+        s,
+        heard.start,
+        x1,
+        x2,
+        x3,
+        index,
+        mark,
+        records,
+        v,
+        percent,
+    );
 }
 
-fn main() {
+fn main(rt: HostRuntime) {
     let mut x1 = [0i32; MOST_LINES];
     let mut x2 = [0i32; MOST_LINES];
     let mut x3 = [0i32; MOST_LINES];
@@ -181,8 +208,9 @@ fn main() {
     let mut records = [[0i32; NUMBERS]; MOST_LINES];
     let mut v = [0i64; MOST_LINES];
     let mut percent = [0u32; MOST_LINES];
-    let mut text = io::large_buffer();
+    let mut text = [0u8; MOST_BYTES];
     let heard = read_all(
+        &mut rt.stdin(),
         &mut text,
         &mut x1,
         &mut x2,
@@ -194,6 +222,8 @@ fn main() {
         &mut percent,
     );
     finish(
+        &rt.stdout(),
+        &rt.stderr(),
         heard,
         &mut x1,
         &mut x2,

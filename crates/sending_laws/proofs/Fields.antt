@@ -1,10 +1,9 @@
 -- A line that was written, field by field: its heading, each of its twelve values, and what follows them. The idea: every figure that is sent has seven
 -- characters, so the fields of the text are the texts of the figures. Assumes nothing.
-use mathlib.Core.Path.{◌≡◌, refl, sym, ap, ap₂, ◌∙◌}
-use mathlib.Core.Bool.{Bool, true, false, ◌&&◌, and-eq-true_iff}
+use mathlib.Core.Path.{◌≡◌, refl, sym, ap, ◌∙◌}
+use mathlib.Core.Bool.{true, and-eq-true_iff}
 use mathlib.Core.List.{List, [], ◌∷◌, ◌++◌, append_assoc}
-use Prim.Native.Nat.{ℕ, zero, suc, ◌+◌, ◌*◌, ◌≤◌, ◌<◌}
-use native.Mathlib.Numerals.{add-one}
+use Prim.Native.Nat.{ℕ, zero, suc, ◌+◌, ◌*◌, ◌<◌}
 use native.Mathlib.Omega.{arith}
 use lib.ListN.{length, take, drop, get_or, length-append}
 use lib.Seq.{take_at, drop_at, drop-drop, ext_get_or}
@@ -14,10 +13,10 @@ use Rattle.refusals.specs.Book.{Book}
 use Rattle.figures.specs.Figures.{figure_of, figures_of, figure_text, figures_text, figure_fits}
 use Rattle.figures.specs.declared.Element.{Element}
 use Rattle.figures.specs.declared.Figure.{Figure}
-use Rattle.figures.specs.declared.Figure.TheVariants.{Value, Missing, Malformed}
+use Rattle.figures.specs.declared.Figure.TheVariants.{Malformed}
 use Rattle.figures.proofs.FigureLaws.{field, figures-twelve, figure-at}
 use Rattle.figures.proofs.Inverse.{figure-back}
-use Rattle.sent_months.specs.Sent.{month_sent, year_sent}
+use Rattle.sent_months.specs.Sent.{year_sent}
 use Rattle.sent_months.proofs.Holds.{IsSent}
 use Rattle.sending.specs.Sending.{line_text, all_fit}
 use Rattle.sending.proofs.Lines.{sent-at, month-is-sent, seven, ten}

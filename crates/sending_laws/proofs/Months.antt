@@ -1,8 +1,8 @@
 -- What a month sends: nothing that is not settled, every row once, and its calendar month. Assumes nothing.
-use mathlib.Core.Path.{◌≡◌, refl, sym, ap, ◌∙◌}
+use mathlib.Core.Path.{◌≡◌, refl, ap, ◌∙◌}
 use mathlib.Core.Bool.{Bool, true, false, cond, ◌&&◌}
-use mathlib.Core.List.{List, [], ◌∷◌}
-use Prim.Native.Nat.{ℕ, zero, suc, ◌+◌, ◌-◌, ◌*◌, ◌/◌, ◌%◌, ◌≤◌, ◌<◌}
+use mathlib.Core.List.{List}
+use Prim.Native.Nat.{ℕ, ◌+◌, ◌-◌, ◌*◌, ◌/◌, ◌%◌, ◌≤◌, ◌<◌}
 use native.Mathlib.Omega.{arith}
 use lib.IntN.{ℤ, pos}
 use lib.Dec.{eqb, leb, ltb}
@@ -10,14 +10,14 @@ use lib.ListN.{length, get_or}
 use borrow.Author.Tests.{ne_eqb, eqb-true, le-leb, lt-ltb, leb-true, ltb-true}
 use Rattle.outline.specs.Numbers.{last_month}
 use Rattle.runs.specs.declared.Run.{Run}
-use Rattle.refusals.specs.Book.{Book, book, columns_fit}
+use Rattle.refusals.specs.Book.{Book, book}
 use Rattle.refusals.specs.Refusals.{run_refusal}
 use Rattle.reopening.specs.Before.{calendar_back}
 use Rattle.years.specs.Years.{calendar_first}
 use Rattle.figures.specs.declared.Element.{Element}
 use Rattle.figures.specs.declared.Element.TheVariants.{Index}
 use Rattle.figures.specs.declared.Figure.{Figure}
-use Rattle.figures.specs.declared.Figure.TheVariants.{Value, Missing}
+use Rattle.figures.specs.declared.Figure.TheVariants.{Missing}
 use Rattle.sent_months.specs.Sent.{nearest_hundredths, row_sent, month_sent}
 use Rattle.sending.specs.Sending.{year_of, line_refusal, write_line}
 use Rattle.sending_laws.specs.SentOut.{Settled, Rows}

@@ -1,17 +1,17 @@
 -- The numbers of a line that is asked for, each exactly when; and what the lent list holds. Assumes nothing.
-use mathlib.Core.Path.{◌≡◌, refl, sym, ap, ap₂, ◌∙◌}
+use mathlib.Core.Path.{◌≡◌, refl, ap, ◌∙◌}
 use mathlib.Core.Bool.{Bool, true, false, cond, not, ◌&&◌}
 use mathlib.Core.List.{List, ◌++◌}
 use Prim.Native.Nat.{ℕ, zero, suc, ◌+◌, ◌≤◌}
 use native.Mathlib.Omega.{arith}
-use lib.Dec.{eqb, leb}
+use lib.Dec.{eqb}
 use lib.ListN.{length, take, drop, length-append, length-drop}
 use lib.Seq.{take_at, drop_at}
 use borrow.Author.Tests.{leb-true}
 use Rattle.outline.specs.Refusals.{or_else, unless_refused, bad_lists, not_a_run}
 use Rattle.outline.proofs.Refusals.{or-zero, is-done, is-refused}
-use Rattle.outline.proofs.Tests.{each, if-so}
-use Rattle.fields.specs.Columns.{last_column, months_of_year}
+use Rattle.outline.proofs.Tests.{each}
+use Rattle.fields.specs.Columns.{last_column}
 use Rattle.fields.specs.Refusals.{unfit, no_room}
 use Rattle.refusals.specs.Book.{columns_fit}
 use Rattle.refusals.specs.Refusals.{is_run_of, run_refusal}

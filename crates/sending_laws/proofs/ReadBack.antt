@@ -1,12 +1,12 @@
 -- A line that was written is read back, with whatever spaces after it: its heading is as it was written, none of its fields is malformed, and its figures are
 -- those that were sent. Assumes nothing.
 use mathlib.Core.Path.{◌≡◌, refl, sym, ap, ap₂, ◌∙◌}
-use mathlib.Core.Bool.{Bool, true, false, not, ◌&&◌, and-eq-true_iff}
+use mathlib.Core.Bool.{true, false, ◌&&◌, and-eq-true_iff}
 use mathlib.Core.List.{List, [], ◌∷◌, ◌++◌, map}
-use Prim.Native.Nat.{ℕ, zero, suc, ◌+◌, ◌≤◌, ◌<◌}
+use Prim.Native.Nat.{ℕ, suc, ◌≤◌, ◌<◌}
 use native.Mathlib.Omega.{arith}
-use lib.Dec.{leb, eqb}
-use lib.ListN.{length, get_or, length-append}
+use lib.Dec.{leb}
+use lib.ListN.{length, length-append}
 use borrow.Author.Tests.{eq-eqb, leb-true}
 use Rattle.text.specs.Bytes.{all_digits, all_spaces, natural}
 use Rattle.fields.specs.Columns.{state, division, element, year, last_column, months_of_year}
@@ -15,7 +15,7 @@ use Rattle.layout_heading.specs.Heading.{precipitation, headed}
 use Rattle.layout_heading.specs.Steps.{element_refusal}
 use Rattle.layout_heading.specs.Written.{two_digits, four_digits, heading_text}
 use Rattle.layout_heading.proofs.Inverse.{two-digits, four-digits, two_back, four-back}
-use Rattle.figures.specs.Figures.{number_of, figures_of, is_malformed}
+use Rattle.figures.specs.Figures.{number_of, is_malformed}
 use Rattle.figures.specs.declared.Element.{Element}
 use Rattle.figures.specs.declared.Element.TheVariants.{Index, Z, Modified}
 use Rattle.figures.specs.declared.Figure.{Figure}

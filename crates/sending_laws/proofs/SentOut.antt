@@ -1,24 +1,21 @@
 -- The statement of specs/SentOut.antt, from its parts. Assumes nothing.
 use mathlib.Core.Path.{◌≡◌, refl, sym, ap, ◌∙◌}
-use mathlib.Core.Bool.{Bool, true, false, ◌&&◌, and-false}
+use mathlib.Core.Bool.{Bool, true, false, and-false}
 use mathlib.Core.List.{List, [], ◌∷◌, ◌++◌}
 use Prim.Native.Nat.{ℕ, zero, suc, ◌+◌, ◌<◌}
 use native.Mathlib.Omega.{arith}
 use lib.IntN.{ℤ}
 use lib.ListN.{length, get_or}
-use Rattle.fields.specs.Columns.{months_of_year}
 use Rattle.fields.specs.Written.{value_text}
-use Rattle.fields.specs.Refusals.{unfit}
 use Rattle.fields.proofs.Inverse.{read_written}
 use Rattle.fields.proofs.Back.{written_read, read_fits}
-use Rattle.text.specs.Bytes.{all_spaces}
 use Rattle.figures.specs.Figures.{figure_of, figure_text, figure_fits}
 use Rattle.figures.specs.declared.Figure.{Figure}
 use Rattle.figures.specs.declared.Figure.TheVariants.{Value, Missing}
 use Rattle.figures.proofs.Inverse.{figure-back}
 use Rattle.layout_figures.specs.Line.{figures_said}
 use Rattle.sending.specs.Sending.{heading_fits, all_fit}
-use Rattle.sending_laws.specs.SentOut.{Asked, outcome, sent, good, fits, ReadBack, Inverse, Marked, SendingOut}
+use Rattle.sending_laws.specs.SentOut.{sent, ReadBack, Inverse, Marked, SendingOut}
 use Rattle.sending_laws.proofs.ReadBack.{line-back}
 use Rattle.sending_laws.proofs.Outcome.{number_is, each_number, unfit-said, all-passed, sent-all, first-of-line, each-place}
 use Rattle.sending_laws.proofs.Months.{nothing-unsettled, every-month}

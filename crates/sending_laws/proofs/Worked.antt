@@ -1,16 +1,14 @@
 -- Lines worked out by computation: a run that starts in April, of eleven months, the last of them open. Its first line has three marks before its first
 -- month, and its second one two months, of which the open one has the mark; what an open month shows, -99.99, refuses nothing. Assumes nothing.
 use mathlib.Core.Path.{◌≡◌, refl}
-use mathlib.Core.List.{List, [], ◌∷◌}
-use Prim.Native.Nat.{ℕ}
-use lib.IntN.{ℤ, pos, negsuc}
+use mathlib.Core.List.{[], ◌∷◌}
+use lib.IntN.{pos, negsuc}
 use Rattle.exact.specs.Nearest.{nearest_ℕ, nearest}
 use Rattle.refusals.specs.Book.{Book, book}
 use Rattle.fields.specs.Written.{before_units, field_text, value_text}
 use Rattle.layout_heading.specs.Written.{heading_text}
 use Rattle.figures.specs.Figures.{figures_text}
 use Rattle.figures.specs.declared.Element.TheVariants.{Index}
-use Rattle.figures.specs.declared.Figure.{Figure}
 use Rattle.figures.specs.declared.Figure.TheVariants.{Value, Missing}
 use Rattle.sent_months.specs.Sent.{row_sent, month_sent, year_sent}
 use Rattle.sending.specs.Sending.{line_text}

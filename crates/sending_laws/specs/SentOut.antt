@@ -5,13 +5,13 @@
 -- after 1 and 7, 24 such a value, or a state, division or year that doesn't fit its digits, 25 output list too short for the line, in that order, with nothing
 -- written." The definitions of the calls are `write_line` of the crate `sending` and `figures_said` of `layout_figures`. `sending-out` of proofs/SentOut.antt proves
 -- it. Assumes nothing.
-use Rattle.std.specs.Prelude.{◌≡◌, Bool, true, false, not, ◌&&◌, List, [], ◌++◌, ℕ, ◌+◌, ◌-◌, ◌*◌, ◌/◌, ◌%◌, ◌≤◌, ◌<◌, ℤ, pos, negsuc, eqb, leb, length, take, drop, get_or}
+use Rattle.std.specs.Prelude.{◌≡◌, Bool, true, false, not, ◌&&◌, List, [], ◌++◌, ℕ, ◌+◌, ◌-◌, ◌*◌, ◌/◌, ◌%◌, ◌≤◌, ◌<◌, ℤ, pos, eqb, leb, length, take, drop, get_or}
 use Rattle.outline.specs.Numbers.{last_month}
 use Rattle.outline.specs.Refusals.{bad_lists, not_a_run}
 use Rattle.text.specs.Bytes.{all_spaces}
-use Rattle.fields.specs.Columns.{width, heading_columns, last_column, months_of_year}
+use Rattle.fields.specs.Columns.{width, last_column, months_of_year}
 use Rattle.fields.specs.Field.{units, field_of}
-use Rattle.fields.specs.Written.{field_text, value_text, size_fits, value_fits}
+use Rattle.fields.specs.Written.{field_text, value_text, size_fits}
 use Rattle.fields.specs.Refusals.{not_the_year, unfit, no_room}
 use Rattle.fields.specs.Refusals.{malformed as malformedLine, another as anotherLine}
 use Rattle.fields.specs.declared.Field.TheVariants.{Number}
@@ -20,7 +20,7 @@ use Rattle.refusals.specs.Book.{Book, book, columns_fit}
 use Rattle.refusals.specs.Refusals.{is_run_of}
 use Rattle.reopening.specs.Before.{calendar_back}
 use Rattle.years.specs.Years.{calendar_first}
-use Rattle.figures.specs.Figures.{mark_hundredths, figure_of, figure_text, figure_fits}
+use Rattle.figures.specs.Figures.{figure_of, figure_text, figure_fits}
 use Rattle.figures.specs.declared.Element.{Element}
 use Rattle.figures.specs.declared.Element.TheVariants.{Index}
 use Rattle.figures.specs.declared.Figure.{Figure}
@@ -30,7 +30,7 @@ use Rattle.layout.specs.Fault.{fault_of}
 use Rattle.layout_figures.specs.Line.{is_named, told, figures_said}
 use Rattle.layout_figures.specs.declared.Figures.{Figures}
 use Rattle.sent_months.specs.Sent.{row_sent, month_sent}
-use Rattle.sending.specs.Sending.{year_of, heading_fits, all_fit, Written, written, write_line}
+use Rattle.sending.specs.Sending.{year_of, heading_fits, all_fit, Written, write_line}
 
 -- a run's year, as it is asked for
 pub record Asked : Type 0 where

@@ -1,12 +1,12 @@
-// Standard input, output and error, as the programs `palmer` and `division` use them. No contract can say what is read or
-// written, so these functions are proved safe and ending; tests/program.py and tests/division.py hold the words to tables.
+// Standard input, output and error, as the programs `palmer` and `division` use them. No contract says which bytes the system
+// is given or gives, so these functions are proved safe and ending; tests/program.py and tests/division.py hold the words to
+// tables.
 #![tactic(auto)]
 
-ghost use Rattle.std.specs.Prelude.{◌<◌};
-ghost use Rattle.io.specs.Counts.{IsPrefixLen};
+ghost use Rattle.std.specs.Prelude.{◌≡◌, ◌<◌, ◌≤◌, length, take};
 
-use libc::{STDERR_FILENO, STDIN_FILENO, STDOUT_FILENO};
 use rows::MOST_ROW;
+use std::io::Read;
 
 // A piece of the input: how many bytes it has, 0 at the end, and whether the read failed.
 #[derive(Drop)]
@@ -16,14 +16,19 @@ pub struct Piece {
 }
 
 // Reads once; the piece is at the buffer's start.
-pub fn read(buffer: &mut [u8]) -> Piece
-    ensures { IsPrefixLen result.count buffer.new }
+pub fn read(stdin: &mut impl Read, buffer: &mut [u8]) -> Piece
+    ensures in_bounds { result.count ≤ length buffer.new }
+    ensures prefix { result.count ≡ length (take result.count buffer.new) }
 {
-    let got = libc::read(STDIN_FILENO, buffer);
-    let n = io::count(got, buffer);
-    Piece {
-        count: n,
-        failed: got < 0,
+    match stdin.read(buffer) {
+        Ok(count) => Piece {
+            count,
+            failed: false,
+        },
+        Err(_) => Piece {
+            count: 0,
+            failed: true,
+        },
     }
 }
 
@@ -41,32 +46,38 @@ pub fn reads_left(left: u64, ended: bool) -> u64
     left - 1
 }
 
-// Says a text on standard error.
-pub fn say(text: &[u8]) {
-    io::write_all(STDERR_FILENO, text);
+// Says a text on standard error, which is lent. Where that cannot be written, nothing more can be said.
+pub fn say(stderr: &impl Print, text: &[u8]) {
+    let _ = stderr.write_all(text);
 }
 
-pub fn say_number(n: u32) {
-    io::print_decimal(STDERR_FILENO, n as u64);
+pub fn say_number(stderr: &impl Print, n: u32) {
+    let _ = stderr.print(n);
 }
 
 // Says that the program of this name cannot read its input.
-pub fn say_unread(program: &[u8]) {
-    say(program);
-    say(b": the input cannot be read\n");
+pub fn say_unread(stderr: &impl Print, program: &[u8]) {
+    say(stderr, program);
+    say(stderr, b": the input cannot be read\n");
 }
 
 // Writes a text to standard output, or says that the program of this name cannot.
-pub fn write_out(program: &[u8], text: &[u8]) {
-    if !io::write_all(STDOUT_FILENO, text) {
-        say(program);
-        say(b": the output cannot be written\n");
+pub fn write_out(stdout: &impl Print, stderr: &impl Print, program: &[u8], text: &[u8]) {
+    if stdout.write_all(text).is_err() {
+        say(stderr, program);
+        say(stderr, b": the output cannot be written\n");
     }
 }
 
 // Writes which line was refused, and why.
-pub fn print_refusal(program: &[u8], line: u32, number: u8) {
+pub fn print_refusal(
+    stdout: &impl Print,
+    stderr: &impl Print,
+    program: &[u8],
+    line: u32,
+    number: u8,
+) {
     let mut out = [0u8; MOST_ROW];
     let end = rows::lay_refusal(line, number, 0, &mut out);
-    write_out(program, &out[..end]);
+    write_out(stdout, stderr, program, &out[..end]);
 }

@@ -28,11 +28,11 @@ from_one (pos (suc n)) k = rw (le-leb 1 (suc n) (omega arith), le-leb 0 (suc n) 
 from_one (negsuc n) k = refl
 
 -- the constant at a place is not from a least to a most
-abbrev beyondAt : List ℤ → ℕ → ℕ → ℕ → Bool
-beyondAt l i least most = not (le_z (pos least) (get_or l i (pos 0)) && le_z (get_or l i (pos 0)) (pos most))
+abbrev beyond_at : List ℤ → ℕ → ℕ → ℕ → Bool
+beyond_at l i least most = not (le_z (pos least) (get_or l i (pos 0)) && le_z (get_or l i (pos 0)) (pos most))
 
 five : (l : List ℤ) (at : ℕ) → at % many_of_a_month ≡ 0
-    → (beyondAt l at 0 most_share || beyondAt l (at + 1) 0 most_share || beyondAt l (at + 2) 0 most_gamma || beyondAt l (at + 3) 0 most_share || beyondAt l (at + 4) 1 most_k)
+    → (beyond_at l at 0 most_share || beyond_at l (at + 1) 0 most_share || beyond_at l (at + 2) 0 most_gamma || beyond_at l (at + 3) 0 most_share || beyond_at l (at + 4) 1 most_k)
     ≡ not (five_serve l at)
 unfolding five_fit constant_fits limit_of
 five l at h =

@@ -1,5 +1,4 @@
 -- `sending::heading_fits`: its tests are those of the definition. Assumes nothing.
-use borrow.Author.Rules.{rules}
 use borrow.Author.Tests.{lt-leb, le-leb}
 use Rattle.sending.specs.Sending.{heading_fits}
 use Rattle.sending.proofs.heading_fits.Goals as goal
@@ -11,9 +10,6 @@ returns-then-state-gt-MOST_OF_TWO c = rw (lt-leb _ _ c.if-state-gt-MOST_OF_TWO.t
 pub returns-then-division-gt-MOST_OF_TWO : goal.returns-then-division-gt-MOST_OF_TWO
 unfolding heading_fits
 returns-then-division-gt-MOST_OF_TWO c = rw (le-leb _ _ c.if-state-gt-MOST_OF_TWO.false, lt-leb _ _ c.if-division-gt-MOST_OF_TWO.true)
-
-pub overflow_add-result : goal.overflow_add-result
-overflow_add-result c = search rules
 
 pub returns : goal.returns
 unfolding heading_fits
