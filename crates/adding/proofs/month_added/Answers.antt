@@ -1,17 +1,10 @@
 -- `adding::month_added`: field by field. Assumes nothing.
 use native.Mathlib.Numerals.{add-one}
-use borrow.Author.Rules.{rules}
 use mir.Syntax.{w32}
 use mir.Val.{SFits}
 use mir.Facts.{to_z-of_z}
 use Rattle.exact.proofs.Held.{held}
 use Rattle.adding.proofs.month_added.Goals as goal
-
-pub overflow_add-progress : goal.overflow_add-progress
-overflow_add-progress c = search rules
-
-pub next_calendar-requires : goal.next_calendar-requires
-next_calendar-requires c = search rules
 
 pub returns : goal.returns
 returns c =

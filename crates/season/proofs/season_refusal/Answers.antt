@@ -1,5 +1,6 @@
 -- `season::season_refusal`: 1 for lists of unequal length, then the run's. Assumes nothing.
 use mathlib.Core.Path.{◌∙◌}
+use lib.ListN.{length}
 use borrow.Author.Tests.{eq-eqb, ne_eqb}
 use Rattle.runs.specs.Progress.{run_of}
 use Rattle.refusals.specs.Book.{Book, book}
@@ -13,7 +14,7 @@ lent c = let a = c.args in book a.x1.now a.x2.now a.x3.now a.index.now a.mark.no
 
 pub returns-then-p-pe : goal.returns-then-p-pe
 unfolding season_refusal
-returns-then-p-pe c = rw (ne_eqb _ _ c.if-p-pe.true)
+returns-then-p-pe c = rw (ne_eqb (length c.args.p.now) (length c.args.pe.now) c.if-p-pe.true)
 
 pub run_refusal-requires : goal.run_refusal-requires
 run_refusal-requires c = rw c.lent_length-n.ensures (lent-records (lent (goal.at.run_refusal-requires c).After-lent_length-n))
