@@ -94,7 +94,7 @@ add_again-t-requires c =
     let v = l.invariant in
     let q = run_of l.s a.constants.now in
     let so_far = book l.x1 l.x2 l.x3 l.index l.mark l.records l.v in
-    let due : l.s.months < a.at.months = c.loop-s-test.true in
+    let due : l.s.months < a.at.months = omega (arith, c.loop-s-test.true) in
     let places : a.at.months ≤ long so_far = omega (arith, (run_fits r cs a.i c.requires.workable).months, v.4.0) in
     record { stands = v.2; months_in_bounds = (omega (arith, due, places), v.3 l.s.months (omega arith) due) }
 
@@ -107,7 +107,7 @@ loop-s-smaller c =
     let v = l.invariant in
     let q = run_of l.s a.constants.now in
     let so_far = book l.x1 l.x2 l.x3 l.index l.mark l.records l.v in
-    let due : l.s.months < a.at.months = c.loop-s-test.true in
+    let due : l.s.months < a.at.months = omega (arith, c.loop-s-test.true) in
     let places : a.at.months ≤ long so_far = omega (arith, (run_fits r cs a.i c.requires.workable).months, v.4.0) in
     let s = c.add_again-t in
     let m = added_of s.result a.constants.now in
@@ -125,7 +125,7 @@ loop-s-preserved c =
     let v = l.invariant in
     let q = run_of l.s a.constants.now in
     let so_far = book l.x1 l.x2 l.x3 l.index l.mark l.records l.v in
-    let due : l.s.months < a.at.months = c.loop-s-test.true in
+    let due : l.s.months < a.at.months = omega (arith, c.loop-s-test.true) in
     let places : a.at.months ≤ long so_far = omega (arith, (run_fits r cs a.i c.requires.workable).months, v.4.0) in
     let s = c.add_again-t in
     let m = added_of s.result a.constants.now in
