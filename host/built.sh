@@ -6,7 +6,7 @@ LIBRARY=target/staticlib/libcard.a
 sum_of() {
     words=$1
     shift
-    { echo "$words"; rt version; cksum "$@"; } | cksum
+    { echo "$words"; rt version </dev/null; cksum "$@"; } | cksum
 }
 
 # is_made WHAT WORDS FILE..: whether WHAT was made of these, and is as it was made.
