@@ -3,3 +3,4 @@
 pub mod Numbers
 pub mod Refusals
 pub mod Every
+pub mod Refused

@@ -2,6 +2,9 @@
 // specs/Numbers.antt and specs/Refusals.antt have the same numbers, each under the outline's own sentence.
 #![tactic(auto)]
 
+ghost use Rattle.std.specs.Prelude.{◌≡◌};
+ghost use Rattle.outline.specs.Refused.{refusal_number, answer_number};
+
 // ---- what may be handed in
 
 // The most months of a run, and the longest that lent lists may be.
@@ -44,6 +47,55 @@ pub const U_OFFSET: i64 = 150;
 pub const E_OFFSET: i64 = 1_500_000;
 
 // ---- refusals
+
+// Why a call is refused, with the number that it has outside: in the answers that C is handed and in what the programs print.
+#[derive(Clone, Copy, Debug, PartialEq, Eq)]
+pub enum Refusal {
+    BadLists = 1,
+    NotSixty = 2,
+    BadConstant = 3,
+    BadCapacity = 4,
+    BadStorage = 5,
+    BadMonth = 6,
+    NotARun = 7,
+    NoReading = 8,
+    BadReading = 9,
+    Full = 10,
+    NoSuchRow = 11,
+    BadZ = 12,
+    NotANumber = 13,
+    Malformed = 14,
+    OtherLine = 15,
+    NotTheYear = 16,
+    Waterless = 17,
+    FewYears = 18,
+    BadGamma = 19,
+    BadK = 20,
+    ZeroK = 21,
+    Unfit = 24,
+    NoRoom = 25,
+}
+
+impl Refusal {
+    // Its number.
+    pub fn number(self) -> u8
+        ensures { result ≡ refusal_number self }
+    {
+        self as u8
+    }
+}
+
+// The number of an answer: 0 where nothing is refused.
+pub fn number(answer: Result<(), Refusal>) -> u8
+    ensures { result ≡ answer_number answer }
+{
+    match answer {
+        Ok(()) => 0,
+        Err(refusal) => refusal.number(),
+    }
+}
+
+// ---- refusals by number alone, until nothing uses them
 
 pub const BAD_LISTS: u8 = 1;
 
