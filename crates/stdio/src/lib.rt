@@ -5,8 +5,40 @@
 
 ghost use Rattle.std.specs.Prelude.{◌≡◌, ◌<◌, ◌≤◌, length, take};
 
+use outline::Refusal;
 use rows::MOST_ROW;
+use std::io;
 use std::io::Read;
+
+// How many bytes a piece of the input has at most.
+const MOST_BYTES: usize = 65_536;
+
+// What a program makes of its input, which comes in pieces.
+pub trait Reads {
+    // What is so of it before the first piece and after each.
+    ghost holds: { Self → Type 0 };
+
+    // Takes a piece more, and answers whether it reads on.
+    fn take(&mut self, piece: &[u8]) -> bool
+        requires { holds self.old }
+        ensures { holds self.new };
+}
+
+// Reads until the input ends or the reader reads no further, or answers why a read failed. A proved loop has to end and an
+// input need not: no run uses up so many reads.
+pub fn read_all<R: Reads>(stdin: &mut impl Read, reader: &mut R) -> io::Result<()>
+    requires { R.holds reader.old }
+    ensures { R.holds reader.new }
+{
+    let mut buffer = [0u8; MOST_BYTES];
+    for _ in 0..u64::MAX {
+        let n = stdin.read(&mut buffer)?;
+        if n == 0 || !reader.take(&buffer[..n]) {
+            return Ok(());
+        }
+    }
+    Ok(())
+}
 
 // A piece of the input: how many bytes it has, 0 at the end, and whether the read failed.
 #[derive(Drop)]
