@@ -6,3 +6,4 @@ pub mod Refusals
 pub mod Good
 -- What only a proof wants: the same by the length of what is lent (Lent).
 pub mod Lent
+pub mod Lists

@@ -10,11 +10,70 @@ ghost use Rattle.std.specs.Prelude.{◌≡◌, ◌≤◌, length};
 ghost use Rattle.runs.specs.Progress.{run_of};
 ghost use Rattle.refusals.specs.Book.{lengths_fit};
 ghost use Rattle.refusals.specs.Refusals.{is_run_for, room_refusal};
-ghost use Rattle.refusals.specs.Lent.{lent_length, reading_refusal, run_refusal_for, water_refusal_for, z_refusal_for, row_refusal_for};
+ghost use Rattle.refusals.specs.Lists.{held, read};
+ghost use Rattle.refusals.specs.Lent.{lent_long, lent_length, reading_refusal, run_refusal_for, water_refusal_for, z_refusal_for, row_refusal_for};
 
 use outline::{BAD_LISTS, BAD_Z, FULL, MANY_CONSTANTS, NO_SUCH_ROW, NOT_A_RUN};
 use records::RecordNumbers;
 use runs::Progress;
+
+// The seven lists of a run, lent for writing.
+#[derive(Drop)]
+pub struct Lists<'a> {
+    pub x1: &'a mut [i32],
+    pub x2: &'a mut [i32],
+    pub x3: &'a mut [i32],
+    pub index: &'a mut [i32],
+    pub mark: &'a mut [u8],
+    pub records: &'a mut [RecordNumbers],
+    pub v: &'a mut [i64],
+}
+
+// The same lent for reading.
+#[derive(Clone, Copy)]
+pub struct Rows<'a> {
+    pub x1: &'a [i32],
+    pub x2: &'a [i32],
+    pub x3: &'a [i32],
+    pub index: &'a [i32],
+    pub mark: &'a [u8],
+    pub records: &'a [RecordNumbers],
+    pub v: &'a [i64],
+}
+
+impl Lists<'_> {
+    // For reading.
+    pub fn rows(&self) -> Rows<'_>
+        ensures { read result ≡ held self.now }
+    {
+        Rows {
+            x1: self.x1,
+            x2: self.x2,
+            x3: self.x3,
+            index: self.index,
+            mark: self.mark,
+            records: self.records,
+            v: self.v,
+        }
+    }
+}
+
+impl Rows<'_> {
+    // The length that all seven have, and 0 where they cannot be lent.
+    pub fn lent_length(&self) -> usize
+        ensures { result ≡ lent_long (read self.now) }
+    {
+        lent_length(
+            self.x1.len(),
+            self.x2.len(),
+            self.x3.len(),
+            self.index.len(),
+            self.mark.len(),
+            self.records.len(),
+            self.v.len(),
+        )
+    }
+}
 
 // An add of water, by the number of its readings: 1, 7, that number, 10.
 pub fn water_refusal(
