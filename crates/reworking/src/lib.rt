@@ -97,13 +97,13 @@ fn add_again(
 {
     let m = records::record_at(records, at.months as usize);
     if m.water != HAD_WATER {
-        return retaking::add_z(at, m.z, x1, x2, x3, index, mark, records, v);
+        return taking::add_z(at, m.z, x1, x2, x3, index, mark, records, v);
     }
     let kinds = MonthKinds {
         p: m.kind as u8,
         pe: 0,
     };
-    retaking::add_measured(
+    taking::add_measured(
         at,
         constants,
         m.p as u32,

@@ -21,8 +21,7 @@ use runs::Progress;
 // A month of no reading in a list.
 const MISSING_MONTH: i32 = -1;
 
-// The single add of a month of the lists, to columns and a run that have been asked for 1 and 7. The month's work stands
-// here as in `taking::add_measured`, so that it is compiled within the season's loop: called from two places it is not.
+// The single add of a month of the lists, to columns and a run that have been asked for 1 and 7.
 pub fn add_listed(
     at: Progress,
     constants: &[i32; MANY_CONSTANTS],
@@ -59,16 +58,9 @@ pub fn add_listed(
         p: a.kind,
         pe: b.kind,
     };
-    let soil = at.soil;
-    let values = at.values;
-    let k = calendar::constants_at(constants, at.calendar);
-    let m = water::month_of(soil, measured, potential, k);
-    let s = adding::add_spells(at.months, at.opens, values, m.z, x1, x2, x3, index, mark);
-    let after = s.values;
-    let kept = records::water_record(soil, measured, potential, m, s.modified, kinds.p);
-    records::put(at.months as usize, kept, records);
-    records::put_v(at.months as usize, after.v, v);
-    adding::watered(at, measured, potential, kinds, m, s)
+    taking::add_measured(
+        at, constants, measured, potential, kinds, x1, x2, x3, index, mark, records, v,
+    )
 }
 
 // A month of a list as a reading.

@@ -1,7 +1,8 @@
 // A month taken whole, of water or as a Z, once nothing is refused: its spells, its record, V, and its answer.
 //
-// For `drought`, which asks for every refusal first: what has a `requires` is for it alone. A month of a season goes through
-// the same steps in `season_month`.
+// For `drought` and `season_month`, which ask for every refusal first, and `reworking`, which holds all in range: what has a
+// `requires` is for them alone. Each of them gets the month compiled in place, which a function that is called from three would
+// not be otherwise.
 #![tactic(auto)]
 
 ghost use Rattle.std.specs.Prelude.{◌≡◌, true, ◌≤◌, ◌<◌, nat_abs, length};
@@ -26,6 +27,7 @@ use records::RecordNumbers;
 use runs::Progress;
 
 // The balance of the run's month with precipitation p and PE pe, read from readings of these kinds, and the month added.
+#[inline(always)]
 pub fn add_measured(
     at: Progress,
     constants: &[i32; MANY_CONSTANTS],
@@ -59,6 +61,7 @@ pub fn add_measured(
 }
 
 // An added Z: no water, and the storages stay.
+#[inline(always)]
 pub fn add_z(
     at: Progress,
     z: i32,

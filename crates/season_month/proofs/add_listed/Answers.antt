@@ -2,19 +2,13 @@
 -- run's month of water. Assumes nothing.
 use mathlib.Core.Path.{◌≡◌, sym, ap, ap₂, ◌∙◌}
 use Prim.Native.Nat.{◌≤◌, ◌<◌}
-use native.Mathlib.Omega.{arith}
-use borrow.Author.Rules.{rules}
 use lib.ListN.{length}
-use mir.Syntax.{w32, w64}
-use mir.Val.{SFits}
 use mir.Facts.{to_z-of_z}
 use Rattle.door.specs.Outcome.{Outcome, outcome, accepted, kinds_of}
-use Rattle.door.specs.declared.MonthKinds.{MonthKinds}
 use Rattle.door.specs.Readings.{reading, most_reading}
 use Rattle.door.proofs.Bounds.{reading-most}
 use Rattle.runs.specs.declared.Run.{Run}
-use Rattle.refusals.specs.Columns.{columns}
-use Rattle.refusals.specs.Book.{Book, book, columns_of, book_of, long}
+use Rattle.refusals.specs.Book.{Book, book, columns_of, long}
 use Rattle.runs.specs.Progress.{run_of}
 use Rattle.refusals.specs.Refusals.{room_refusal}
 use Rattle.outline.specs.Refusals.{or_else}
@@ -24,11 +18,10 @@ use Rattle.adding.specs.Taken.{result_of}
 use Rattle.adding.specs.Progress.{added_of}
 use Rattle.adding.specs.Ready.{Ready, Watered}
 use Rattle.adding.proofs.Readiness.{ready, placed, watered}
-use Rattle.adding.proofs.Measured.{Measured, fit, measured, measured-is}
 use Rattle.season_month.specs.Listed.{listed}
 use Rattle.season_month.proofs.Months.{not-water, refused_as, accepted-as}
 use Rattle.season_month.proofs.add_listed.Goals as goal
-use Rattle.season_month.proofs.add_listed.Goals.{After-read-first, In-Water, After-read-second, After-room_refusal-full, Else-full-ne0, After-month_of-m}
+use Rattle.season_month.proofs.add_listed.Goals.{After-read-first, In-Water, After-read-second, After-room_refusal-full, Else-full-ne0}
 
 -- what precipitation answers: a refusal, or water
 first-is : (c : After-read-first) → outcome c.read-first.result ≡ reading (listed c.args.p)
@@ -106,77 +99,23 @@ module _ (c : After-room_refusal-full) (z : c.room_refusal-full.result ≡ 0) wh
 watered-is : (c : After-room_refusal-full) → Watered (given c)
 watered-is c = watered (given c) (lent c) c.requires
 
-pub constants_at-k-requires : goal.constants_at-k-requires
-constants_at-k-requires c =
-    let w = watered-is (goal.at.constants_at-k-requires c).After-room_refusal-full in
-    (w.constants, w.calendar)
-
-pub month_of-m-requires : goal.month_of-m-requires
-month_of-m-requires c =
-    let a = c.args in
-    let t = (goal.at.month_of-m-requires c).After-room_refusal-full in
-    let w = watered-is t in
+pub add_measured-requires : goal.add_measured-requires
+add_measured-requires c =
+    let t = (goal.at.add_measured-requires c).After-room_refusal-full in
     record {
-      soil_fits = w.soil;
+      ready = ready-is t c.if-full-ne0.false;
+      months_in_bounds = placed-is t c.if-full-ne0.false;
+      watered = watered-is t;
       p_le_most_reading = waters t;
-      constants_fit = fit a.at a.constants.now c.constants_at-k.result c.constants_at-k.ensures w;
     }
-
--- the kinds of the two readings
-kinds-are : (c : After-month_of-m) → let a = c.args in record { p = c.tell-a.result.kind; pe = c.tell-b.result.kind } ≡ kinds_of (reading (listed a.p)) (reading (listed a.pe))
-kinds-are c =
-    let t = (goal.at.After-month_of-m c).After-room_refusal-full in
-    ap₂ kinds_of (c.tell-a.ensures ∙ sym (p-is t)) (c.tell-b.ensures ∙ sym (pe-is t))
-
--- the month of water is the run's
-month-is : (c : After-month_of-m) → let a = c.args in Measured a.at a.constants.now c.in-Water.measured c.in-Water-second.potential c.month_of-m.result
-month-is c =
-    let a = c.args in
-    let k = c.constants_at-k in
-    let t = (goal.at.After-month_of-m c).After-room_refusal-full in
-    measured a.at a.constants.now k.result k.ensures (watered-is t) c.in-Water.measured c.in-Water-second.potential (waters t) c.month_of-m.result c.month_of-m.ensures
-
-pub add_spells-s-requires : goal.add_spells-s-requires
-add_spells-s-requires c =
-    let i = month-is (goal.at.add_spells-s-requires c).After-month_of-m in
-    let f = i.fits in
-    record {
-      ready = ready-is (goal.at.add_spells-s-requires c).After-room_refusal-full c.if-full-ne0.false;
-      z_bound = simp to_z-of_z i.bounded;
-    }
-
-pub water_record-kept-requires : goal.water_record-kept-requires
-water_record-kept-requires c = (month-is (goal.at.water_record-kept-requires c).After-month_of-m).kept
-
--- its place among the records
-pub put-requires : goal.put-requires
-put-requires c = (placed-is (goal.at.put-requires c).After-room_refusal-full c.if-full-ne0.false).0
-
-pub put_v-requires : goal.put_v-requires
-put_v-requires c = (placed-is (goal.at.put_v-requires c).After-room_refusal-full c.if-full-ne0.false).1
-
-pub watered-requires : goal.watered-requires
-watered-requires c =
-    let t = (goal.at.watered-requires c).After-room_refusal-full in
-    let r = ready-is t c.if-full-ne0.false in
-    (omega (arith, r.room, r.most), (watered-is t).calendar)
 
 pub returns : goal.returns
 returns c =
     let a = c.args in
     let r = (goal.at.returns c).After-room_refusal-full in
-    let t = (goal.at.returns c).After-month_of-m in
-    let i = month-is t in
-    let s = c.add_spells-s.result in
-    let n = c.add_spells-s.new in
-    let fm : SFits w32 s.modified = search rules in
-    let fv : SFits w64 s.values.v = search rules in
-    let ds = columns n.x1 n.x2 n.x3 n.index n.mark in
+    let n = c.add_measured.new in
     let p = ap (λ (o : Outcome). o.water) (p-is r) in
     let q = ap (λ (o : Outcome). o.water) (pe-is r) in
-    let kinds : MonthKinds = record { p = c.tell-a.result.kind; pe = c.tell-b.result.kind } in
-    accepted-as a.at a.constants.now (listed a.p) (listed a.pe) (lent r) c.requires (room-is r ∙ c.if-full-ne0.false) (result_of (added_of c.watered.result a.constants.now) (book_of ds c.put.new.records c.put_v.new.v))
-    (rw (p, q, ← kinds-are t) (measured-is a.at a.constants.now c.in-Water.measured c.in-Water-second.potential kinds c.month_of-m.result i (lent r) ds s
-    (rw (to_z-of_z i.fits) at c.add_spells-s.ensures) c.put.new.records
-    (rw (c.water_record-kept.ensures, to_z-of_z fm) at c.put.ensures) c.put_v.new.v
-    (rw (to_z-of_z fv) at c.put_v.ensures) c.watered.result c.watered.ensures))
+    let kinds = ap₂ kinds_of (c.tell-a.ensures ∙ sym (p-is r)) (c.tell-b.ensures ∙ sym (pe-is r)) in
+    accepted-as a.at a.constants.now (listed a.p) (listed a.pe) (lent r) c.requires (room-is r ∙ c.if-full-ne0.false) (result_of (added_of c.add_measured.result a.constants.now) (book n.x1 n.x2 n.x3 n.index n.mark n.records n.v))
+    (rw (p, q, ← kinds) c.add_measured.ensures)
