@@ -15,22 +15,16 @@ pub const CHANGE_NUMBERS: usize = 5;
 // A month that changed, as it stands at its place: its row, its index before and after, its mark before and after.
 pub type ChangeNumbers = [i32; CHANGE_NUMBERS];
 
-// Where the index and the mark of before stand among them.
-const INDEX: usize = 1;
-
-const MARK: usize = 3;
+// A place of the report where there is none.
+const NO_CHANGE: ChangeNumbers = [0; CHANGE_NUMBERS];
 
 // Holds index and mark of each month, at its place.
 pub fn hold(index: &[i32], mark: &[u8], report: &mut [ChangeNumbers])
     requires { (length index.now ≡ length report.old) × (length mark.now ≡ length report.old) × (length report.old ≤ most_months) }
     ensures { report.new ≡ held index.now mark.now (length report.old) }
 {
-    let mut i: usize = 0;
-    while i < report.len() {
-        let a = index[i];
-        let m = mark[i] as i32;
-        report[i] = [0, a, 0, m, 0];
-        i += 1;
+    for (i, place) in report.iter_mut().enumerate() {
+        *place = [0, index[i], 0, i32::from(mark[i]), 0];
     }
 }
 
@@ -41,7 +35,7 @@ pub fn tell(index: &[i32], mark: &[u8], months: usize, report: &mut [ChangeNumbe
     ensures report_after { report.new ≡ reported (length report.old) (changes_since report.old index.now mark.now months) }
 {
     let k = gather(index, mark, months, report);
-    clear(months, report);
+    report[months..].fill(NO_CHANGE);
     k
 }
 
@@ -55,31 +49,15 @@ fn gather(index: &[i32], mark: &[u8], months: usize, report: &mut [ChangeNumbers
     ensures upper_bound { result ≤ months }
 {
     let mut k: usize = 0;
-    let mut i: usize = 0;
-    while i < months {
-        let before = report[i];
-        report[i] = [0, 0, 0, 0, 0];
-        let old = before[INDEX];
-        let old_mark = before[MARK];
+    for i in 0..months {
+        let [_, old, _, old_mark, _] = report[i];
+        report[i] = NO_CHANGE;
         let new = index[i];
-        let new_mark = mark[i] as i32;
-        if (old != new) | (old_mark != new_mark) {
+        let new_mark = i32::from(mark[i]);
+        if (old, old_mark) != (new, new_mark) {
             report[k] = [i as i32, old, new, old_mark, new_mark];
             k += 1;
         }
-        i += 1;
     }
     k
-}
-
-// Nothing from a place on.
-fn clear(from: usize, report: &mut [ChangeNumbers])
-    requires { (from ≤ length report.old) × (length report.old ≤ most_months) }
-    ensures { report.new ≡ take from report.old ++ replicate (length report.old - from) no_change }
-{
-    let mut i = from;
-    while i < report.len() {
-        report[i] = [0, 0, 0, 0, 0];
-        i += 1;
-    }
 }
