@@ -4,7 +4,9 @@ use Prim.Native.Nat.{ℕ}
 use native.Mathlib.Omega.{arith}
 use Rattle.std.specs.Prelude.{cond, eqb}
 use Rattle.outline.specs.Refusals.{or_else, unless_refused}
-use Rattle.outline.specs.Refused.{refusal_number}
+use Rattle.std.specs.Prelude.{Result, Ok, Err, IsOk, IsErr}
+use Rattle.std.proofs.Common.{rules}
+use Rattle.outline.specs.Refused.{refusal_number, answer_number}
 use Rattle.outline.specs.declared.Refusal.{Refusal}
 use Rattle.outline.specs.declared.Refusal.TheVariants.{BadLists, NotSixty, BadConstant, BadCapacity, BadStorage, BadMonth, NotARun, NoReading, BadReading, Full, NoSuchRow, BadZ, NotANumber, Malformed, OtherLine, NotTheYear, Waterless, FewYears, BadGamma, BadK, ZeroK, Unfit, NoRoom}
 
@@ -140,3 +142,18 @@ refusal_at-number NoRoom = refl
 -- no two refusals have one number
 pub one-refusal : (e f : Refusal) → refusal_number e ≡ refusal_number f → e ≡ f
 one-refusal e f h = sym (refusal_at-number e) ∙ ap refusal_at h ∙ refusal_at-number f
+
+-- ---- an answer's number
+-- 0 where nothing is refused, and there alone
+pub number-ok : {A : Type 0} (r : Result A Refusal) → answer_number r ≡ 0 → IsOk r
+number-ok (Ok a) h = search rules
+number-ok (Err e) h = absurd (number-ne-zero e h)
+
+pub number-err : {A : Type 0} (r : Result A Refusal) → (answer_number r ≡ 0 → ⊥) → IsErr r
+number-err (Ok a) h = absurd (h refl)
+number-err (Err e) h = search rules
+
+-- what is done where nothing is refused, and otherwise what is refused
+pub unless-answer : {A B : Type 0} (r : Result A Refusal) (done refused : B) → unless_refused (answer_number r) done refused ≡ elim r [ Ok a ↦ done | Err e ↦ refused ]
+unless-answer (Ok a) done refused = refl
+unless-answer (Err e) done refused = unless-refusal e done refused

@@ -7,13 +7,14 @@
 #![tactic(auto)]
 
 ghost use Rattle.std.specs.Prelude.{◌≡◌, ◌≤◌, length};
+ghost use Rattle.outline.specs.Refused.{answer_number};
 ghost use Rattle.runs.specs.Progress.{run_of};
-ghost use Rattle.refusals.specs.Book.{lengths_fit};
+ghost use Rattle.refusals.specs.Book.{columns_fit, lengths_fit};
 ghost use Rattle.refusals.specs.Refusals.{is_run_for, room_refusal};
 ghost use Rattle.refusals.specs.Lists.{held, read};
 ghost use Rattle.refusals.specs.Lent.{lent_long, lent_length, reading_refusal, run_refusal_for, water_refusal_for, z_refusal_for, row_refusal_for};
 
-use outline::{BAD_LISTS, BAD_Z, FULL, MANY_CONSTANTS, NO_SUCH_ROW, NOT_A_RUN};
+use outline::{MANY_CONSTANTS, Refusal};
 use records::RecordNumbers;
 use runs::Progress;
 
@@ -59,6 +60,21 @@ impl Lists<'_> {
 }
 
 impl Rows<'_> {
+    // Whether they can be lent: 1.
+    pub fn fit(&self) -> bool
+        ensures { result ≡ columns_fit (read self.now) }
+    {
+        lengths_fit(
+            self.x1.len(),
+            self.x2.len(),
+            self.x3.len(),
+            self.index.len(),
+            self.mark.len(),
+            self.records.len(),
+            self.v.len(),
+        )
+    }
+
     // The length that all seven have, and 0 where they cannot be lent.
     pub fn lent_length(&self) -> usize
         ensures { result ≡ lent_long (read self.now) }
@@ -75,26 +91,19 @@ impl Rows<'_> {
     }
 }
 
-// An add of water, by the number of its readings: 1, 7, that number, 10.
+// An add of water, by the refusal of its readings: 1, 7, that refusal, 10.
 pub fn water_refusal(
     n: usize,
     at: Progress,
     constants: &[i32; MANY_CONSTANTS],
-    reading: u8,
+    reading: Result<(), Refusal>,
     records: &[RecordNumbers],
-) -> u8
+) -> Result<(), Refusal>
     requires { n ≤ length records.now }
-    ensures { result ≡ water_refusal_for n (run_of at constants.now) reading records.now }
+    ensures { answer_number result ≡ water_refusal_for n (run_of at constants.now) (answer_number reading) records.now }
 {
-    if n == 0 {
-        return BAD_LISTS;
-    }
-    if !is_run_for(n, at, constants, records) {
-        return NOT_A_RUN;
-    }
-    if reading != 0 {
-        return reading;
-    }
+    run_refusal(n, at, constants, records)?;
+    reading?;
     room_refusal(n, at.months)
 }
 
@@ -105,18 +114,13 @@ pub fn z_refusal(
     constants: &[i32; MANY_CONSTANTS],
     z: i32,
     records: &[RecordNumbers],
-) -> u8
+) -> Result<(), Refusal>
     requires { n ≤ length records.now }
-    ensures { result ≡ z_refusal_for n (run_of at constants.now) z records.now }
+    ensures { answer_number result ≡ z_refusal_for n (run_of at constants.now) z records.now }
 {
-    if n == 0 {
-        return BAD_LISTS;
-    }
-    if !is_run_for(n, at, constants, records) {
-        return NOT_A_RUN;
-    }
+    run_refusal(n, at, constants, records)?;
     if !ranges::z_fits(z) {
-        return BAD_Z;
+        return Err(Refusal::BadZ);
     }
     room_refusal(n, at.months)
 }
@@ -128,17 +132,17 @@ pub fn row_refusal(
     constants: &[i32; MANY_CONSTANTS],
     i: usize,
     records: &[RecordNumbers],
-) -> u8
+) -> Result<(), Refusal>
     requires { n ≤ length records.now }
-    ensures { result ≡ row_refusal_for n (run_of at constants.now) i records.now }
+    ensures { answer_number result ≡ row_refusal_for n (run_of at constants.now) i records.now }
 {
     if !is_run_for(n, at, constants, records) {
-        return NOT_A_RUN;
+        return Err(Refusal::NotARun);
     }
     if i < at.months as usize {
-        0
+        Ok(())
     } else {
-        NO_SUCH_ROW
+        Err(Refusal::NoSuchRow)
     }
 }
 
@@ -148,17 +152,17 @@ pub fn run_refusal(
     at: Progress,
     constants: &[i32; MANY_CONSTANTS],
     records: &[RecordNumbers],
-) -> u8
+) -> Result<(), Refusal>
     requires { n ≤ length records.now }
-    ensures { result ≡ run_refusal_for n (run_of at constants.now) records.now }
+    ensures { answer_number result ≡ run_refusal_for n (run_of at constants.now) records.now }
 {
     if n == 0 {
-        return BAD_LISTS;
+        return Err(Refusal::BadLists);
     }
     if !is_run_for(n, at, constants, records) {
-        return NOT_A_RUN;
+        return Err(Refusal::NotARun);
     }
-    0
+    Ok(())
 }
 
 // Whether it is a run, for lists of length n and with these records: 7.
@@ -171,14 +175,11 @@ fn is_run_for(
     requires { n ≤ length records.now }
     ensures { result ≡ is_run_for n (run_of at constants.now) records.now }
 {
-    if !runs::is_run(n, at, constants) {
-        return false;
-    }
-    let soil = at.soil;
-    records::ends_meet(at.months, soil, records)
+    runs::is_run(n, at, constants) && records::ends_meet(at.months, at.soil, records)
 }
 
-// The length of lists of these lengths, and 0 where they cannot be lent: one number, for a call that stays a call.
+// The length of lists of these lengths, and 0 where they cannot be lent: 0 is no lent list's length, and `run_refusal` gives it 1 as
+// it gives a run its 7. An `Option` would be tested by each call, and by `run_refusal` again.
 pub fn lent_length(
     x1: usize,
     x2: usize,
@@ -209,37 +210,28 @@ pub fn lengths_fit(
 ) -> bool
     ensures { result ≡ lengths_fit x1 x2 x3 index mark records v }
 {
-    if x2 != x1 {
-        return false;
-    }
-    if x3 != x1 {
-        return false;
-    }
-    if index != x1 {
-        return false;
-    }
-    if mark != x1 {
-        return false;
-    }
-    if records != x1 {
-        return false;
-    }
-    if v != x1 {
-        return false;
-    }
-    ranges::length_fits(x1)
+    x2 == x1
+        && x3 == x1
+        && index == x1
+        && mark == x1
+        && records == x1
+        && v == x1
+        && ranges::length_fits(x1)
 }
 
-// The number of a month's two readings: precipitation's, and where that is 0 PE's.
-pub fn reading_refusal(p: u8, pe: u8) -> u8
-    ensures { result ≡ reading_refusal p pe }
+// The refusal of a month's two readings: precipitation's, or else PE's.
+pub fn reading_refusal(p: Result<(), Refusal>, pe: Result<(), Refusal>) -> Result<(), Refusal>
+    ensures { answer_number result ≡ reading_refusal (answer_number p) (answer_number pe) }
 {
-    if p != 0 { p } else { pe }
+    p.and(pe)
 }
 
 // 10, which every add asks last, of columns of length n.
-pub fn room_refusal(n: usize, months: u32) -> u8
-    ensures { result ≡ room_refusal n months }
+pub fn room_refusal(n: usize, months: u32) -> Result<(), Refusal>
+    ensures { answer_number result ≡ room_refusal n months }
 {
-    if (months as usize) < n { 0 } else { FULL }
+    if (months as usize) < n {
+        return Ok(());
+    }
+    Err(Refusal::Full)
 }

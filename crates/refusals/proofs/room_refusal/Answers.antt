@@ -7,6 +7,6 @@ pub returns-then-months-n : goal.returns-then-months-n
 unfolding room_refusal
 returns-then-months-n c = rw (lt-ltb _ _ c.if-months-n.true)
 
-pub returns-else-months-n : goal.returns-else-months-n
+pub returns : goal.returns
 unfolding room_refusal
-returns-else-months-n c = rw (le-ltb _ _ c.if-months-n.false)
+returns c = rw (le-ltb _ _ c.if-months-n.false)

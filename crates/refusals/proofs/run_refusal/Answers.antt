@@ -1,4 +1,4 @@
--- `refusals::run_refusal`: 1, then 7, then 0, each way by its tests. Assumes nothing.
+-- `refusals::run_refusal`: 1, then 7, then none, each way by its tests. Assumes nothing.
 use mathlib.Core.Path.{sym, ◌∙◌}
 use borrow.Author.Tests.{eq-eqb, ne_eqb}
 use Rattle.refusals.specs.Lent.{run_refusal_for}

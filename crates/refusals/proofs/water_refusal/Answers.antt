@@ -1,24 +1,19 @@
--- `refusals::water_refusal`: the lists, the run, the readings, room. Assumes nothing.
-use mathlib.Core.Path.{sym, ◌∙◌}
-use borrow.Author.Tests.{eq-eqb, ne_eqb}
-use Rattle.outline.proofs.Refusals.{or-first, or-second}
-use Rattle.refusals.specs.Lent.{run_refusal_for, water_refusal_for}
+-- `refusals::water_refusal`: the lists and the run, the readings, room. Assumes nothing.
+use Rattle.outline.proofs.Refusals.{or-second}
+use Rattle.outline.proofs.Refused.{or-refusal}
+use Rattle.std.proofs.lemmas.Grind.{common_steps}
+use native.Mathlib.Omega.{arith}
+use Rattle.refusals.specs.Lent.{water_refusal_for}
 use Rattle.refusals.proofs.water_refusal.Goals as goal
 
-pub returns-then-n-eq0 : goal.returns-then-n-eq0
-unfolding water_refusal_for run_refusal_for
-returns-then-n-eq0 c = rw (eq-eqb _ _ c.if-n-eq0.true)
+pub returns-in_err-run_refusal : goal.returns-in_err-run_refusal
+unfolding water_refusal_for
+returns-in_err-run_refusal c = grind (arith, common_steps, or-refusal)
 
-pub returns-then-not-is_run_for : goal.returns-then-not-is_run_for
-unfolding water_refusal_for run_refusal_for
-returns-then-not-is_run_for c = rw (ne_eqb _ _ c.if-n-eq0.false, sym c.is_run_for.ensures ∙ c.if-not-is_run_for.true)
-
-pub returns-then-reading-ne0 : goal.returns-then-reading-ne0
-unfolding water_refusal_for run_refusal_for
-returns-then-reading-ne0 c =
-    rw (ne_eqb _ _ c.if-n-eq0.false, sym c.is_run_for.ensures ∙ c.if-not-is_run_for.false) (sym (or-first _ _ c.if-reading-ne0.true))
+pub returns-in_err-reading : goal.returns-in_err-reading
+unfolding water_refusal_for
+returns-in_err-reading c = grind (arith, common_steps, or-refusal, or-second)
 
 pub returns : goal.returns
-unfolding water_refusal_for run_refusal_for
-returns c =
-    rw (ne_eqb _ _ c.if-n-eq0.false, sym c.is_run_for.ensures ∙ c.if-not-is_run_for.false) (c.room_refusal.ensures ∙ sym (or-second _ _ c.if-reading-ne0.false))
+unfolding water_refusal_for
+returns c = grind (arith, common_steps, or-second)
