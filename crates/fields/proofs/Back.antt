@@ -9,12 +9,13 @@ use native.Mathlib.Omega.{arith}
 use lib.Dec.{eqb}
 use lib.ListN.{length, take, drop, get_or, length-take}
 use borrow.Author.Tests.{eqb-true, eqb-false, le-leb}
+use Rattle.std.specs.Prelude.{Option, Some, None}
 use Rattle.text.specs.Bytes.{space, minus_sign, point, digit_zero, is_digit, all_digits, negative, body, natural}
 use Rattle.text.proofs.Digits.{digit-range}
 use Rattle.fields.specs.Columns.{width}
-use Rattle.fields.specs.Field.{unpadded, plain, ahead, units, decimals, well_formed, hundredths, field_of}
+use Rattle.fields.specs.Field.{unpadded, plain, ahead, units, decimals, well_formed, hundredths, numbered, field_of}
+use Rattle.fields.specs.declared.Number.{Number}
 use Rattle.fields.specs.Written.{field_text, size_fits}
-use Rattle.fields.specs.declared.Field.TheVariants.{Number}
 use Rattle.fields.proofs.Parts.{unpadded-shorter}
 use Rattle.fields.proofs.Naturals.{bounded, natural-small}
 use Rattle.fields.proofs.Fields.{units-short}
@@ -129,9 +130,17 @@ module _ (n a b c d g h : ℕ) (a-is : is_digit a ≡ true) (b-is : is_digit b �
       first e = (peel (n / 100000) 0 a a-is (peeled n 10000 (10 * 0 + (a - digit_zero)) b b-is (ten-thousands e))).0
 
 -- ---- what is known of a field that is read
-read-facts : (f : List ℕ) (minus : Bool) (n : ℕ) (t : Bool) → well_formed f ≡ t → field_of f ≡ Number minus n → (well_formed f ≡ true) × (negative (ahead f) ≡ minus) × (hundredths f ≡ n)
+abbrev minus_of : Option Number → Bool
+minus_of (Some x) = x.minus
+minus_of None = false
+
+abbrev hundredths_of : Option Number → ℕ
+hundredths_of (Some x) = x.hundredths
+hundredths_of None = 0
+
+read-facts : (f : List ℕ) (minus : Bool) (n : ℕ) (t : Bool) → well_formed f ≡ t → field_of f ≡ numbered minus n → (well_formed f ≡ true) × (negative (ahead f) ≡ minus) × (hundredths f ≡ n)
 unfolding field_of
-read-facts f minus n true e h = let k : Number (negative (ahead f)) (hundredths f) ≡ Number minus n = rw e at h in (e, cc, cc)
+read-facts f minus n true e h = let k : numbered (negative (ahead f)) (hundredths f) ≡ numbered minus n = rw e at h in (e, ap minus_of k, ap hundredths_of k)
 read-facts f minus n false e h = let z : ◌≡◌ {A = ℕ} 0 1 = cc (rw e at h) in absurd (omega arith)
 
 and_left : (a b : Bool) → (a && b) ≡ true → a ≡ true
@@ -299,7 +308,7 @@ module _ (minus : Bool) (n a b c d e g h : ℕ) where
   by_first false false p q = digits-four p q
 
 -- ---- what is read is written
-pub written_read : (f : List ℕ) (minus : Bool) (n : ℕ) → length f ≡ width → field_of f ≡ Number minus n → (units f ≡ [] → ⊥) → field_text minus n ≡ f
+pub written_read : (f : List ℕ) (minus : Bool) (n : ℕ) → length f ≡ width → field_of f ≡ numbered minus n → (units f ≡ [] → ⊥) → field_text minus n ≡ f
 written_read [] minus n l r u = absurd (omega arith)
 written_read (a ∷ []) minus n l r u = absurd (omega arith)
 written_read (a ∷ b ∷ []) minus n l r u = absurd (omega arith)
@@ -348,7 +357,7 @@ fits_by f false w m =
     let v = (below-ten (length (decimals f)) (natural (decimals f)) (bounded (decimals f) d.1)).0 (omega (arith, length-take 2 (drop 5 f))) in
     le-leb (100 * natural (units f) + natural (decimals f)) 999999 (omega (arith, u, v))
 
-pub read_fits : (f : List ℕ) (minus : Bool) (n : ℕ) → field_of f ≡ Number minus n → size_fits minus n ≡ true
+pub read_fits : (f : List ℕ) (minus : Bool) (n : ℕ) → field_of f ≡ numbered minus n → size_fits minus n ≡ true
 read_fits f minus n r =
     let t = read-facts f minus n (well_formed f) refl r in
     rw (← t.2) (fits_by f minus t.0 t.1)

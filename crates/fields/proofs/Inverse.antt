@@ -10,9 +10,8 @@ use native.Mathlib.Omega.{arith}
 use lib.Dec.{leb, eqb}
 use borrow.Author.Tests.{eq-eqb, ne_eqb, le-leb, leb-true, leb-false}
 use Rattle.text.specs.Bytes.{space, minus_sign, point, digit_zero, is_digit, all_digits, negative, body, natural}
-use Rattle.fields.specs.Field.{unpadded, plain, ahead, units, well_formed, hundredths, field_of}
+use Rattle.fields.specs.Field.{unpadded, plain, ahead, units, well_formed, hundredths, numbered, field_of}
 use Rattle.fields.specs.Written.{before_units, field_text, size_fits}
-use Rattle.fields.specs.declared.Field.TheVariants.{Number}
 
 -- ---- a digit's byte
 pub digit-no-space : (x : ℕ) → eqb (digit_zero + x % 10) space ≡ false
@@ -77,10 +76,10 @@ module _ (n : ℕ) where
 abbrev pub with_point : ℕ → List ℕ
 with_point n = (digit_zero + n / 100 % 10) ∷ point ∷ (digit_zero + n / 10 % 10) ∷ (digit_zero + n % 10) ∷ []
 
-one-digit : (minus : Bool) (n : ℕ) → n < 1000 → field_of (space ∷ space ∷ cond minus minus_sign space ∷ with_point n) ≡ Number minus n
+one-digit : (minus : Bool) (n : ℕ) → n < 1000 → field_of (space ∷ space ∷ cond minus minus_sign space ∷ with_point n) ≡ numbered minus n
 unfolding field_of well_formed hundredths units ahead unpadded body negative plain all_digits natural
-one-digit true n h = simp (digit-no-space, digit-no-minus, digit-is) (ap (Number true) (omega arith))
-one-digit false n h = simp (digit-no-space, digit-no-minus, digit-is) (ap (Number false) (omega arith))
+one-digit true n h = simp (digit-no-space, digit-no-minus, digit-is) (ap (numbered true) (omega arith))
+one-digit false n h = simp (digit-no-space, digit-no-minus, digit-is) (ap (numbered false) (omega arith))
 
 -- the number that the digits make
 summed-two : (n : ℕ) → n < 10000 → 100 * natural ((digit_zero + place n 1000) ∷ (digit_zero + place n 100) ∷ []) + natural ((digit_zero + place n 10) ∷ (digit_zero + n % 10) ∷ []) ≡ n
@@ -107,19 +106,19 @@ summed-four n h = by (place n 100000) (n / 100000) (place n 10000) (place n 1000
 no_zero : (x : ℕ) → (x % 10 ≡ 0 → ⊥) → eqb (digit_zero + x % 10) digit_zero ≡ false
 no_zero x h = ne_eqb (digit_zero + x % 10) digit_zero (λ e. h (omega arith))
 
-two_digits : (minus : Bool) (n : ℕ) → 1000 ≤ n → n < 10000 → field_of (space ∷ cond minus minus_sign space ∷ (digit_zero + n / 1000 % 10) ∷ with_point n) ≡ Number minus n
+two_digits : (minus : Bool) (n : ℕ) → 1000 ≤ n → n < 10000 → field_of (space ∷ cond minus minus_sign space ∷ (digit_zero + n / 1000 % 10) ∷ with_point n) ≡ numbered minus n
 unfolding field_of well_formed hundredths units ahead unpadded body negative plain all_digits natural
-two_digits true n l h = simp (digit-no-space, digit-no-minus, digit-is, no_zero (n / 1000) (λ e. omega arith)) (ap (Number true) (summed-two n h))
-two_digits false n l h = simp (digit-no-space, digit-no-minus, digit-is, no_zero (n / 1000) (λ e. omega arith)) (ap (Number false) (summed-two n h))
+two_digits true n l h = simp (digit-no-space, digit-no-minus, digit-is, no_zero (n / 1000) (λ e. omega arith)) (ap (numbered true) (summed-two n h))
+two_digits false n l h = simp (digit-no-space, digit-no-minus, digit-is, no_zero (n / 1000) (λ e. omega arith)) (ap (numbered false) (summed-two n h))
 
-three-digits : (minus : Bool) (n : ℕ) → 10000 ≤ n → n < 100000 → field_of (cond minus minus_sign space ∷ (digit_zero + n / 10000 % 10) ∷ (digit_zero + n / 1000 % 10) ∷ with_point n) ≡ Number minus n
+three-digits : (minus : Bool) (n : ℕ) → 10000 ≤ n → n < 100000 → field_of (cond minus minus_sign space ∷ (digit_zero + n / 10000 % 10) ∷ (digit_zero + n / 1000 % 10) ∷ with_point n) ≡ numbered minus n
 unfolding field_of well_formed hundredths units ahead unpadded body negative plain all_digits natural
-three-digits true n l h = simp (digit-no-space, digit-no-minus, digit-is, no_zero (n / 10000) (λ e. omega arith)) (ap (Number true) (summed-three n h))
-three-digits false n l h = simp (digit-no-space, digit-no-minus, digit-is, no_zero (n / 10000) (λ e. omega arith)) (ap (Number false) (summed-three n h))
+three-digits true n l h = simp (digit-no-space, digit-no-minus, digit-is, no_zero (n / 10000) (λ e. omega arith)) (ap (numbered true) (summed-three n h))
+three-digits false n l h = simp (digit-no-space, digit-no-minus, digit-is, no_zero (n / 10000) (λ e. omega arith)) (ap (numbered false) (summed-three n h))
 
-four-digits : (n : ℕ) → 100000 ≤ n → n < 1000000 → field_of ((digit_zero + n / 100000 % 10) ∷ (digit_zero + n / 10000 % 10) ∷ (digit_zero + n / 1000 % 10) ∷ with_point n) ≡ Number false n
+four-digits : (n : ℕ) → 100000 ≤ n → n < 1000000 → field_of ((digit_zero + n / 100000 % 10) ∷ (digit_zero + n / 10000 % 10) ∷ (digit_zero + n / 1000 % 10) ∷ with_point n) ≡ numbered false n
 unfolding field_of well_formed hundredths units ahead unpadded body negative plain all_digits natural
-four-digits n l h = simp (digit-no-space, digit-no-minus, digit-is, no_zero (n / 100000) (λ e. omega arith)) (ap (Number false) (summed-four n h))
+four-digits n l h = simp (digit-no-space, digit-no-minus, digit-is, no_zero (n / 100000) (λ e. omega arith)) (ap (numbered false) (summed-four n h))
 
 -- ---- what is written, by its size
 module _ (minus : Bool) (n : ℕ) where
@@ -144,7 +143,7 @@ module _ (minus : Bool) (n : ℕ) where
       rw (column-digit minus (n / 100000) (n / 10000) (λ e. omega arith), column-digit minus (n / 10000) (n / 1000) (λ e. omega arith), column-digit minus (n / 1000) 1 (λ e. omega arith)) refl
 
 -- ---- what is written is read
-read_by : (minus : Bool) (n : ℕ) (a b c : Bool) → leb 1000 n ≡ a → leb 10000 n ≡ b → leb 100000 n ≡ c → size_fits minus n ≡ true → field_of (field_text minus n) ≡ Number minus n
+read_by : (minus : Bool) (n : ℕ) (a b c : Bool) → leb 1000 n ≡ a → leb 10000 n ≡ b → leb 100000 n ≡ c → size_fits minus n ≡ true → field_of (field_text minus n) ≡ numbered minus n
 read_by minus n false b c p q r f = rw (written_one minus n (leb-false _ _ p)) (one-digit minus n (leb-false _ _ p))
 read_by minus n true false c p q r f = rw (written-two minus n (leb-true _ _ p) (leb-false _ _ q)) (two_digits minus n (leb-true _ _ p) (leb-false _ _ q))
 read_by minus n true true false p q r f = rw (written-three minus n (leb-true _ _ q) (leb-false _ _ r)) (three-digits minus n (leb-true _ _ q) (leb-false _ _ r))
@@ -154,5 +153,5 @@ read_by false n true true true p q r f = rw (written-four false n (leb-true _ _ 
     small : (n : ℕ) → size_fits false n ≡ true → n < 1000000
     small n f = let g : n ≤ 999999 = leb-true n 999999 f in omega arith
 
-pub read_written : (minus : Bool) (n : ℕ) → size_fits minus n ≡ true → field_of (field_text minus n) ≡ Number minus n
+pub read_written : (minus : Bool) (n : ℕ) → size_fits minus n ≡ true → field_of (field_text minus n) ≡ numbered minus n
 read_written minus n = read_by minus n _ _ _ refl refl refl

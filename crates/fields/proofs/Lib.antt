@@ -6,3 +6,4 @@ pub mod Fields
 pub mod Stores
 pub mod Inverse
 pub mod Back
+pub mod Told

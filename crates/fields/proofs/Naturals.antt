@@ -9,8 +9,7 @@ use lib.ListN.{length}
 use Rattle.text.specs.Bytes.{is_digit, all_digits, and_digit, natural}
 use Rattle.text.proofs.Digits.{apart, digit-range}
 use Rattle.fields.specs.Field.{digits_of}
-use Rattle.fields.specs.declared.Digits.{Digits}
-use Rattle.fields.specs.declared.Digits.TheVariants.{Make, Other}
+use Rattle.std.specs.Prelude.{Option, Some, None}
 
 pub one_more : (n k b : ℕ) → n < 10 ^ k → is_digit b ≡ true → and_digit n b < 10 ^ suc k
 one_more n k b h e = omega (arith, pow-suc 10 k, digit-range b e)
@@ -51,26 +50,26 @@ pub natural-small : (bs : List ℕ) → length bs ≤ 4 → all_digits bs ≡ tr
 natural-small bs l d = places (natural bs) (length bs) (bounded bs d) l
 
 -- ---- what `digits_of` tells
-abbrev is_made : Digits → Bool
-is_made (Make n) = true
-is_made Other = false
+abbrev is_made : Option ℕ → Bool
+is_made (Some n) = true
+is_made None = false
 
-abbrev made_of : Digits → ℕ
-made_of (Make n) = n
-made_of Other = 0
+abbrev made_of : Option ℕ → ℕ
+made_of (Some n) = n
+made_of None = 0
 
-made_by : (bs : List ℕ) (n : ℕ) (t : Bool) → all_digits bs ≡ t → digits_of bs ≡ Make n → (all_digits bs ≡ true) × (natural bs ≡ n)
+made_by : (bs : List ℕ) (n : ℕ) (t : Bool) → all_digits bs ≡ t → digits_of bs ≡ Some n → (all_digits bs ≡ true) × (natural bs ≡ n)
 unfolding digits_of
 made_by bs n true e h = (e, ap made_of (rw e at h))
 made_by bs n false e h = absurd (apart (ap is_made (rw e at h)))
 
-pub made-digits : (bs : List ℕ) (n : ℕ) → digits_of bs ≡ Make n → (all_digits bs ≡ true) × (natural bs ≡ n)
+pub made-digits : (bs : List ℕ) (n : ℕ) → digits_of bs ≡ Some n → (all_digits bs ≡ true) × (natural bs ≡ n)
 made-digits bs n h = made_by bs n (all_digits bs) refl h
 
-other-by : (bs : List ℕ) (t : Bool) → all_digits bs ≡ t → digits_of bs ≡ Other → all_digits bs ≡ false
+other-by : (bs : List ℕ) (t : Bool) → all_digits bs ≡ t → digits_of bs ≡ None → all_digits bs ≡ false
 unfolding digits_of
 other-by bs true e h = absurd (apart (sym (ap is_made (rw e at h))))
 other-by bs false e h = e
 
-pub other-digits : (bs : List ℕ) → digits_of bs ≡ Other → all_digits bs ≡ false
+pub other-digits : (bs : List ℕ) → digits_of bs ≡ None → all_digits bs ≡ false
 other-digits bs h = other-by bs (all_digits bs) refl h

@@ -10,6 +10,7 @@ use lib.Dec.{eqb}
 use lib.ListN.{length, take, drop, get_or, length-drop, drop_of_length-le}
 use lib.Seq.{drop-cons, take_all}
 use borrow.Author.Tests.{eq-eqb, ne_eqb}
+use Rattle.std.specs.List.{list_all}
 use Rattle.text.specs.Bytes.{space, minus_sign, digit_zero, is_digit, all_digits, all_spaces, negative, body, and_digit}
 use Rattle.fields.specs.Field.{unpadded, plain}
 
@@ -32,14 +33,6 @@ module _ (s : List ℕ) (i : ℕ) (h : i < length s) where
   pub number-on : (n : ℕ) → foldl and_digit n (drop i s) ≡ foldl and_digit (and_digit n (get_or s i 0)) (drop (i + 1) s)
   number-on n = rw left
 
-  pub space-on : get_or s i 0 ≡ space → all_spaces (drop i s) ≡ all_spaces (drop (i + 1) s)
-  unfolding all_spaces
-  space-on e = rw (left, eq-eqb (get_or s i 0) space e)
-
-  pub space-off : (get_or s i 0 ≡ space → ⊥) → all_spaces (drop i s) ≡ false
-  unfolding all_spaces
-  space-off e = rw (left, ne_eqb (get_or s i 0) space e)
-
   pub padding-on : get_or s i 0 ≡ space → unpadded (drop i s) ≡ unpadded (drop (i + 1) s)
   unfolding unpadded
   padding-on e = rw (left, eq-eqb (get_or s i 0) space e)
@@ -47,6 +40,12 @@ module _ (s : List ℕ) (i : ℕ) (h : i < length s) where
   pub padding-off : (get_or s i 0 ≡ space → ⊥) → unpadded (drop i s) ≡ drop i s
   unfolding unpadded
   padding-off e = rw (left, ne_eqb (get_or s i 0) space e)
+
+-- ---- whether all are spaces
+pub spaces-all : (s : List ℕ) → list_all (λ (b : ℕ). eqb b space) s ≡ all_spaces s
+unfolding all_spaces
+spaces-all [] = refl
+spaces-all (b ∷ bs) = rw (spaces-all bs) refl
 
 -- ---- where nothing is left
 module _ (s : List ℕ) (i : ℕ) (h : length s ≤ i) where
@@ -57,11 +56,7 @@ module _ (s : List ℕ) (i : ℕ) (h : length s ≤ i) where
   pub number-end : (n : ℕ) → foldl and_digit n (drop i s) ≡ n
   number-end n = rw (drop_of_length-le s h)
 
-  pub spaces-end : all_spaces (drop i s) ≡ true
-  unfolding all_spaces
-  spaces-end = rw (drop_of_length-le s h)
-
-  pub padding-end : unpadded (drop i s) ≡ drop i s
+  pub padding-end : [] ≡ unpadded (drop i s)
   unfolding unpadded
   padding-end = rw (drop_of_length-le s h)
 

@@ -1,17 +1,14 @@
 -- A value: "Fortran F7.2: seven characters, right-justified, blank-padded on the left, the decimal point in the fifth column of the field, two
 -- decimals after it". As other writers print it, "a zero before the point may be left out". So the four columns before the point hold spaces,
 -- then perhaps a minus, then the digits of a whole number with no zero too many in front, or no digit. Assumes nothing.
-use Rattle.std.specs.Prelude.{ℕ, ◌+◌, ◌*◌, Bool, true, cond, not, ◌&&◌, List, [], ◌∷◌, get_or, eqb}
+use Rattle.std.specs.Prelude.{ℕ, ◌+◌, ◌*◌, Bool, true, cond, not, ◌&&◌, List, [], ◌∷◌, Option, Some, None, get_or, eqb}
 use Rattle.text.specs.Bytes.{space, point, digit_zero, all_digits, negative, body, natural}
 use Rattle.fields.specs.Columns.{columns}
-use Rattle.fields.specs.declared.Digits.{Digits}
-use Rattle.fields.specs.declared.Digits.TheVariants.{Make, Other}
-use Rattle.fields.specs.declared.Field.{Field}
-use Rattle.fields.specs.declared.Field.TheVariants.{Number, Malformed}
+use Rattle.fields.specs.declared.Number.{Number}
 
 -- the number that bytes make, if they are digits
-unfoldable pub digits_of : List ℕ → Digits
-digits_of bs = cond (all_digits bs) (Make (natural bs)) Other
+unfoldable pub digits_of : List ℕ → Option ℕ
+digits_of bs = cond (all_digits bs) (Some (natural bs)) None
 
 -- ---- "blank-padded on the left"
 unfoldable pub unpadded : List ℕ → List ℕ
@@ -41,5 +38,8 @@ unfoldable pub hundredths : List ℕ → ℕ
 hundredths f = 100 * natural (units f) + natural (decimals f)
 
 -- whether it has a minus, and its hundredths
-unfoldable pub field_of : List ℕ → Field
-field_of f = cond (well_formed f) (Number (negative (ahead f)) (hundredths f)) Malformed
+abbrev pub numbered : Bool → ℕ → Option Number
+numbered minus n = Some (record { minus = minus; hundredths = n })
+
+unfoldable pub field_of : List ℕ → Option Number
+field_of f = cond (well_formed f) (numbered (negative (ahead f)) (hundredths f)) None

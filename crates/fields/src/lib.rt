@@ -15,18 +15,11 @@ ghost use Rattle.fields.specs.Written.{last_digit, before_units, field_text, siz
 
 use outline::LAST_MONTH;
 
-// What a value's seven characters say: whether there is a minus, and the hundredths.
-#[derive(Clone, Copy)]
-pub enum Field {
-    Number(bool, u32),
-    Malformed,
-}
-
-// The number that a part's bytes make, if they are digits.
-#[derive(Drop)]
-pub enum Digits {
-    Make(u32),
-    Other,
+// The number that a value is: whether there is a minus, and the hundredths.
+#[derive(Clone, Copy, Debug, PartialEq, Eq)]
+pub struct Number {
+    pub minus: bool,
+    pub hundredths: u32,
 }
 
 // The layout: the columns before the first value, where that begins, counted from 1, the values, the columns of a value,
@@ -41,18 +34,6 @@ pub const WIDTH: usize = 7;
 
 pub const LAST_COLUMN: usize = 94;
 
-// The refusals: no line of the layout or no precipitation, another state, division or element, and not the year.
-pub const MALFORMED: u8 = 14;
-
-pub const OTHER_LINE: u8 = 15;
-
-pub const NOT_THE_YEAR: u8 = 16;
-
-// Those of a line that is written: a value, or a state, division or year, that its columns do not hold, and no room.
-pub const UNFIT: u8 = 24;
-
-pub const NO_ROOM: u8 = 25;
-
 // The most hundredths that seven characters hold: without a minus, and with one.
 const MOST_ABOVE: u32 = 999_999;
 
@@ -60,36 +41,26 @@ const MOST_BELOW: u32 = 99_999;
 
 // ---- digits and spaces
 
-// The number that a part makes, of which at most four bytes are handed in.
-pub fn number_of(part: &[u8]) -> Digits
+// The number that a part makes, if it is digits, of which at most four bytes are handed in.
+pub fn number_of(part: &[u8]) -> Option<u32>
     requires { length part.now ≤ 4 }
     ensures { result ≡ digits_of part.now }
 {
-    let mut n: u32 = 0;
-    let mut i = 0;
-    while i < part.len() {
-        let b = part[i];
-        if !text::is_digit(b) {
-            return Digits::Other;
+    let mut n = 0;
+    for b in part {
+        if !text::is_digit(*b) {
+            return None;
         }
-        n = 10 * n + (b - b'0') as u32;
-        i += 1;
+        n = 10 * n + u32::from(*b - b'0');
     }
-    Digits::Make(n)
+    Some(n)
 }
 
 // Whether a part is spaces alone.
 pub fn all_spaces(rest: &[u8]) -> bool
     ensures { result ≡ all_spaces rest.now }
 {
-    let mut i = 0;
-    while i < rest.len() {
-        if rest[i] != b' ' {
-            return false;
-        }
-        i += 1;
-    }
-    true
+    rest.iter().all(|b| *b == b' ')
 }
 
 // ---- a value
@@ -98,67 +69,58 @@ pub fn all_spaces(rest: &[u8]) -> bool
 fn without_padding(part: &[u8]) -> &[u8]
     ensures { result.now ≡ unpadded part.now }
 {
-    let mut i = 0;
-    while i < part.len() {
-        if part[i] != b' ' {
+    for (i, b) in part.iter().enumerate() {
+        if *b != b' ' {
             return &part[i..];
         }
-        i += 1;
     }
-    &part[i..]
+    &[]
 }
 
+#[tactic(auto, unfolding(text::specs::Bytes::negative))]
 fn has_minus(part: &[u8]) -> bool
     ensures { result ≡ negative part.now }
 {
-    if part.len() == 0 {
-        return false;
-    }
-    part[0] == b'-'
+    matches!(part, [b'-', ..])
 }
 
+#[tactic(auto, unfolding(text::specs::Bytes::body))]
 fn without_minus(part: &[u8]) -> &[u8]
     ensures { result.now ≡ body part.now }
 {
-    if has_minus(part) {
-        return &part[1..];
+    match part {
+        [b'-', units @ ..] => units,
+        units => units,
     }
-    part
 }
 
 // Whether no 0 stands in front of other digits.
+#[tactic(auto, unfolding(crate::specs::Field::plain))]
 fn is_plain(part: &[u8]) -> bool
     ensures { result ≡ plain part.now }
 {
-    if part.len() < 2 {
-        return true;
-    }
-    part[0] != b'0'
+    !matches!(part, [b'0', _, ..])
 }
 
-// What a value says, of which all seven characters are handed in.
-pub fn read_field(field: &[u8]) -> Field
+// The number that a value is, if it is one, of which all seven characters are handed in.
+pub fn read_field(field: &[u8]) -> Option<Number>
     requires { length field.now ≡ width }
     ensures { result ≡ field_of field.now }
 {
     if field[4] != b'.' {
-        return Field::Malformed;
+        return None;
     }
     let ahead = without_padding(&field[..4]);
     let units = without_minus(ahead);
     if !is_plain(units) {
-        return Field::Malformed;
+        return None;
     }
-    let before = number_of(units);
-    let Digits::Make(whole) = before else {
-        return Field::Malformed;
-    };
-    let after = number_of(&field[5..7]);
-    let Digits::Make(part) = after else {
-        return Field::Malformed;
-    };
-    let minus = has_minus(ahead);
-    Field::Number(minus, 100 * whole + part)
+    let whole = number_of(units)?;
+    let part = number_of(&field[5..7])?;
+    Some(Number {
+        minus: has_minus(ahead),
+        hundredths: 100 * whole + part,
+    })
 }
 
 // ---- a value written
@@ -170,39 +132,46 @@ pub fn last_digit(n: u32) -> u8
     b'0' + (n % 10) as u8
 }
 
-// A column before the units, of the number without the columns to its right, and without those but one.
-fn before_units(minus: bool, q: u32, next: u32) -> u8
-    ensures { result ≡ before_units minus q next }
-{
-    if q != 0 {
-        return last_digit(q);
+impl Number {
+    // Writes it as a value, of which all seven characters are lent.
+    #[tactic(auto, unfolding(crate::specs::Written::field_text))]
+    pub fn write(self, field: &mut [u8])
+        requires { length field.old ≡ width }
+        ensures { field.new ≡ field_text self.minus self.hundredths }
+    {
+        let n = self.hundredths;
+        field.copy_from_slice(&[
+            self.before_units(n / 100_000, n / 10_000),
+            self.before_units(n / 10_000, n / 1_000),
+            self.before_units(n / 1_000, 1),
+            last_digit(n / 100),
+            b'.',
+            last_digit(n / 10),
+            last_digit(n),
+        ]);
     }
-    if next == 0 {
-        return b' ';
-    }
-    if minus { b'-' } else { b' ' }
-}
 
-// Writes a value, of which all seven characters are lent.
-pub fn write_field(field: &mut [u8], minus: bool, hundredths: u32)
-    requires { length field.old ≡ width }
-    ensures { field.new ≡ field_text minus hundredths }
-{
-    field[0] = before_units(minus, hundredths / 100_000, hundredths / 10_000);
-    field[1] = before_units(minus, hundredths / 10_000, hundredths / 1_000);
-    field[2] = before_units(minus, hundredths / 1_000, 1);
-    field[3] = last_digit(hundredths / 100);
-    field[4] = b'.';
-    field[5] = last_digit(hundredths / 10);
-    field[6] = last_digit(hundredths);
-}
-
-// Whether seven characters hold a value.
-pub fn size_fits(minus: bool, hundredths: u32) -> bool
-    ensures { result ≡ size_fits minus hundredths }
-{
-    if minus {
-        return hundredths <= MOST_BELOW;
+    // A column before the units, of the number without the columns to its right, and without those but one.
+    #[tactic(auto, unfolding(crate::specs::Written::before_units))]
+    fn before_units(self, q: u32, next: u32) -> u8
+        ensures { result ≡ before_units self.minus q next }
+    {
+        if q != 0 {
+            last_digit(q)
+        } else if next == 0 {
+            b' '
+        } else if self.minus {
+            b'-'
+        } else {
+            b' '
+        }
     }
-    hundredths <= MOST_ABOVE
+
+    // Whether seven characters hold it.
+    pub fn fits(self) -> bool
+        ensures { result ≡ size_fits self.minus self.hundredths }
+    {
+        let most = if self.minus { MOST_BELOW } else { MOST_ABOVE };
+        self.hundredths <= most
+    }
 }

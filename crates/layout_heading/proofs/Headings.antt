@@ -12,7 +12,7 @@ use Rattle.fields.specs.Columns.{state, division, element, year}
 use Rattle.layout_heading.specs.Heading.{headed, unless, first_told, heading_fault}
 use Rattle.layout_heading.specs.Steps.{heading_of}
 use Rattle.layout_heading.specs.declared.Heading.{Heading}
-use Rattle.layout_heading.specs.declared.Heading.TheVariants.{Of, At}
+use Rattle.std.specs.Prelude.{Result, Ok, Err}
 
 -- ---- the first column that is told
 pub told-first : (k : ℕ) (ks : List ℕ) → (k ≡ 0 → ⊥) → first_told (k ∷ ks) ≡ k
@@ -49,43 +49,36 @@ pub heading-told : (line : List ℕ) → headed line ≡ false → heading_fault
 heading-told line e = eqb-false (heading_fault line) 0 (heading-tells line ∙ e)
 
 -- ---- what the heading tells
-abbrev is_of : Heading → Bool
-is_of (Of s d e y) = true
-is_of (At k) = false
+abbrev is_ok : Result Heading ℕ → Bool
+is_ok (Ok h) = true
+is_ok (Err k) = false
 
-abbrev state_of : Heading → ℕ
-state_of (Of s d e y) = s
-state_of (At k) = k
+abbrev heading_in : Heading → Result Heading ℕ → Heading
+heading_in other (Ok h) = h
+heading_in other (Err k) = other
 
-abbrev division_of : Heading → ℕ
-division_of (Of s d e y) = d
-division_of (At k) = k
-
-abbrev element_of : Heading → ℕ
-element_of (Of s d e y) = e
-element_of (At k) = k
-
-abbrev year_of : Heading → ℕ
-year_of (Of s d e y) = y
-year_of (At k) = k
+abbrev column_in : Result Heading ℕ → ℕ
+column_in (Ok h) = 0
+column_in (Err k) = k
 
 -- a line whose heading says this
-abbrev pub Heads : List ℕ → ℕ → ℕ → ℕ → ℕ → Type 0
-Heads line s d e y =
-    (headed line ≡ true) × (natural (state line) ≡ s) × (natural (division line) ≡ d) × (natural (element line) ≡ e) × (natural (year line) ≡ y)
+abbrev pub Heads : List ℕ → Heading → Type 0
+Heads line h =
+    (headed line ≡ true) × (natural (state line) ≡ h.state) × (natural (division line) ≡ h.division) × (natural (element line) ≡ h.element) × (natural (year line) ≡ h.year)
 
-heads-by : (line : List ℕ) (s d e y : ℕ) (t : Bool) → headed line ≡ t → heading_of line ≡ Of s d e y → Heads line s d e y
+heads-by : (line : List ℕ) (h : Heading) (t : Bool) → headed line ≡ t → heading_of line ≡ Ok h → Heads line h
 unfolding heading_of
-heads-by line s d e y true h f = let g = rw h at f in (h, ap state_of g, ap division_of g, ap element_of g, ap year_of g)
-heads-by line s d e y false h f = absurd (apart (ap is_of (rw h at f)))
+heads-by line h true e f =
+    let g = ap (heading_in h) (rw e at f) in (e, ap (λ (x : Heading). x.state) g, ap (λ (x : Heading). x.division) g, ap (λ (x : Heading). x.element) g, ap (λ (x : Heading). x.year) g)
+heads-by line h false e f = absurd (apart (ap is_ok (rw e at f)))
 
-pub heads : (line : List ℕ) (s d e y : ℕ) → heading_of line ≡ Of s d e y → Heads line s d e y
-heads line s d e y f = heads-by line s d e y (headed line) refl f
+pub heads : (line : List ℕ) (h : Heading) → heading_of line ≡ Ok h → Heads line h
+heads line h f = heads-by line h (headed line) refl f
 
-headless-by : (line : List ℕ) (k : ℕ) (t : Bool) → headed line ≡ t → heading_of line ≡ At k → (headed line ≡ false) × (heading_fault line ≡ k)
+headless-by : (line : List ℕ) (k : ℕ) (t : Bool) → headed line ≡ t → heading_of line ≡ Err k → (headed line ≡ false) × (heading_fault line ≡ k)
 unfolding heading_of
-headless-by line k true h f = absurd (apart (sym (ap is_of (rw h at f))))
-headless-by line k false h f = (h, ap state_of (rw h at f))
+headless-by line k true h f = absurd (apart (sym (ap is_ok (rw h at f))))
+headless-by line k false h f = (h, ap column_in (rw h at f))
 
-pub headless : (line : List ℕ) (k : ℕ) → heading_of line ≡ At k → (headed line ≡ false) × (heading_fault line ≡ k)
+pub headless : (line : List ℕ) (k : ℕ) → heading_of line ≡ Err k → (headed line ≡ false) × (heading_fault line ≡ k)
 headless line k f = headless-by line k (headed line) refl f

@@ -1,16 +1,15 @@
 -- A proof's vocabulary, here since contracts cite it; no promise leans on it. What is read of a heading, and refused by it. Assumes nothing.
-use Rattle.std.specs.Prelude.{ℕ, cond, ◌&&◌, List, eqb}
+use Rattle.std.specs.Prelude.{ℕ, cond, ◌&&◌, List, Result, Ok, Err, eqb}
 use Rattle.text.specs.Bytes.{natural}
 use Rattle.fields.specs.Columns.{state, division, element, year}
 use Rattle.fields.specs.Refusals.{another, not_the_year}
 use Rattle.layout_heading.specs.Heading.{precipitation, headed, heading_fault}
 use Rattle.layout_heading.specs.declared.Heading.{Heading}
-use Rattle.layout_heading.specs.declared.Heading.TheVariants.{Of, At}
 
 -- the first ten columns
-unfoldable pub heading_of : List ℕ → Heading
+unfoldable pub heading_of : List ℕ → Result Heading ℕ
 heading_of line =
-    cond (headed line) (Of (natural (state line)) (natural (division line)) (natural (element line)) (natural (year line))) (At (heading_fault line))
+    cond (headed line) (Ok (record { state = natural (state line); division = natural (division line); element = natural (element line); year = natural (year line) })) (Err (heading_fault line))
 
 -- 15 or 16, of what the heading says and what is asked for
 unfoldable pub heading_refusal : ℕ → ℕ → ℕ → ℕ → ℕ → ℕ → ℕ → ℕ

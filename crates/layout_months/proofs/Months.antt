@@ -1,6 +1,6 @@
 -- A number in its range, the twelve months of a line, and what is found of them one after another. Assumes nothing.
 use mathlib.Core.Path.{◌≡◌, refl, sym, ap}
-use mathlib.Core.Bool.{Bool, true, false, and-eq-true_iff}
+use mathlib.Core.Bool.{Bool, true, false, beq, ◌&&◌, and-eq-true_iff}
 use mathlib.Core.List.{List, [], ◌∷◌, ◌++◌, map, map-append}
 use Prim.Native.Nat.{ℕ, zero, suc, ◌+◌, ◌*◌, ◌^◌, ◌≤◌, ◌<◌}
 use native.Mathlib.Omega.{arith}
@@ -9,16 +9,22 @@ use lib.Dec.{eqb}
 use lib.ListN.{length, take, drop, get_or, length-map}
 use borrow.Author.Tests.{leb-true, eqb-true, eqb-false}
 use Rattle.fields.specs.Columns.{values, heading_columns, first_value, months_of_year, width}
-use Rattle.layout_months.specs.Months.{most_hundredths, in_range, month_of, months_of, is_present, set_of, month_at_fault, first_bad}
+use Rattle.layout_months.specs.Months.{mark_hundredths, most_hundredths, is_mark, in_range, month_of, months_of, is_present, set_of, month_at_fault, first_bad}
 use Rattle.layout_months.specs.Steps.{found_in, and_month, column_of}
 use Rattle.layout_months.specs.declared.Found.{Found}
 use Rattle.layout_months.specs.declared.Month.{Month}
 use Rattle.layout_months.specs.declared.Month.TheVariants.{Amount, Missing, Outside, Malformed}
 use Rattle.layout_months.proofs.Sets.{set_below, set_more, set_same, first_rest}
 
-pub range-most : (minus : Bool) (n : ℕ) → in_range minus n ≡ true → n ≤ most_hundredths
+pub range_most : (minus : Bool) (n : ℕ) → in_range minus n ≡ true → n ≤ most_hundredths
 unfolding in_range
-range-most minus n h = leb-true n most_hundredths ((and-eq-true_iff _ _).0 h).0
+range_most minus n h = leb-true n most_hundredths ((and-eq-true_iff _ _).0 h).0
+
+-- a number that is the mark, as the code compares the two
+pub mark-is : (b minus : Bool) (n : ℕ) → b ≡ (beq minus true && eqb n mark_hundredths) → b ≡ is_mark minus n
+unfolding is_mark
+mark-is b true n e = e
+mark-is b false n e = e
 
 -- ---- the months of a line
 pub months-twelve : (line : List ℕ) → length (months_of line) ≡ months_of_year

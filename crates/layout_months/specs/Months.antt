@@ -1,11 +1,10 @@
 -- A value as a month's precipitation, and what the twelve months of a line make. Document 02, E1: "Each answer holds the twelve amounts in
 -- thousandths (0 where missing), a twelve-bit set of the months present, with the count of months present and the first missing month (0 if
 -- none). A missing month is reported and never filled in." Assumes nothing.
-use Rattle.std.specs.Prelude.{ℕ, ◌+◌, ◌*◌, Bool, true, false, cond, not, ◌&&◌, ◌||◌, List, [], ◌∷◌, map, leb, eqb}
+use Rattle.std.specs.Prelude.{ℕ, ◌+◌, ◌*◌, Bool, true, false, cond, not, ◌&&◌, ◌||◌, List, [], ◌∷◌, map, Option, Some, None, leb, eqb}
 use Rattle.fields.specs.Columns.{width, values}
 use Rattle.fields.specs.Field.{field_of}
-use Rattle.fields.specs.declared.Field.{Field}
-use Rattle.fields.specs.declared.Field.TheVariants as field
+use Rattle.fields.specs.declared.Number.{Number}
 use Rattle.layout_months.specs.declared.Month.{Month}
 use Rattle.layout_months.specs.declared.Month.TheVariants.{Amount, Missing, Outside, Malformed}
 
@@ -28,9 +27,9 @@ in_range minus n = leb n most_hundredths && (not minus || eqb n 0)
 unfoldable pub rain_of : Bool → ℕ → Month
 rain_of minus n = cond (is_mark minus n) Missing (cond (in_range minus n) (Amount (10 * n)) Outside)
 
-abbrev pub month_said : Field → Month
-month_said (field.Number minus n) = rain_of minus n
-month_said field.Malformed = Malformed
+abbrev pub month_said : Option Number → Month
+month_said (Some said) = rain_of said.minus said.hundredths
+month_said None = Malformed
 
 unfoldable pub month_of : List ℕ → Month
 month_of f = month_said (field_of f)

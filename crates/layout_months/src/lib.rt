@@ -6,13 +6,14 @@
 
 ghost use Rattle.std.specs.Prelude.{◌≡◌, map, ◌+◌, ◌≤◌, ◌<◌, ◌^◌, length};
 ghost use Rattle.fields.specs.Columns.{months_of_year, last_column};
-ghost use Rattle.layout_months.specs.Months.{is_mark, in_range, month_said, months_of, amount_of};
+ghost use Rattle.fields.specs.Told.{unless_zero};
+ghost use Rattle.layout_months.specs.Months.{in_range, month_said, months_of, amount_of};
 ghost use Rattle.layout_months.specs.Steps.{and_month, found_in, all_months, lowest_missing, column_of};
 
-use fields::{FIRST_VALUE, Field, HEADING, MONTHS, WIDTH};
+use fields::{FIRST_VALUE, HEADING, MONTHS, Number, WIDTH};
 
 // What a value says as a month's precipitation.
-#[derive(Drop)]
+#[derive(Clone, Copy, Debug, PartialEq, Eq)]
 pub enum Month {
     // Thousandths of an inch.
     Amount(u32),
@@ -25,7 +26,7 @@ pub enum Month {
 }
 
 // Sets of the months read so far: January is bit 0, December bit 11.
-#[derive(Clone, Copy)]
+#[derive(Clone, Copy, Debug, Default, PartialEq, Eq)]
 pub struct Found {
     // Those whose value is malformed.
     pub malformed: u32,
@@ -35,8 +36,11 @@ pub struct Found {
     pub present: u32,
 }
 
-// The missing mark's size, -9.99 inches, and the most that a month may have, 100 inches.
-const MARK: u32 = 999;
+// The missing mark, -9.99 inches, and the most that a month may have, 100 inches.
+const MARK: Number = Number {
+    minus: true,
+    hundredths: 999,
+};
 
 const MOST: u32 = 10_000;
 
@@ -48,82 +52,70 @@ const ALL: u32 = 4_095;
 
 // ---- a month
 
-// Whether a number is the missing mark.
-fn is_mark(minus: bool, hundredths: u32) -> bool
-    ensures { result ≡ is_mark minus hundredths }
-{
-    if minus {
-        return hundredths == MARK;
-    }
-    false
-}
-
 // Whether a number is 0 to 100 inches; a minus before 0 says 0.
-fn in_range(minus: bool, hundredths: u32) -> bool
-    ensures { result ≡ in_range minus hundredths }
+#[tactic(auto, unfolding(crate::specs::Months::in_range))]
+fn in_range(said: Number) -> bool
+    ensures { result ≡ in_range said.minus said.hundredths }
 {
-    if minus {
-        return hundredths == 0;
-    }
-    hundredths <= MOST
+    let most = if said.minus { 0 } else { MOST };
+    said.hundredths <= most
 }
 
 // What a value says of its month.
-fn month_said(said: Field) -> Month
+#[tactic(auto, using(crate::proofs::Months::range_most), unfolding(crate::specs::Months::rain_of))]
+fn month_said(said: Option<Number>) -> Month
     ensures { result ≡ month_said said }
 {
-    let Field::Number(minus, hundredths) = said else {
+    let Some(number) = said else {
         return Month::Malformed;
     };
-    if is_mark(minus, hundredths) {
-        return Month::Missing;
+    if number == MARK {
+        Month::Missing
+    } else if in_range(number) {
+        Month::Amount(10 * number.hundredths)
+    } else {
+        Month::Outside
     }
-    if in_range(minus, hundredths) {
-        return Month::Amount(10 * hundredths);
-    }
-    Month::Outside
 }
 
 // The thousandths that a value says, 0 where it says no amount. They are told by the value and not by its month: a
 // month taken apart twice is compiled to a jump by a table.
-fn amount(said: Field) -> u32
+#[tactic(auto, using(crate::proofs::Months::range_most))]
+fn amount(said: Option<Number>) -> u32
     ensures { result ≡ amount_of (month_said said) }
 {
-    let Field::Number(minus, hundredths) = said else {
-        return 0;
-    };
-    if in_range(minus, hundredths) {
-        return 10 * hundredths;
+    match said {
+        Some(number) if in_range(number) => 10 * number.hundredths,
+        _ => 0,
     }
-    0
 }
 
 // ---- the months of a line
 
-// The months so far and one more, whose bit of the sets this is.
-fn and_month(found: Found, month: Month, bit: u32) -> Found
-    requires bit_bound { found.malformed + bit < 2 ^ 32 }
-    requires bit_bound_2 { found.bad + bit < 2 ^ 32 }
-    requires bit_bound_3 { found.present + bit < 2 ^ 32 }
-    ensures { result ≡ and_month found month bit }
-{
-    match month {
-        Month::Amount(_) => Found {
-            malformed: found.malformed,
-            bad: found.bad,
-            present: found.present + bit,
-        },
-        Month::Missing => found,
-        Month::Outside => Found {
-            malformed: found.malformed,
-            bad: found.bad + bit,
-            present: found.present,
-        },
-        Month::Malformed => Found {
-            malformed: found.malformed + bit,
-            bad: found.bad + bit,
-            present: found.present,
-        },
+impl Found {
+    // The months so far and one more, whose bit of the sets this is.
+    fn and(self, month: Month, bit: u32) -> Found
+        requires bit_bound { self.malformed + bit < 2 ^ 32 }
+        requires bit_bound_2 { self.bad + bit < 2 ^ 32 }
+        requires bit_bound_3 { self.present + bit < 2 ^ 32 }
+        ensures { result ≡ and_month self month bit }
+    {
+        match month {
+            Month::Amount(_) => Found {
+                present: self.present + bit,
+                ..self
+            },
+            Month::Missing => self,
+            Month::Outside => Found {
+                bad: self.bad + bit,
+                ..self
+            },
+            Month::Malformed => Found {
+                malformed: self.malformed + bit,
+                bad: self.bad + bit,
+                ..self
+            },
+        }
     }
 }
 
@@ -134,42 +126,37 @@ pub fn read_months(line: &[u8], amounts: &mut [u32]) -> Found
     ensures value { result ≡ found_in (months_of line.now) }
     ensures amounts_after { amounts.new ≡ map amount_of (months_of line.now) }
 {
-    let mut found = Found {
-        malformed: 0,
-        bad: 0,
-        present: 0,
-    };
-    let mut bit: u32 = 1;
-    let mut m = 0;
-    while m < MONTHS {
+    let mut found = Found::default();
+    for m in 0..MONTHS {
         let at = HEADING + WIDTH * m;
         let said = fields::read_field(&line[at..at + WIDTH]);
         amounts[m] = amount(said);
-        found = and_month(found, month_said(said), bit);
-        bit = 2 * bit;
-        m += 1;
+        found = found.and(month_said(said), 1 << m);
     }
     found
 }
 
-// The first month that is not in the set: as many months as the set's complement within twelve bits has zeros
-// below its lowest one are there before it.
-pub fn first_missing(present: u32) -> u32
+// The first month that is not in the set, if there is one: as many months as the set's complement within twelve bits
+// has zeros below its lowest one are there before it.
+#[tactic(auto, unfolding(crate::specs::Steps::lowest_missing))]
+pub fn first_missing(present: u32) -> Option<u32>
     requires { present ≤ all_months }
-    ensures { result ≡ lowest_missing present }
+    ensures { result ≡ unless_zero (lowest_missing present) }
 {
-    if present == ALL {
-        return 0;
+    let missing = ALL - present;
+    if missing == 0 {
+        return None;
     }
-    u32::trailing_zeros(ALL - present) + 1
+    Some(missing.trailing_zeros() + 1)
 }
 
-// The column where the first month of a set begins, or 0 where it has none.
-pub fn first_column(set: u32) -> u32
-    ensures { result ≡ column_of set }
+// The column where the first month of a set begins, if it has one.
+#[tactic(auto, unfolding(crate::specs::Steps::column_of))]
+pub fn first_column(set: u32) -> Option<u32>
+    ensures { result ≡ unless_zero (column_of set) }
 {
     if set == 0 {
-        return 0;
+        return None;
     }
-    FIRST_VALUE + VALUE * u32::trailing_zeros(set)
+    Some(FIRST_VALUE + VALUE * set.trailing_zeros())
 }

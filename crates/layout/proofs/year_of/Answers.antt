@@ -1,21 +1,23 @@
 -- `layout::year_of`: its two tests are those of the definition. Assumes nothing.
-use mathlib.Core.Path.{sym, ◌∙◌}
+use Rattle.std.proofs.Common.{◌≡◌, refl, sym, ap, ◌∙◌, Bool, true, false, List, ℕ, ◌≤◌, length}
 use borrow.Author.Tests.{le-leb, lt-leb}
-use Rattle.layout.specs.Rainfall.{year_of}
-use Rattle.fields.proofs.Naturals.{made-digits, other-digits}
+use Rattle.text.specs.Bytes.{all_digits}
+use Rattle.fields.specs.Columns.{year, heading_columns}
+use Rattle.fields.specs.Field.{digits_of}
+use Rattle.fields.specs.Told.{or_zero}
+use Rattle.layout.specs.Rainfall.{year_of, year_told}
 use Rattle.layout.proofs.year_of.Goals as goal
 
-pub returns-then-line-lt-HEADING : goal.returns-then-line-lt-HEADING
-unfolding year_of
-returns-then-line-lt-HEADING c = rw (lt-leb _ _ c.if-line-lt-HEADING.true)
+told_by : (line : List ℕ) (t : Bool) → all_digits (year line) ≡ t → heading_columns ≤ length line → (or_zero (digits_of (year line)) ≡ year_of line) × (digits_of (year line) ≡ year_told line)
+unfolding year_of year_told digits_of
+told_by line true e h = (rw (le-leb _ _ h, e), rw (le-leb _ _ h, e))
+told_by line false e h = (rw (le-leb _ _ h, e), rw (le-leb _ _ h, e))
 
-pub returns-in_default : goal.returns-in_default
-unfolding year_of
-returns-in_default c =
-    rw (le-leb _ _ c.if-line-lt-HEADING.false, other-digits _ (sym c.number_of-said.ensures ∙ c.in_default.is))
+pub returns-then-line-lt-HEADING : goal.returns-then-line-lt-HEADING
+unfolding year_of year_told
+returns-then-line-lt-HEADING c = record { value = rw (lt-leb _ _ c.if-line-lt-HEADING.true); told = rw (lt-leb _ _ c.if-line-lt-HEADING.true) }
 
 pub returns : goal.returns
-unfolding year_of
 returns c =
-    let m = made-digits _ _ (sym c.number_of-said.ensures ∙ c.in-Make.is) in
-    rw (le-leb _ _ c.if-line-lt-HEADING.false, m.0, m.1)
+    let t = told_by c.args.line.now (all_digits (year c.args.line.now)) refl c.if-line-lt-HEADING.false in
+    record { value = ap or_zero c.number_of.ensures ∙ t.0; told = c.number_of.ensures ∙ t.1 }

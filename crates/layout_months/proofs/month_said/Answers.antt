@@ -1,23 +1,17 @@
 -- `layout_months::month_said`: a number is told by the tests of the definition, in its order. Assumes nothing.
-use mathlib.Core.Path.{sym, ◌∙◌}
-use native.Mathlib.Omega.{arith}
+use Rattle.std.proofs.Common.{sym, ◌∙◌}
 use Rattle.layout_months.specs.Months.{rain_of}
-use Rattle.layout_months.proofs.Months.{range-most}
+use Rattle.layout_months.proofs.Months.{mark-is}
 use Rattle.layout_months.proofs.month_said.Goals as goal
 
-pub returns-then-is_mark : goal.returns-then-is_mark
+pub returns-then-eq : goal.returns-then-eq
 unfolding rain_of
-returns-then-is_mark c = rw (c.in-Number.is, sym c.is_mark.ensures ∙ c.if-is_mark.true)
-
-pub overflow_mul-result : goal.overflow_mul-result
-overflow_mul-result c = record { fits = omega (arith, range-most _ _ (sym c.in_range.ensures ∙ c.if-in_range.true)) }
+returns-then-eq c = rw (c.in-Some.is, sym (mark-is c.eq.result c.in-Some.number.minus c.in-Some.number.hundredths c.eq.ensures) ∙ c.if-eq.true)
 
 pub returns-then-in_range : goal.returns-then-in_range
 unfolding rain_of
-returns-then-in_range c =
-    rw (c.in-Number.is, sym c.is_mark.ensures ∙ c.if-is_mark.false, sym c.in_range.ensures ∙ c.if-in_range.true)
+returns-then-in_range c = rw (c.in-Some.is, sym (mark-is c.eq.result c.in-Some.number.minus c.in-Some.number.hundredths c.eq.ensures) ∙ c.if-eq.false, sym c.in_range.ensures ∙ c.if-in_range.true)
 
-pub returns : goal.returns
+pub returns-else-in_range : goal.returns-else-in_range
 unfolding rain_of
-returns c =
-    rw (c.in-Number.is, sym c.is_mark.ensures ∙ c.if-is_mark.false, sym c.in_range.ensures ∙ c.if-in_range.false)
+returns-else-in_range c = rw (c.in-Some.is, sym (mark-is c.eq.result c.in-Some.number.minus c.in-Some.number.hundredths c.eq.ensures) ∙ c.if-eq.false, sym c.in_range.ensures ∙ c.if-in_range.false)
