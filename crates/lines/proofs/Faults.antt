@@ -16,21 +16,6 @@ use Rattle.lines.specs.Line.{one_or_more, well_formed}
 use Rattle.lines.specs.Fault.{sign_length, digits_in, spoiled_at}
 
 -- ---- the sign
-pub sign-of-none : (line : List ℕ) → length line ≡ 0 → sign_length line ≡ 0
-unfolding sign_length negative
-sign-of-none [] e = refl
-sign-of-none (b ∷ bs) e = absurd (omega arith)
-
-pub sign-of-minus : (line : List ℕ) → (length line ≡ 0 → ⊥) → get_or line 0 0 ≡ minus_sign → sign_length line ≡ 1
-unfolding sign_length negative
-sign-of-minus [] h e = absurd (h refl)
-sign-of-minus (b ∷ bs) h e = rw (eq-eqb b minus_sign e)
-
-pub sign-of-other : (line : List ℕ) → (length line ≡ 0 → ⊥) → (get_or line 0 0 ≡ minus_sign → ⊥) → sign_length line ≡ 0
-unfolding sign_length negative
-sign-of-other [] h e = refl
-sign-of-other (b ∷ bs) h e = rw (ne_eqb b minus_sign e)
-
 -- what is left without the sign
 body-by : (b : ℕ) (bs : List ℕ) (t : Bool) → eqb b minus_sign ≡ t → drop (sign_length (b ∷ bs)) (b ∷ bs) ≡ body (b ∷ bs)
 unfolding sign_length negative body

@@ -1,14 +1,14 @@
 -- A proof's vocabulary, which contracts cite: a line that is read byte by byte, `begun` (Line.antt) before its first byte, `fed` after one
 -- byte more, and what is `finished` where it ends. A size beyond the range is held one above it, so a line of any length is judged within
 -- fixed memory. That this gives what `judged` says of the whole line is `streamed`, proofs/Lines.antt. Assumes nothing.
-use Rattle.std.specs.Prelude.{ℕ, ◌+◌, Bool, true, false, cond, not, ◌&&◌, ◌||◌, leb, eqb}
+use Rattle.std.specs.Prelude.{ℕ, ◌+◌, Bool, true, false, cond, not, ◌&&◌, ◌||◌, leb, eqb, ℤ, Result, Ok, Err}
 use Rattle.outline.specs.Numbers.{most_z}
 use Rattle.text.specs.Bytes.{minus_sign, is_digit, and_digit}
 use Rattle.lines.specs.Line.{Judged, accepted, refused, signed}
 use Rattle.outline.specs.Refusals.{bad_z, not_a_number}
+use Rattle.outline.specs.Refused.{refusal_number}
+use Rattle.outline.specs.declared.Refusal.{Refusal}
 use Rattle.lines.specs.declared.Line.{Line}
-use Rattle.lines.specs.declared.Read.{Read}
-use Rattle.lines.specs.declared.Read.TheVariants.{Z, OutOfRange, NotANumber}
 
 -- a size as it is kept
 unfoldable pub held : ℕ → ℕ
@@ -37,7 +37,6 @@ finished l =
     (refused not_a_number)
 
 -- an answer in the paper's terms
-abbrev pub read_of : Read → Judged
-read_of (Z v) = accepted v
-read_of OutOfRange = refused bad_z
-read_of NotANumber = refused not_a_number
+abbrev pub read_of : Result ℤ Refusal → Judged
+read_of (Ok v) = accepted v
+read_of (Err e) = refused (refusal_number e)

@@ -10,10 +10,10 @@ ghost use Rattle.lines.specs.Reading.{held, opens, fed, finished, read_of};
 ghost use Rattle.lines.specs.Line.{begun};
 ghost use Rattle.lines.specs.Fault.{sign_length, spoiled_at};
 
-use outline::MOST_Z;
+use outline::{MOST_Z, Refusal};
 
 // A line so far. Its bytes are given one by one, without the line feed.
-#[derive(Clone, Copy)]
+#[derive(Clone, Copy, Debug, Default, PartialEq, Eq)]
 pub struct Line {
     // Whether a minus has come.
     pub minus: bool,
@@ -25,21 +25,6 @@ pub struct Line {
     pub size: u32,
 }
 
-// What a line says. `read_of` gives each case the paper's number and Z.
-#[derive(Drop)]
-pub enum Read {
-    // 0: a Z within its range.
-    Z(i32),
-    // 12: a whole number outside the range of Z.
-    OutOfRange,
-    // 13: not a whole number.
-    NotANumber,
-}
-
-const MINUS_SIGN: u8 = 45;
-
-const DIGIT_ZERO: u8 = 48;
-
 // The most of Z in size.
 const MOST_SIZE: u32 = MOST_Z as u32;
 
@@ -48,6 +33,7 @@ const HELD: u32 = MOST_SIZE + 1;
 
 // The size after one digit more. A size that is held is let grow no further, so no sum comes near the
 // end of a u32.
+#[tactic(auto, unfolding(crate::specs::Reading::held, text::specs::Bytes::is_digit))]
 fn grown(size: u32, b: u8) -> u32
     requires { is_digit b ≡ true }
     ensures { result ≡ held (and_digit size b) }
@@ -55,111 +41,81 @@ fn grown(size: u32, b: u8) -> u32
     if size > MOST_SIZE {
         return HELD;
     }
-    let n = 10 * size + ((b - DIGIT_ZERO) as u32);
-    if n > MOST_SIZE {
-        return HELD;
-    }
-    n
+    let n = 10 * size + (b - b'0') as u32;
+    n.min(HELD)
 }
 
 // Whether b is a minus that comes before anything else.
+#[tactic(auto, unfolding(crate::specs::Reading::opens))]
 fn is_opening(l: Line, b: u8) -> bool
     ensures { result ≡ opens l b }
 {
-    if l.minus {
-        return false;
-    }
-    if l.digits {
-        return false;
-    }
-    b == MINUS_SIGN
+    !(l.minus || l.digits) && b == b'-'
 }
 
 // Before the first byte.
 pub fn begin() -> Line
     ensures { result ≡ begun }
 {
-    Line {
-        minus: false,
-        digits: false,
-        spoiled: false,
-        size: 0,
-    }
+    Line::default()
 }
 
 // One byte more.
+#[tactic(auto, unfolding(crate::specs::Reading::fed))]
 pub fn feed(l: Line, b: u8) -> Line
     ensures { result ≡ fed l b }
 {
     if text::is_digit(b) {
-        let size = grown(l.size, b);
         return Line {
-            minus: l.minus,
             digits: true,
-            spoiled: l.spoiled,
-            size,
+            size: grown(l.size, b),
+            ..l
         };
     }
     if is_opening(l, b) {
         return Line {
             minus: true,
             digits: false,
-            spoiled: l.spoiled,
-            size: l.size,
+            ..l
         };
     }
-    Line {
-        minus: l.minus,
-        digits: l.digits,
-        spoiled: true,
-        size: l.size,
-    }
+    Line { spoiled: true, ..l }
 }
 
-// The line ends.
-pub fn finish(l: Line) -> Read
+// The line ends: 0 with a Z within its range, 12 where the number is outside it, 13 where it is not a whole number.
+#[tactic(auto, unfolding(crate::specs::Reading::finished, crate::specs::Line::signed))]
+pub fn finish(l: Line) -> Result<i32, Refusal>
     ensures { read_of result ≡ finished l }
 {
-    if l.spoiled {
-        return Read::NotANumber;
+    if l.spoiled || !l.digits {
+        return Err(Refusal::NotANumber);
     }
-    if !l.digits {
-        return Read::NotANumber;
+    if l.size > MOST_SIZE {
+        return Err(Refusal::BadZ);
     }
-    let size = l.size;
-    if size > MOST_SIZE {
-        return Read::OutOfRange;
-    }
-    let z = size as i32;
-    if l.minus {
-        return Read::Z(0 - z);
-    }
-    Read::Z(z)
+    let z = l.size as i32;
+    Ok(if l.minus { -z } else { z })
 }
 
 // How many bytes the sign of a line has: 1 where it begins with a minus.
+#[tactic(auto, unfolding(crate::specs::Fault::sign_length, text::specs::Bytes::negative))]
 fn sign_length(line: &[u8]) -> usize
     ensures { result ≡ sign_length line.now }
 {
-    if line.len() == 0 {
-        return 0;
+    match line {
+        [b'-', ..] => 1,
+        _ => 0,
     }
-    if line[0] == MINUS_SIGN {
-        return 1;
-    }
-    0
 }
 
 // The place of the first byte that no whole number has there, to tell a person; the line's length where there is none.
 pub fn spoiled_at(line: &[u8]) -> usize
     ensures { result ≡ spoiled_at line.now }
 {
-    let mut i = sign_length(line);
-    while i < line.len() {
+    for i in sign_length(line)..line.len() {
         if !text::is_digit(line[i]) {
             return i;
         }
-        i += 1;
     }
-    i
+    line.len()
 }
