@@ -1,11 +1,10 @@
--- What one byte of the input does, in its five cases. Assumes nothing.
+-- What one byte of the input does, in its four cases. Assumes nothing.
 use mathlib.Core.Path.{◌≡◌, ◌∙◌}
 use mathlib.Core.Bool.{true, false}
 use Prim.Native.Nat.{ℕ, ◌≤◌, ◌<◌}
 use borrow.Author.Tests.{lt-ltb, le-ltb, eq-eqb, ne_eqb}
 use Rattle.text.specs.Bytes.{line_feed}
-use Rattle.quoted.specs.Start.{in_room, past_room, with_byte, next_line, fault_ended, line_ended, heeded}
-use Rattle.quoted.specs.Quotes.{room}
+use Rattle.quoted.specs.Start.{with_byte, next_line, fault_ended, line_ended, heeded}
 use Rattle.quoted.specs.declared.Start.{Start}
 
 pub step-ended : (fault : ℕ) (s : Start) (b : ℕ) → s.ended ≡ true → heeded fault s b ≡ s
@@ -25,15 +24,7 @@ pub step-fault : (fault : ℕ) (s : Start) (b : ℕ) → s.ended ≡ false → b
 unfolding line_ended
 step-fault fault s b e f h = step-feed fault s b e f ∙ rw (le-ltb s.line fault h)
 
--- any other byte, where there is room for it, and where there is none
+-- any other byte
 pub step-byte : (fault : ℕ) (s : Start) (b : ℕ) → s.ended ≡ false → (b ≡ line_feed → ⊥) → heeded fault s b ≡ with_byte s b
 unfolding heeded
 step-byte fault s b e f = rw (e, ne_eqb b line_feed f)
-
-pub step_room : (fault : ℕ) (s : Start) (b : ℕ) → s.ended ≡ false → (b ≡ line_feed → ⊥) → s.kept < room → heeded fault s b ≡ in_room s b
-unfolding with_byte
-step_room fault s b e f h = step-byte fault s b e f ∙ rw (lt-ltb s.kept room h)
-
-pub step_past : (fault : ℕ) (s : Start) (b : ℕ) → s.ended ≡ false → (b ≡ line_feed → ⊥) → room ≤ s.kept → heeded fault s b ≡ past_room s
-unfolding with_byte
-step_past fault s b e f h = step-byte fault s b e f ∙ rw (le-ltb s.kept room h)

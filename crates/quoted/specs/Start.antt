@@ -1,7 +1,7 @@
 -- A proof's vocabulary, which contracts cite: how the start of a line is kept, byte by byte. The lines of the input are counted from 1, and
 -- the one at fault is not left again. That what is kept is the start of that line is `quotes`, and of an input in pieces `quotes-in-pieces`,
 -- proofs/Quotes.antt. Assumes nothing.
-use Rattle.std.specs.Prelude.{ℕ, ◌+◌, true, false, cond, set, replicate, ltb, eqb}
+use Rattle.std.specs.Prelude.{ℕ, ◌+◌, true, false, cond, set, replicate, ltb, eqb, Option, Some, None}
 use Rattle.text.specs.Bytes.{line_feed}
 use Rattle.quoted.specs.Quotes.{room}
 use Rattle.quoted.specs.declared.Start.{Start}
@@ -32,3 +32,8 @@ line_ended fault s = cond (ltb s.line fault) (next_line s) (fault_ended s)
 -- one byte more of the input
 unfoldable pub heeded : ℕ → Start → ℕ → Start
 heeded fault s b = cond s.ended s (cond (eqb b line_feed) (line_ended fault s) (with_byte s b))
+
+-- the line up to which bytes are looked at: the one at fault, and with none the last that the count has a number for
+abbrev pub last_line : Option ℕ → ℕ
+last_line (Some fault) = fault
+last_line None = 4294967295

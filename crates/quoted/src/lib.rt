@@ -6,9 +6,9 @@
 
 ghost use Rattle.std.specs.Prelude.{◌≡◌};
 ghost use mathlib.Core.List.{foldl};
-ghost use Rattle.quoted.specs.Start.{fresh, heeded};
+ghost use Rattle.quoted.specs.Start.{fresh, heeded, last_line};
 
-#[derive(Drop)]
+#[derive(Clone, Copy, Debug)]
 pub struct Start {
     // The number of the line that is being read, counted from 1.
     pub line: u32,
@@ -23,48 +23,54 @@ pub struct Start {
 // How many of its bytes are kept at most.
 pub const ROOM: usize = 40;
 
-const LINE_FEED: u8 = 10;
-
 // Before the first byte of the input.
 pub fn begin() -> Start
     ensures { result ≡ fresh }
 {
-    let bytes = [0u8; ROOM];
     Start {
         line: 1,
         ended: false,
         kept: 0,
         more: false,
-        bytes,
+        bytes: [0; ROOM],
     }
 }
 
-// A piece of the input more, up to the end of the line at fault, which is counted from 1.
-pub fn heed(s: Start, fault: u32, piece: &[u8]) -> Start
-    ensures { result ≡ foldl (heeded fault) s piece.now }
-{
-    let mut t = s;
-    let mut i = 0;
-    while i < piece.len() {
-        if !t.ended {
-            let b = piece[i];
-            let kept = t.kept;
-            if b == LINE_FEED {
-                if t.line < fault {
-                    t.line = t.line + 1;
-                    t.kept = 0;
-                    t.more = false;
-                } else {
-                    t.ended = true;
-                }
-            } else if kept < ROOM {
-                t.bytes[kept] = b;
-                t.kept = kept + 1;
-            } else {
-                t.more = true;
-            }
+impl Start {
+    // One byte more.
+    #[tactic(auto, unfolding(crate::specs::Start::heeded, crate::specs::Start::line_ended, crate::specs::Start::with_byte))]
+    fn heed_byte(&mut self, last: u32, b: u8)
+        ensures { self.new ≡ heeded last self.old b }
+    {
+        if self.ended {
+            return;
         }
-        i += 1;
+        if b == b'\n' {
+            if self.line < last {
+                self.line += 1;
+                self.kept = 0;
+                self.more = false;
+            } else {
+                self.ended = true;
+            }
+        } else if self.kept < ROOM {
+            self.bytes[self.kept] = b;
+            self.kept += 1;
+        } else {
+            self.more = true;
+        }
+    }
+}
+
+// A piece of the input more, up to the end of the line at fault, which is counted from 1; with none, up to the last line that
+// a `u32` counts.
+pub fn heed(s: Start, fault: Option<u32>, piece: &[u8]) -> Start
+    ensures { result ≡ foldl (heeded (last_line fault)) s piece.now }
+{
+    let last = fault.unwrap_or(u32::MAX);
+    let mut t = s;
+    for b in piece {
+        t.heed_byte(last, *b);
     }
     t
 }
