@@ -10,6 +10,7 @@ ghost use Rattle.division_session.specs.Session.{Held, room};
 use division_session::{ROOM, Session};
 use fields::{Digits, FIRST_VALUE, LAST_COLUMN, NOT_THE_YEAR, OTHER_LINE, WIDTH};
 use kept_line::KEPT;
+use outline::Refusal;
 use std::env::{Env, FillError};
 use std::io::Read;
 use stdio::{say, say_number};
@@ -211,6 +212,17 @@ fn explain(stderr: &impl Print, s: Session, line: &[u8])
     explain_line(stderr, s.lines, &line[..kept]);
 }
 
+// A refusal of the reading by its number.
+fn refusal_of(number: u8) -> Refusal {
+    if number == OTHER_LINE {
+        return Refusal::OtherLine;
+    }
+    if number == NOT_THE_YEAR {
+        return Refusal::NotTheYear;
+    }
+    Refusal::Malformed
+}
+
 // Reads the input and writes what comes of it.
 fn run_with(
     stdin: &mut impl Read,
@@ -232,7 +244,7 @@ fn run_with(
     let s = division_input::finish(read, line, out);
     let number = s.refused;
     if number != 0 {
-        stdio::print_refusal(stdout, stderr, b"division", s.lines, number);
+        stdio::print_refusal(stdout, stderr, b"division", s.lines, refusal_of(number));
         explain(stderr, s, line);
         return;
     }

@@ -7,7 +7,7 @@ use Prim.Native.Nat.{ℕ, zero, suc, ◌+◌, ◌/◌, ◌%◌, ◌^◌, ◌≤�
 use native.Mathlib.Nat.{pow-suc}
 use native.Mathlib.Omega.{arith}
 use lib.Dec.{ltb}
-use lib.IntN.{ℤ, pos, negsuc, nat_abs, ◌-ℤ◌}
+use lib.IntN.{ℤ, pos, negsuc, nat_abs}
 use lib.Signed.{lt_z}
 use lib.ListN.{length, length-append}
 use borrow.Author.Tests.{ltb-true, ltb-false, lt-ltb, le-ltb}
@@ -70,11 +70,11 @@ unfolding numeral
 numeral-length n h = few n 9 n (omega arith)
 
 -- ---- whole numbers
--- a number below zero is a minus and the digits of what it lacks
-pub integer-below : (x : ℤ) → lt_z x (pos 0) ≡ true → integer x ≡ minus_sign ∷ numeral (nat_abs (pos 0 -ℤ x))
+-- a number below zero is a minus and the digits of its size
+pub integer-below : (x : ℤ) → lt_z x (pos 0) ≡ true → integer x ≡ minus_sign ∷ numeral (nat_abs x)
 unfolding integer
 integer-below (pos n) e = let h = ltb-true n 0 e in absurd (omega arith)
-integer-below (negsuc n) e = ap (λ k. minus_sign ∷ numeral k) (omega arith)
+integer-below (negsuc n) e = refl
 
 pub integer-above : (x : ℤ) → lt_z x (pos 0) ≡ false → integer x ≡ numeral (nat_abs x)
 unfolding integer

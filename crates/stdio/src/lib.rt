@@ -107,9 +107,9 @@ pub fn print_refusal(
     stderr: &impl Print,
     program: &[u8],
     line: u32,
-    number: u8,
+    refusal: Refusal,
 ) {
     let mut out = [0u8; MOST_ROW];
-    let end = rows::lay_refusal(line, number, 0, &mut out);
+    let end = rows::lay_refusal(line, refusal, 0, &mut out);
     write_out(stdout, stderr, program, &out[..end]);
 }

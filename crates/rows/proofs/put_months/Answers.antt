@@ -32,38 +32,21 @@ no-month : (s : List ℕ) (i set : ℕ) → length s ≤ i → months_text (drop
 unfolding months_text
 no-month s i set h = rw (drop_of_length-le s h)
 
-pub loop-i-init : goal.loop-i-init
-loop-i-init c = (omega arith, omega arith, refl, (refl, refl))
-
-pub bounds-amounts-i : goal.bounds-amounts-i
-bounds-amounts-i c = omega arith
-
-pub put_month-end-requires : goal.put_month-end-requires
-put_month-end-requires c =
-    omega (arith, c.requires, c.loop-i.invariant.1, c.loop-i.invariant.2)
-
-pub overflow_add-i : goal.overflow_add-i
-overflow_add-i c = omega arith
-
-pub loop-i-smaller : goal.loop-i-smaller
-loop-i-smaller c = omega arith
-
-pub loop-i-preserved : goal.loop-i-preserved
-loop-i-preserved c =
+pub loop-amount-preserved : goal.loop-amount-preserved
+loop-amount-preserved c =
     let t = c.args.amounts.now in
-    let v = c.loop-i.invariant in
+    let l = c.loop-amount in
+    let v = l.invariant in
     let e = c.put_month-end.ensures in (
-      omega arith,
-      omega (arith, v.1, e.upper_bound),
-      c.put_month-end.auto.out ∙ v.2,
-      one_less _ _ _ (space ∷ month_text (get_or t c.loop-i.i 0) (c.loop-i.left % 2)) _ _ _ _ _ (omega (arith, c.requires, v.1, v.2)) (rw (next-month t c.loop-i.i c.loop-i.left (omega arith)) at v.3) (e.value, e.out_after),
+      omega (arith, v.0, e.upper_bound),
+      c.put_month-end.auto.out ∙ v.1,
+      one_less _ _ _ (space ∷ month_text (get_or t l.amount-index 0) (l.left % 2)) _ _ _ _ _ (omega (arith, c.requires, v.0, v.1)) (rw (next-month t l.amount-index l.left c.loop-amount-test.true) at v.2) (e.value, e.out_after),
     )
 
-pub shape_of-out : goal.shape_of-out
-shape_of-out c = c.loop-i.invariant.2
+pub returns-clause-value : goal.returns-clause-value
+returns-clause-value c =
+    (none_left _ _ _ _ _ (rw (no-month c.args.amounts.now c.loop-amount.amount-index c.loop-amount.left (omega arith)) at c.loop-amount.invariant.2)).0
 
-pub returns : goal.returns
-returns c =
-    let v = c.loop-i.invariant in
-    let p = none_left _ _ _ _ _ (rw (no-month c.args.amounts.now c.loop-i.i c.loop-i.left (omega arith)) at v.3) in
-    record { value = p.0; out_after = p.1; upper_bound = omega (arith, v.0, v.1) }
+pub returns-clause-out_after : goal.returns-clause-out_after
+returns-clause-out_after c =
+    (none_left _ _ _ _ _ (rw (no-month c.args.amounts.now c.loop-amount.amount-index c.loop-amount.left (omega arith)) at c.loop-amount.invariant.2)).1

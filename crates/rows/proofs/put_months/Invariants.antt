@@ -1,14 +1,11 @@
 use mathlib.Core.Path.{◌≡◌}
-use Prim.Native.Nat.{◌+◌, ◌*◌, ◌-◌, ◌≤◌}
+use Prim.Native.Nat.{◌+◌, ◌*◌, ◌≤◌}
 use lib.ListN.{length, drop}
 use Rattle.rows.specs.Text.{months_text}
 use Rattle.rows.specs.Room.{laid}
 use Rattle.rows.proofs.Laid.{Put}
 use Rattle.rows.proofs.put_months.Given as goal
 
-abbrev pub invariant-loop-i : goal.invariant-loop-i
-invariant-loop-i l =
-    (l.i ≤ length l.amounts) × (l.end ≤ l.at + 11 * l.i) × (length l.out ≡ length l.initial.out) × Put (months_text l.amounts l.present) l.at l.initial.out (l.end + length (months_text (drop l.i l.amounts) l.left)) (laid (months_text (drop l.i l.amounts) l.left) l.end l.out)
-
-abbrev pub decreases-loop-i : goal.decreases-loop-i
-decreases-loop-i l = length l.amounts - l.i
+abbrev pub invariant-loop-amount : goal.invariant-loop-amount
+invariant-loop-amount l =
+    (l.end ≤ l.at + 11 * l.amount-index) × (length l.out ≡ length l.initial.out) × Put (months_text l.amounts l.present) l.at l.initial.out (l.end + length (months_text (drop l.amount-index l.amounts) l.left)) (laid (months_text (drop l.amount-index l.amounts) l.left) l.end l.out)
