@@ -9,21 +9,21 @@ ghost use Rattle.std.specs.Prelude.{◌≡◌, true, ◌≤◌, ◌<◌, nat_abs
 ghost use Rattle.outline.specs.Numbers.{most_z, most_months};
 ghost use Rattle.ranges.specs.Ranges.{calendar_fits};
 ghost use Rattle.refusals.specs.Columns.{columns};
-ghost use Rattle.adding.specs.Figures.{water_figures, no_water};
+ghost use Rattle.adding.specs.Figures.{water_figures};
 ghost use Rattle.adding.specs.Taken.{soil_after};
 ghost use Rattle.adding.specs.Ready.{Ready};
-ghost use Rattle.adding.specs.Progress.{added_of, month_added, not_added};
+ghost use Rattle.adding.specs.Progress.{answer_of, month_added};
 ghost use Rattle.adding.specs.Spelled.{Spells};
 
 use door::MonthKinds;
-use outline::MANY_CONSTANTS;
+use outline::{MANY_CONSTANTS, Refusal};
 use runs::{Progress, Run};
 use spells::Running;
 use water::{Month, Soil};
 
 // The water of a month, and the kinds of its two readings: all 0 for an added Z.
 #[repr(C)]
-#[derive(Drop)]
+#[derive(Default, Drop)]
 pub struct WaterFigures {
     pub p: u32,
     pub pe: u32,
@@ -41,7 +41,7 @@ pub struct WaterFigures {
 
 // A month's figures.
 #[repr(C)]
-#[derive(Drop)]
+#[derive(Default, Drop)]
 pub struct Figures {
     pub water: WaterFigures,
     pub z: i32,
@@ -64,10 +64,9 @@ pub struct Added {
     pub run: Run,
 }
 
-// What an add answers, without the run's constants.
+// A month that is added: what an add answers of it, without the run's constants.
 #[derive(Drop)]
 pub struct MonthAdded {
-    pub number: u8,
     pub settled: u32,
     pub figures: Figures,
     pub progress: Progress,
@@ -198,49 +197,33 @@ pub fn month_added(at: Progress, soil: Soil, water: WaterFigures, z: i32, s: Spe
         values,
     };
     MonthAdded {
-        number: 0,
         settled: s.settled,
         figures,
         progress,
     }
 }
 
-// A refusal: its number, all figures 0, and the run given.
-pub fn refuse(number: u8, at: Progress) -> MonthAdded
-    ensures { result ≡ not_added number at }
+// The answer to a run that stood so, with these constants: the month added, or a refusal's number, all figures 0, and the run given.
+pub fn answer_of(
+    t: Result<MonthAdded, Refusal>,
+    at: Progress,
+    constants: [i32; MANY_CONSTANTS],
+) -> Added
+    ensures { result ≡ answer_of t at constants }
 {
-    let water = no_water();
-    let none = Figures {
-        water,
-        z: 0,
-        percent: 0,
-        x1: 0,
-        x2: 0,
-        x3: 0,
-        index: 0,
-        mark: 0,
-        modified: 0,
-    };
-    MonthAdded {
-        number,
-        settled: 0,
-        figures: none,
-        progress: at,
-    }
-}
-
-// The answer to a run with these constants.
-pub fn answer_of(t: MonthAdded, constants: [i32; MANY_CONSTANTS]) -> Added
-    ensures { result ≡ added_of t constants }
-{
-    let figures = same_figures(t.figures);
-    let progress = t.progress;
-    let next = runs::run_of(progress, constants);
-    Added {
-        number: t.number,
-        settled: t.settled,
-        figures,
-        run: next,
+    match t {
+        Ok(month) => Added {
+            number: 0,
+            settled: month.settled,
+            figures: same_figures(month.figures),
+            run: runs::run_of(month.progress, constants),
+        },
+        Err(refusal) => Added {
+            number: refusal.number(),
+            settled: 0,
+            figures: Figures::default(),
+            run: runs::run_of(at, constants),
+        },
     }
 }
 
@@ -274,25 +257,5 @@ fn same_figures(f: Figures) -> Figures
         index: f.index,
         mark: f.mark,
         modified: f.modified,
-    }
-}
-
-pub fn no_water() -> WaterFigures
-    ensures { result ≡ no_water }
-{
-    let kinds = MonthKinds { p: 0, pe: 0 };
-    WaterFigures {
-        p: 0,
-        pe: 0,
-        ls: 0,
-        lu: 0,
-        et: 0,
-        r: 0,
-        ro: 0,
-        pr: 0,
-        pro: 0,
-        pl: 0,
-        cafec: 0,
-        kinds,
     }
 }

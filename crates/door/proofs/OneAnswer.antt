@@ -1,27 +1,31 @@
 -- Any two answers that a promise of the door allows are the same. The promises fix `outcome` of the answer, and an answer is told by its
 -- outcome (`from`), so no two answers have the same. Assumes nothing.
 use mathlib.Core.Path.{◌≡◌, refl, sym, ap, ◌∙◌}
-use mathlib.Core.Bool.{cond}
+use mathlib.Core.Bool.{Bool, cond}
 use Prim.Native.Nat.{zero, suc}
 use lib.Dec.{eqb}
+use borrow.Author.Tests.{ne_eqb}
+use Rattle.std.specs.Prelude.{Result, Ok, Err}
+use Rattle.outline.specs.Refused.{refusal_number}
+use Rattle.outline.specs.declared.Refusal.{Refusal}
+use Rattle.outline.proofs.Refused.{number-ne-zero, refusal_at, refusal_at-number}
 use Rattle.door.specs.Outcome.{trace, Outcome, MonthOutcomes, outcome, told_as, told_month}
-use Rattle.outline.specs.Refusals.{missing}
-use Rattle.door.specs.declared.Answer.{Answer}
-use Rattle.door.specs.declared.Answer.TheVariants.{Water, Trace, NoReading, NotAcceptable}
+use Rattle.door.specs.declared.Amount.{Amount}
+use Rattle.door.specs.declared.Amount.TheVariants.{Water, Trace}
 use Rattle.door.specs.declared.Told.{Told}
 use Rattle.door.specs.declared.MonthTold.{MonthTold}
 
-abbrev from : Outcome → Answer
-from o = cond (eqb o.kind trace) Trace (cond (eqb o.number 0) (Water o.water) (cond (eqb o.number missing) NoReading NotAcceptable))
+abbrev from : Outcome → Result Amount Refusal
+from o = cond (eqb o.kind trace) (Ok Trace) (cond (eqb o.number 0) (Ok (Water o.water)) (Err (refusal_at o.number)))
 
-from-outcome : (a : Answer) → from (outcome a) ≡ a
-from-outcome (Water zero) = refl
-from-outcome (Water (suc n)) = refl
-from-outcome Trace = refl
-from-outcome NoReading = refl
-from-outcome NotAcceptable = refl
+from-outcome : (a : Result Amount Refusal) → from (outcome a) ≡ a
+from-outcome (Ok (Water zero)) = refl
+from-outcome (Ok (Water (suc n))) = refl
+from-outcome (Ok Trace) = refl
+from-outcome (Err e) =
+    ap (λ (b : Bool). cond b (Ok (Water 0)) (Err (refusal_at (refusal_number e)))) (ne_eqb (refusal_number e) 0 (number-ne-zero e)) ∙ ap Err (refusal_at-number e)
 
-pub one_answer : (o : Outcome) (a b : Answer) → outcome a ≡ o → outcome b ≡ o → a ≡ b
+pub one_answer : (o : Outcome) (a b : Result Amount Refusal) → outcome a ≡ o → outcome b ≡ o → a ≡ b
 one_answer o a b p q = sym (from-outcome a) ∙ ap from (p ∙ sym q) ∙ from-outcome b
 
 -- .. and an answer in numbers by its outcome too

@@ -1,10 +1,11 @@
 -- An answer in the paper's terms: its number in the table of refusals, its thousandths of an inch, and (document 02, E7) its kind: "The reading
--- answer must tell three things apart: none, trace .., and measured. A trace counts as no water." `outcome` gives all three for each case of the
--- code's enum `Answer`, and no two answers the same (proofs/OneAnswer.antt). Assumes nothing.
-use Rattle.std.specs.Prelude.{ℕ, zero, suc}
-use Rattle.outline.specs.Refusals.{missing, not_acceptable}
-use Rattle.door.specs.declared.Answer.{Answer}
-use Rattle.door.specs.declared.Answer.TheVariants.{Water, Trace, NoReading, NotAcceptable}
+-- answer must tell three things apart: none, trace .., and measured. A trace counts as no water." `outcome` gives all three for each answer of the
+-- code, an amount or a refusal, and no two answers the same (proofs/OneAnswer.antt). Assumes nothing.
+use Rattle.std.specs.Prelude.{ℕ, zero, suc, Result, Ok, Err}
+use Rattle.outline.specs.Refused.{refusal_number}
+use Rattle.outline.specs.declared.Refusal.{Refusal}
+use Rattle.door.specs.declared.Amount.{Amount}
+use Rattle.door.specs.declared.Amount.TheVariants.{Water, Trace}
 use Rattle.door.specs.declared.Told.{Told}
 use Rattle.door.specs.declared.MonthTold.{MonthTold}
 use Rattle.door.specs.declared.MonthKinds.{MonthKinds}
@@ -42,11 +43,13 @@ traced = record { number = 0; water = 0; kind = trace }
 abbrev pub refused : ℕ → Outcome
 refused k = record { number = k; water = 0; kind = none }
 
-abbrev pub outcome : Answer → Outcome
-outcome (Water n) = accepted n
-outcome Trace = traced
-outcome NoReading = refused missing
-outcome NotAcceptable = refused not_acceptable
+abbrev pub accepted_as : Amount → Outcome
+accepted_as (Water n) = accepted n
+accepted_as Trace = traced
+
+abbrev pub outcome : Result Amount Refusal → Outcome
+outcome (Ok a) = accepted_as a
+outcome (Err e) = refused (refusal_number e)
 
 -- an answer as its three numbers
 abbrev pub told_as : Told → Outcome

@@ -6,10 +6,11 @@
 
 ghost use Rattle.std.specs.Prelude.{◌≡◌, ◌<◌, ◌≤◌, T};
 ghost use Rattle.door.specs.Exact.{within, above_zero, nearest_to};
-ghost use Rattle.door.specs.Readings.{whole, inches, millimetres, reading, month};
-ghost use Rattle.door.specs.Outcome.{outcome, kind_of_water, told_as, told_month};
+ghost use Rattle.door.specs.Readings.{fallen, whole, inches, millimetres, reading, month};
+ghost use Rattle.door.specs.Outcome.{accepted_as, outcome, told_as, told_month};
+ghost use Rattle.door.specs.Kinds.{kind_number};
 
-use outline::{BAD_READING, NO_READING};
+use outline::Refusal;
 
 // A reading is one of four.
 #[derive(Drop)]
@@ -23,17 +24,53 @@ pub enum Reading {
     Missing,
 }
 
-// What a reading answers. `outcome` gives each case the paper's number, thousandths and kind.
-#[derive(Drop)]
-pub enum Answer {
-    // 0: thousandths of an inch, of which 0 is no rain and any other number was measured.
+// What a reading that is not refused comes to. `accepted_as` gives each case the paper's thousandths and kind.
+#[derive(Clone, Copy, Debug, PartialEq, Eq)]
+pub enum Amount {
+    // Thousandths of an inch, of which 0 is no rain and any other number was measured.
     Water(u32),
-    // 0: rain, but too little to measure. It counts as no water.
+    // Rain, but too little to measure. It counts as no water.
     Trace,
-    // 8: reading missing.
-    NoReading,
-    // 9: reading not acceptable.
-    NotAcceptable,
+}
+
+impl Amount {
+    // In thousandths of an inch.
+    pub fn water(self) -> u32
+        ensures { result ≡ (accepted_as self).water }
+    {
+        match self {
+            Amount::Water(n) => n,
+            Amount::Trace => 0,
+        }
+    }
+
+    // How it was read.
+    pub fn kind(self) -> Kind
+        ensures { kind_number result ≡ (accepted_as self).kind }
+    {
+        match self {
+            Amount::Water(0) => Kind::Nothing,
+            Amount::Water(_) => Kind::Measured,
+            Amount::Trace => Kind::Trace,
+        }
+    }
+}
+
+// The kinds of an amount, with their numbers 0, 1 and 2. A refused reading's is 0.
+#[derive(Clone, Copy, Debug, PartialEq, Eq)]
+pub enum Kind {
+    Nothing,
+    Trace,
+    Measured,
+}
+
+impl Kind {
+    // Its number.
+    pub fn number(self) -> u8
+        ensures { result ≡ kind_number self }
+    {
+        self as u8
+    }
 }
 
 // An answer as its three numbers: 0, 8 or 9; its kind; and its thousandths of an inch.
@@ -44,13 +81,6 @@ pub struct Told {
     pub kind: u8,
     pub water: u32,
 }
-
-// The kinds of an answer; a refused reading's is 0.
-const NONE: u8 = 0;
-
-const TRACE: u8 = 1;
-
-const MEASURED: u8 = 2;
 
 // One month's precipitation and PE, in inches.
 #[repr(C)]
@@ -68,7 +98,7 @@ pub struct MonthTold {
 
 // The kinds of a month's two readings.
 #[repr(C)]
-#[derive(Drop)]
+#[derive(Default, Drop)]
 pub struct MonthKinds {
     pub p: u8,
     pub pe: u8,
@@ -107,95 +137,77 @@ fn above_zero(x: f32) -> bool
     x > 0.0
 }
 
-// A number of inches. A NaN passes no comparison, so both tests must pass. What is above zero and comes to no thousandth is a
-// trace.
-fn read_inches(x: f32) -> Answer
+// A number in range that comes to n thousandths. What is above zero and comes to none is a trace.
+fn amount_of(x: f32, n: u32) -> Amount
+    ensures { accepted_as result ≡ fallen (above_zero x) n }
+{
+    if n == 0 && above_zero(x) {
+        return Amount::Trace;
+    }
+    Amount::Water(n)
+}
+
+// A number of inches. A NaN passes no comparison, so both tests must pass. One function for inches and millimetres would take the
+// end of the range twice, as a float for the test and as a whole number for the promise.
+fn read_inches(x: f32) -> Result<Amount, Refusal>
     ensures { outcome result ≡ inches x }
 {
     if x >= 0.0 && x <= MOST_INCHES {
         let n = nearest_to(x, 1000, 1);
-        if n != 0 {
-            return Answer::Water(n);
-        }
-        if above_zero(x) {
-            return Answer::Trace;
-        }
-        return Answer::Water(0);
+        return Ok(amount_of(x, n));
     }
-    Answer::NotAcceptable
+    Err(Refusal::BadReading)
 }
 
 // A number of millimetres, of which 127 are 5,000 thousandths of an inch.
-fn read_millimetres(x: f32) -> Answer
+fn read_millimetres(x: f32) -> Result<Amount, Refusal>
     ensures { outcome result ≡ millimetres x }
 {
     if x >= 0.0 && x <= MOST_MILLIMETRES {
         let n = nearest_to(x, 5000, 127);
-        if n != 0 {
-            return Answer::Water(n);
-        }
-        if above_zero(x) {
-            return Answer::Trace;
-        }
-        return Answer::Water(0);
+        return Ok(amount_of(x, n));
     }
-    Answer::NotAcceptable
+    Err(Refusal::BadReading)
 }
 
 // A whole number of thousandths.
-fn read_whole(n: i32) -> Answer
+fn read_whole(n: i32) -> Result<Amount, Refusal>
     ensures { outcome result ≡ whole n }
 {
     if n >= 0 && n <= MOST_WHOLE {
-        return Answer::Water(n as u32);
+        return Ok(Amount::Water(n as u32));
     }
-    Answer::NotAcceptable
+    Err(Refusal::BadReading)
 }
 
-// A reading.
-pub fn read(r: Reading) -> Answer
+// A reading: 8 or 9.
+pub fn read(r: Reading) -> Result<Amount, Refusal>
     ensures { outcome result ≡ reading r }
 {
     match r {
         Reading::Whole(n) => read_whole(n),
         Reading::Inches(x) => read_inches(x),
         Reading::Millimetres(x) => read_millimetres(x),
-        Reading::Missing => Answer::NoReading,
+        Reading::Missing => Err(Refusal::NoReading),
     }
 }
 
 // An answer as its three numbers.
-pub fn tell(a: Answer) -> Told
+pub fn tell(a: Result<Amount, Refusal>) -> Told
     ensures { told_as result ≡ outcome a }
 {
     match a {
-        Answer::Water(n) => Told {
+        Ok(amount) => Told {
             number: 0,
-            kind: kind_of_water(n),
-            water: n,
+            kind: amount.kind().number(),
+            water: amount.water(),
         },
-        Answer::Trace => Told {
-            number: 0,
-            kind: TRACE,
-            water: 0,
-        },
-        Answer::NoReading => Told {
-            number: NO_READING,
-            kind: NONE,
-            water: 0,
-        },
-        Answer::NotAcceptable => Told {
-            number: BAD_READING,
-            kind: NONE,
+        Err(refusal) => Told {
+            number: refusal.number(),
+            kind: Kind::Nothing.number(),
             water: 0,
         },
     }
-}
-
-fn kind_of_water(n: u32) -> u8
-    ensures { result ≡ kind_of_water n }
-{
-    if n == 0 { NONE } else { MEASURED }
 }
 
 // One month's precipitation and PE that arrive together, each by itself.

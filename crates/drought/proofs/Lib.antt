@@ -1,2 +1,2 @@
--- A month's two readings by one number (Joined).
-pub mod Joined
+-- A month of water from two readings: its refusals, and what is added (Readings).
+pub mod Readings

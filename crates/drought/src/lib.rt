@@ -3,24 +3,26 @@
 // Every call has its promise: its answer, the run that it hands back and the whole content of every lent list
 // equal a definition of what was handed in (specs/Calls.antt), for every input, refused or not. No call has a
 // `requires`. An add takes the run apart once and puts it together once: within, a run goes without its sixty constants.
-// A call asks `refusals` for its number first; where that is 0, `adding` does the month's work.
+// A call asks `refusals` first; where nothing is refused, `taking` does the month's work.
 #![tactic(auto)]
 
-ghost use Rattle.std.specs.Prelude.{◌≡◌, ◌≤◌};
+ghost use Rattle.std.specs.Prelude.{◌≡◌};
+ghost use Rattle.outline.specs.Refused.{refusal_number, answer_number};
 ghost use Rattle.door.specs.Outcome.{outcome};
-ghost use Rattle.door.specs.Readings.{reading, most_reading};
+ghost use Rattle.door.specs.Readings.{reading};
 ghost use Rattle.starts.specs.Start.{start_of};
 ghost use Rattle.series.specs.Series.{filled, whole_series};
 ghost use Rattle.refusals.specs.Book.{book};
-ghost use Rattle.refusals.specs.Lent.{lent_long, row_number_for};
+ghost use Rattle.refusals.specs.Good.{Good};
+ghost use Rattle.refusals.specs.Lent.{row_number_for};
 ghost use Rattle.runs.specs.Progress.{run_of};
 ghost use Rattle.adding.specs.Taken.{result_of};
-ghost use Rattle.adding.specs.Progress.{added_of};
-ghost use Rattle.drought.specs.Calls.{add_outcomes, add_water, add_inches, add_z, not_shown, row_of_run};
+ghost use Rattle.adding.specs.Progress.{answer_of};
+ghost use Rattle.drought.specs.Calls.{add_water, add_inches, add_z, not_shown, row_of_run};
 
 use adding::{Added, MonthAdded};
-use door::{Answer, MonthInches, MonthKinds, Reading};
-use outline::{BAD_LISTS, MANY_CONSTANTS};
+use door::{Amount, MonthInches, MonthKinds, Reading};
+use outline::{MANY_CONSTANTS, Refusal};
 use records::{Record, RecordNumbers};
 use runs::{Progress, Run};
 use starts::Started;
@@ -40,7 +42,7 @@ pub struct Shown {
 }
 
 // Reads a reading: 8 or 9.
-pub fn read(r: Reading) -> Answer
+pub fn read(r: Reading) -> Result<Amount, Refusal>
     ensures { outcome result ≡ reading r }
 {
     door::read(r)
@@ -54,6 +56,7 @@ pub fn start(constants: &[i32], capacity: i32, surface: i32, underlying: i32, mo
 }
 
 // Adds a month of water, from two readings: 1, 7, 8 or 9, 10.
+#[inline(always)]
 pub fn add_water(
     run: Run,
     p: Reading,
@@ -68,40 +71,10 @@ pub fn add_water(
 ) -> Added
     ensures { result_of result (book x1.new x2.new x3.new index.new mark.new records.new v.new) ≡ add_water run p pe (book x1.old x2.old x3.old index.old mark.old records.old v.old) }
 {
-    let a = door::tell(door::read(p));
-    let b = door::tell(door::read(pe));
-    let kinds = MonthKinds {
-        p: a.kind,
-        pe: b.kind,
-    };
     let at = runs::progress_of(run);
     let constants = run.constants;
-    let n = refusals::lent_length(
-        x1.len(),
-        x2.len(),
-        x3.len(),
-        index.len(),
-        mark.len(),
-        records.len(),
-        v.len(),
-    );
-    let t = try_water(
-        n,
-        at,
-        &constants,
-        refusals::reading_refusal(a.number, b.number),
-        a.water,
-        b.water,
-        kinds,
-        x1,
-        x2,
-        x3,
-        index,
-        mark,
-        records,
-        v,
-    );
-    adding::answer_of(t, constants)
+    let t = try_water(at, &constants, p, pe, x1, x2, x3, index, mark, records, v);
+    adding::answer_of(t, at, constants)
 }
 
 // Adds a month of water, from two binary32 inches: 1, 7, 9, 10.
@@ -118,15 +91,27 @@ pub fn add_inches(
 ) -> Added
     ensures { result_of result (book x1.new x2.new x3.new index.new mark.new records.new v.new) ≡ add_inches run q (book x1.old x2.old x3.old index.old mark.old records.old v.old) }
 {
-    let both = door::read_month(q);
-    let a = both.p;
-    let b = both.pe;
-    let kinds = MonthKinds {
-        p: a.kind,
-        pe: b.kind,
-    };
-    let at = runs::progress_of(run);
-    let constants = run.constants;
+    let p = Reading::Inches(q.p);
+    let pe = Reading::Inches(q.pe);
+    add_water(run, p, pe, x1, x2, x3, index, mark, records, v)
+}
+
+// A month of water, added or refused.
+fn try_water(
+    at: Progress,
+    constants: &[i32; MANY_CONSTANTS],
+    p: Reading,
+    pe: Reading,
+    x1: &mut [i32],
+    x2: &mut [i32],
+    x3: &mut [i32],
+    index: &mut [i32],
+    mark: &mut [u8],
+    records: &mut [RecordNumbers],
+    v: &mut [i64],
+) -> Result<MonthAdded, Refusal>
+    ensures { result_of (answer_of result at constants.now) (book x1.new x2.new x3.new index.new mark.new records.new v.new) ≡ add_water (run_of at constants.now) p pe (book x1.old x2.old x3.old index.old mark.old records.old v.old) }
+{
     let n = refusals::lent_length(
         x1.len(),
         x2.len(),
@@ -136,13 +121,40 @@ pub fn add_inches(
         records.len(),
         v.len(),
     );
-    let t = try_water(
-        n,
+    refusals::run_refusal(n, at, constants, records)?;
+    add_readings(at, constants, p, pe, x1, x2, x3, index, mark, records, v)
+}
+
+// A month of water, added or refused, to a run and lists that have been asked for 1 and 7.
+#[inline(always)]
+pub fn add_readings(
+    at: Progress,
+    constants: &[i32; MANY_CONSTANTS],
+    p: Reading,
+    pe: Reading,
+    x1: &mut [i32],
+    x2: &mut [i32],
+    x3: &mut [i32],
+    index: &mut [i32],
+    mark: &mut [u8],
+    records: &mut [RecordNumbers],
+    v: &mut [i64],
+) -> Result<MonthAdded, Refusal>
+    requires { Good (run_of at constants.now) (book x1.old x2.old x3.old index.old mark.old records.old v.old) }
+    ensures { result_of (answer_of result at constants.now) (book x1.new x2.new x3.new index.new mark.new records.new v.new) ≡ add_water (run_of at constants.now) p pe (book x1.old x2.old x3.old index.old mark.old records.old v.old) }
+{
+    let first = door::read(p)?;
+    let second = door::read(pe)?;
+    refusals::room_refusal(x1.len(), at.months)?;
+    let kinds = MonthKinds {
+        p: first.kind().number(),
+        pe: second.kind().number(),
+    };
+    let month = taking::add_measured(
         at,
-        &constants,
-        refusals::reading_refusal(a.number, b.number),
-        a.water,
-        b.water,
+        constants,
+        first.water(),
+        second.water(),
         kinds,
         x1,
         x2,
@@ -152,38 +164,7 @@ pub fn add_inches(
         records,
         v,
     );
-    adding::answer_of(t, constants)
-}
-
-// A month of water by the number, the thousandths and the kinds that its two readings come to, added or refused. They come as numbers
-// and not as answers, which would be put together for the call and taken apart after it; and n is what is lent, measured.
-fn try_water(
-    n: usize,
-    at: Progress,
-    constants: &[i32; MANY_CONSTANTS],
-    reading: u8,
-    p: u32,
-    pe: u32,
-    kinds: MonthKinds,
-    x1: &mut [i32],
-    x2: &mut [i32],
-    x3: &mut [i32],
-    index: &mut [i32],
-    mark: &mut [u8],
-    records: &mut [RecordNumbers],
-    v: &mut [i64],
-) -> MonthAdded
-    requires n_value { n ≡ lent_long (book x1.old x2.old x3.old index.old mark.old records.old v.old) }
-    requires p_le_most_reading { (p ≤ most_reading) × (pe ≤ most_reading) }
-    ensures { result_of (added_of result constants.now) (book x1.new x2.new x3.new index.new mark.new records.new v.new) ≡ add_outcomes (run_of at constants.now) (record { number = reading; water = p; kind = kinds.p }) (record { number = 0; water = pe; kind = kinds.pe }) (book x1.old x2.old x3.old index.old mark.old records.old v.old) }
-{
-    let number = refusals::water_refusal(n, at, constants, reading, records);
-    if number != 0 {
-        return adding::refuse(number, at);
-    }
-    taking::add_measured(
-        at, constants, p, pe, kinds, x1, x2, x3, index, mark, records, v,
-    )
+    Ok(month)
 }
 
 // Adds a Z: the storages stay, the calendar moves on. 1, 7, 12, 10.
@@ -203,7 +184,7 @@ pub fn add_z(
     let at = runs::progress_of(run);
     let constants = run.constants;
     let t = try_z(at, &constants, z, x1, x2, x3, index, mark, records, v);
-    adding::answer_of(t, constants)
+    adding::answer_of(t, at, constants)
 }
 
 // A Z, added or refused.
@@ -218,8 +199,8 @@ fn try_z(
     mark: &mut [u8],
     records: &mut [RecordNumbers],
     v: &mut [i64],
-) -> MonthAdded
-    ensures { result_of (added_of result constants.now) (book x1.new x2.new x3.new index.new mark.new records.new v.new) ≡ add_z (run_of at constants.now) z (book x1.old x2.old x3.old index.old mark.old records.old v.old) }
+) -> Result<MonthAdded, Refusal>
+    ensures { result_of (answer_of result at constants.now) (book x1.new x2.new x3.new index.new mark.new records.new v.new) ≡ add_z (run_of at constants.now) z (book x1.old x2.old x3.old index.old mark.old records.old v.old) }
 {
     let n = refusals::lent_length(
         x1.len(),
@@ -230,11 +211,8 @@ fn try_z(
         records.len(),
         v.len(),
     );
-    let number = refusals::z_refusal(n, at, constants, z, records);
-    if number != 0 {
-        return adding::refuse(number, at);
-    }
-    taking::add_z(at, z, x1, x2, x3, index, mark, records, v)
+    refusals::z_refusal(n, at, constants, z, records)?;
+    Ok(taking::add_z(at, z, x1, x2, x3, index, mark, records, v))
 }
 
 // Shows a month's row, from 0 on: 1, 7, 11.
@@ -260,29 +238,30 @@ pub fn row(
         records.len(),
         v.len(),
     );
-    let number = row_number(fit, run, i, records);
-    if number != 0 {
-        return not_shown(number);
-    }
-    let kept = records::record_at(records, i);
-    Shown {
-        number: 0,
-        x1: x1[i],
-        x2: x2[i],
-        x3: x3[i],
-        index: index[i],
-        mark: mark[i],
-        month: kept,
-        v: v[i],
+    match row_number(fit, run, i, records) {
+        Ok(()) => {
+            let kept = records::record_at(records, i);
+            Shown {
+                number: 0,
+                x1: x1[i],
+                x2: x2[i],
+                x3: x3[i],
+                index: index[i],
+                mark: mark[i],
+                month: kept,
+                v: v[i],
+            }
+        }
+        Err(refusal) => not_shown(refusal),
     }
 }
 
-// The number of a row, by whether its lists can be lent.
-fn row_number(fit: bool, run: Run, i: usize, records: &[RecordNumbers]) -> u8
-    ensures { result ≡ row_number_for fit run i records.now }
+// The refusal of a row, by whether its lists can be lent.
+fn row_number(fit: bool, run: Run, i: usize, records: &[RecordNumbers]) -> Result<(), Refusal>
+    ensures { answer_number result ≡ row_number_for fit run i records.now }
 {
     if !fit {
-        return BAD_LISTS;
+        return Err(Refusal::BadLists);
     }
     let at = runs::progress_of(run);
     let constants = run.constants;
@@ -290,12 +269,12 @@ fn row_number(fit: bool, run: Run, i: usize, records: &[RecordNumbers]) -> u8
 }
 
 // A row that is refused: its number, and all else 0.
-fn not_shown(number: u8) -> Shown
-    ensures { result ≡ not_shown number }
+fn not_shown(refusal: Refusal) -> Shown
+    ensures { result ≡ not_shown (refusal_number refusal) }
 {
     let none = records::no_record();
     Shown {
-        number,
+        number: refusal.number(),
         x1: 0,
         x2: 0,
         x3: 0,

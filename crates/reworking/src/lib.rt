@@ -46,7 +46,7 @@ pub fn rework(
     let opens = reopening::reopen(i as usize, x1, x2, x3, index, mark, v);
     let mut s = reopening::run_before(at, i, opens as u32, x1, x2, x3, records, v);
     renew(i as usize, p, pe, kind, records);
-    while s.months < at.months {
+    for _ in i..at.months {
         let t = add_again(s, constants, x1, x2, x3, index, mark, records, v);
         s = t.progress;
     }

@@ -1,6 +1,7 @@
 -- A season month by month: what is still to come takes what has been added to where all months take what was there at first, and the run and
 -- the columns stay good. Assumes nothing.
 use mathlib.Core.Path.{◌≡◌, refl, sym, ap, ap₂, ◌∙◌, subst}
+use mathlib.Core.Bool.{true, false, true≢false, false≢true}
 use mathlib.Core.List.{List}
 use Prim.Native.Nat.{ℕ, zero, suc, ◌+◌, ◌≤◌, ◌<◌}
 use native.Mathlib.Numerals.{add-one}
@@ -8,7 +9,12 @@ use native.Mathlib.Omega.{arith}
 use lib.IntN.{ℤ, pos}
 use lib.ListN.{length, drop, get_or, drop_of_length-le}
 use lib.Seq.{drop-cons}
+use Rattle.std.specs.Prelude.{Ok, Err, Result as Answer}
+use Rattle.std.specs.Result.{is_err}
 use Rattle.outline.specs.Numbers.{most_months}
+use Rattle.outline.specs.Refused.{answer_number}
+use Rattle.outline.specs.declared.Refusal.{Refusal}
+use Rattle.outline.proofs.Refused.{number-ne-zero}
 use Rattle.outline.specs.Refusals.{unless_refused}
 use Rattle.outline.proofs.Refusals.{is-done, is-refused}
 use Rattle.door.specs.Outcome.{kinds_of}
@@ -35,6 +41,15 @@ use Rattle.run_laws.proofs.Accepts.{took-water}
 use Rattle.season_month.specs.Listed.{listed}
 use Rattle.season.specs.declared.Season.{Season}
 use Rattle.season.specs.Season.{SeasonResult, season_result, joined, stopped, single, add_each}
+
+-- ---- whether an answer refuses
+pub err-number : {A : Type 0} (r : Answer A Refusal) → is_err r ≡ true → answer_number r ≡ 0 → ⊥
+err-number (Ok a) h = absurd (false≢true h)
+err-number (Err e) h = number-ne-zero e
+
+pub ok-number : {A : Type 0} (r : Answer A Refusal) → is_err r ≡ false → answer_number r ≡ 0
+ok-number (Ok a) h = refl
+ok-number (Err e) h = absurd (true≢false h)
 
 -- ---- what an accepted month leaves
 module _ (r : Run) (p pe : Reading) (cs : Book) (h : (add_water r p pe cs).answer.number ≡ 0) where

@@ -6,13 +6,14 @@
 #![tactic(auto)]
 
 ghost use Rattle.std.specs.Prelude.{◌≡◌, ◌+◌, ◌≤◌};
+ghost use Rattle.outline.specs.Refused.{answer_number};
 ghost use Rattle.runs.specs.Progress.{run_of};
 ghost use Rattle.refusals.specs.Book.{book};
 ghost use Rattle.season.specs.Season.{season_result, season_refusal, add_season};
 ghost use Rattle.season.specs.SoFar.{most_count, begun, joined_by, season_of};
 
 use adding::{Figures, MonthAdded};
-use outline::{BAD_LISTS, MANY_CONSTANTS};
+use outline::{MANY_CONSTANTS, Refusal};
 use records::RecordNumbers;
 use runs::{Progress, Run};
 
@@ -54,26 +55,21 @@ pub fn add_season(
 {
     let constants = run.constants;
     let at = runs::progress_of(run);
-    let number = season_refusal(at, &constants, p, pe, x1, x2, x3, index, mark, records, v);
     let mut s = nothing_added(at);
-    if number != 0 {
-        return season_of(s, number, constants);
+    let asked = season_refusal(at, &constants, p, pe, x1, x2, x3, index, mark, records, v);
+    if asked.is_err() {
+        return season_of(s, asked, constants);
     }
-    let mut i: usize = 0;
-    while i < p.len() {
-        let now = s.progress;
-        let rain = p[i];
-        let demand = pe[i];
-        let m = season_month::add_listed(
-            now, &constants, rain, demand, x1, x2, x3, index, mark, records, v,
+    for i in 0..p.len() {
+        let month = season_month::add_listed(
+            s.progress, &constants, p[i], pe[i], x1, x2, x3, index, mark, records, v,
         );
-        if m.number != 0 {
-            return season_of(s, m.number, constants);
+        match month {
+            Ok(m) => s = joined_by(s, m),
+            Err(refusal) => return season_of(s, Err(refusal), constants),
         }
-        s = joined_by(s, m);
-        i += 1;
     }
-    season_of(s, 0, constants)
+    season_of(s, Ok(()), constants)
 }
 
 // 1 and 7, asked once, before the first month. 1 is also for two lists of unequal length.
@@ -89,11 +85,11 @@ fn season_refusal(
     mark: &[u8],
     records: &[RecordNumbers],
     v: &[i64],
-) -> u8
-    ensures { result ≡ season_refusal (run_of at constants.now) p.now pe.now (book x1.now x2.now x3.now index.now mark.now records.now v.now) }
+) -> Result<(), Refusal>
+    ensures { answer_number result ≡ season_refusal (run_of at constants.now) p.now pe.now (book x1.now x2.now x3.now index.now mark.now records.now v.now) }
 {
     if p.len() != pe.len() {
-        return BAD_LISTS;
+        return Err(Refusal::BadLists);
     }
     let n = refusals::lent_length(
         x1.len(),
@@ -111,25 +107,23 @@ fn season_refusal(
 fn nothing_added(at: Progress) -> SoFar
     ensures { result ≡ begun at }
 {
-    let none = adding::refuse(0, at);
-    let figures = none.figures;
     SoFar {
         added: 0,
         settled: 0,
-        figures,
+        figures: Figures::default(),
         progress: at,
     }
 }
 
-// The season that stands so, ended by this number.
-fn season_of(s: SoFar, number: u8, constants: [i32; MANY_CONSTANTS]) -> Season
-    ensures { result ≡ season_of s number constants }
+// The season that stands so, ended by this answer.
+fn season_of(s: SoFar, answer: Result<(), Refusal>, constants: [i32; MANY_CONSTANTS]) -> Season
+    ensures { result ≡ season_of s (answer_number answer) constants }
 {
     let figures = s.figures;
     let progress = s.progress;
     let last = runs::run_of(progress, constants);
     Season {
-        number,
+        number: outline::number(answer),
         added: s.added,
         settled: s.settled,
         figures,

@@ -1,2 +1,2 @@
--- A month of the lists as a single add.
+-- A month of a list as a reading.
 pub mod Months

@@ -8,13 +8,13 @@ ghost use Rattle.refusals.specs.Book.{book};
 ghost use Rattle.refusals.specs.Good.{Good};
 ghost use Rattle.runs.specs.Progress.{run_of};
 ghost use Rattle.adding.specs.Taken.{result_of};
-ghost use Rattle.adding.specs.Progress.{added_of};
+ghost use Rattle.adding.specs.Progress.{answer_of};
 ghost use Rattle.drought.specs.Calls.{add_water};
 ghost use Rattle.season_month.specs.Listed.{listed};
 
 use adding::MonthAdded;
-use door::{Answer, MonthKinds, Reading};
-use outline::MANY_CONSTANTS;
+use door::Reading;
+use outline::{MANY_CONSTANTS, Refusal};
 use records::RecordNumbers;
 use runs::Progress;
 
@@ -34,32 +34,14 @@ pub fn add_listed(
     mark: &mut [u8],
     records: &mut [RecordNumbers],
     v: &mut [i64],
-) -> MonthAdded
+) -> Result<MonthAdded, Refusal>
     requires { Good (run_of at constants.now) (book x1.old x2.old x3.old index.old mark.old records.old v.old) }
-    ensures { result_of (added_of result constants.now) (book x1.new x2.new x3.new index.new mark.new records.new v.new) ≡ add_water (run_of at constants.now) (listed p) (listed pe) (book x1.old x2.old x3.old index.old mark.old records.old v.old) }
+    ensures { result_of (answer_of result at constants.now) (book x1.new x2.new x3.new index.new mark.new records.new v.new) ≡ add_water (run_of at constants.now) (listed p) (listed pe) (book x1.old x2.old x3.old index.old mark.old records.old v.old) }
 {
-    let first = door::read(reading_of(p));
-    let Answer::Water(measured) = first else {
-        let t = door::tell(first);
-        return adding::refuse(t.number, at);
-    };
-    let second = door::read(reading_of(pe));
-    let Answer::Water(potential) = second else {
-        let t = door::tell(second);
-        return adding::refuse(t.number, at);
-    };
-    let full = refusals::room_refusal(x1.len(), at.months);
-    if full != 0 {
-        return adding::refuse(full, at);
-    }
-    let a = door::tell(first);
-    let b = door::tell(second);
-    let kinds = MonthKinds {
-        p: a.kind,
-        pe: b.kind,
-    };
-    taking::add_measured(
-        at, constants, measured, potential, kinds, x1, x2, x3, index, mark, records, v,
+    let first = reading_of(p);
+    let second = reading_of(pe);
+    drought::add_readings(
+        at, constants, first, second, x1, x2, x3, index, mark, records, v,
     )
 }
 

@@ -20,7 +20,7 @@ ghost use Rattle.adding.specs.Taken.{result_of, taken_water};
 ghost use Rattle.adding.specs.Ready.{Ready, Watered};
 ghost use Rattle.adding.specs.Progress.{added_of, Takes};
 
-use adding::MonthAdded;
+use adding::{MonthAdded, WaterFigures};
 use door::MonthKinds;
 use outline::MANY_CONSTANTS;
 use records::RecordNumbers;
@@ -80,7 +80,7 @@ pub fn add_z(
 {
     let soil = at.soil;
     let values = at.values;
-    let water = adding::no_water();
+    let water = WaterFigures::default();
     let s = adding::add_spells(at.months, at.opens, values, z, x1, x2, x3, index, mark);
     let after = s.values;
     let kept = records::z_record(soil, z, s.modified);

@@ -1,37 +1,8 @@
--- `drought::add_inches` meets its contract: the month's two answers in numbers, what is lent measured, and then `try_water`. Assumes nothing.
-use mathlib.Core.Path.{◌≡◌, ap}
-use Rattle.door.specs.Outcome.{MonthOutcomes, Outcome, told_as}
-use Rattle.door.specs.Readings.{month}
-use Rattle.door.proofs.Bounds.{inches-most}
-use Rattle.refusals.specs.Book.{book}
-use Rattle.drought.specs.Calls.{add_inches}
-use Rattle.drought.proofs.Joined.{joined}
+-- `drought::add_inches` meets its contract: its two readings are inches. Assumes nothing.
+use Rattle.door.specs.Readings.{reading, month}
+use Rattle.drought.specs.Calls.{add_water, add_inches}
 use Rattle.drought.proofs.add_inches.Goals as goal
-use Rattle.drought.proofs.add_inches.Goals.{After-read_month-both}
-
--- each of the two
-first : (c : After-read_month-both) → told_as c.read_month-both.result.p ≡ (month c.args.q).p
-first c = ap (λ (m : MonthOutcomes). m.p) c.read_month-both.ensures
-
-second : (c : After-read_month-both) → told_as c.read_month-both.result.pe ≡ (month c.args.q).pe
-second c = ap (λ (m : MonthOutcomes). m.pe) c.read_month-both.ensures
-
-pub try_water-t-requires : goal.try_water-t-requires
-unfolding month
-try_water-t-requires c =
-    let q = c.args.q in
-    let t = (goal.at.try_water-t-requires c).After-read_month-both in
-    record {
-      n_value = c.lent_length-n.ensures;
-      p_le_most_reading = (rw (ap (λ (o : Outcome). o.water) (first t)) (inches-most q.p), rw (ap (λ (o : Outcome). o.water) (second t)) (inches-most q.pe));
-    }
 
 pub returns : goal.returns
-unfolding add_inches
-returns c =
-    let a = c.args in
-    let t = (goal.at.returns c).After-read_month-both in
-    let e = first t in
-    let f = second t in
-    rw (c.answer_of.ensures, ← joined a.run (month a.q).p (month a.q).pe (book a.x1.now a.x2.now a.x3.now a.index.now a.mark.now a.records.now a.v.now))
-    (rw (c.progress_of-at.ensures, c.reading_refusal.ensures, ap (λ (o : Outcome). o.number) e, ap (λ (o : Outcome). o.number) f, ap (λ (o : Outcome). o.water) e, ap (λ (o : Outcome). o.water) f, ap (λ (o : Outcome). o.kind) e, ap (λ (o : Outcome). o.kind) f) at c.try_water-t.ensures)
+unfolding add_inches add_water month reading
+returns c = c.add_water.ensures

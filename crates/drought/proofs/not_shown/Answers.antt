@@ -2,4 +2,4 @@
 use Rattle.drought.proofs.not_shown.Goals as goal
 
 pub returns : goal.returns
-returns c = rw c.no_record-none.ensures
+returns c = rw (c.number.ensures, c.no_record-none.ensures)

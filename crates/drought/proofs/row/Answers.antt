@@ -10,7 +10,8 @@ use mir.Val.{SFits}
 use mir.Facts.{to_z-of_z}
 use Rattle.outline.specs.Numbers.{most_months}
 use Rattle.outline.specs.Refusals.{unless_refused}
-use Rattle.outline.proofs.Refusals.{is-refused}
+use Rattle.outline.specs.Refused.{refusal_number, answer_number}
+use Rattle.outline.proofs.Refused.{unless-refusal}
 use Rattle.refusals.specs.Book.{Book, book}
 use Rattle.refusals.specs.Refusals.{row_refusal}
 use Rattle.refusals.proofs.Refused.{row-passes, columns_are}
@@ -19,27 +20,28 @@ use Rattle.adding.proofs.Readiness.{run_is}
 use Rattle.drought.specs.Calls.{row_of_run, shown, not_shown}
 use Rattle.drought.specs.declared.Shown.{Shown}
 use Rattle.drought.proofs.row.Goals as goal
-use Rattle.drought.proofs.row.Goals.{After-row_number-number}
+use Rattle.drought.proofs.row.Goals.{After-row_number}
 
-abbrev lent : After-row_number-number → Book
+abbrev lent : After-row_number → Book
 lent c = let a = c.args in book a.x1.now a.x2.now a.x3.now a.index.now a.mark.now a.records.now a.v.now
 
 -- what is shown by a number
-abbrev by : After-row_number-number → ℕ → Shown
+abbrev by : After-row_number → ℕ → Shown
 by c k = unless_refused k (shown c.args.i (lent c)) (not_shown k)
 
 -- the number is the definition's
-number_is : (c : After-row_number-number) → c.row_number-number.result ≡ row_refusal c.args.run c.args.i (lent c)
-number_is c = rw (← row_number (lent c) c.args.run c.args.i) (rw c.lengths_fit-fit.ensures at c.row_number-number.ensures)
+number_is : (c : After-row_number) → answer_number c.row_number.result ≡ row_refusal c.args.run c.args.i (lent c)
+number_is c = rw (← row_number (lent c) c.args.run c.args.i) (rw c.lengths_fit-fit.ensures at c.row_number.ensures)
 
-pub returns-then-number-ne0 : goal.returns-then-number-ne0
+pub returns-in-Err : goal.returns-in-Err
 unfolding row_of_run
-returns-then-number-ne0 c =
-    let t = (goal.at.returns-then-number-ne0 c).After-row_number-number in
-    c.not_shown.ensures ∙ sym (is-refused c.row_number-number.result (shown c.args.i (lent t)) (not_shown c.row_number-number.result) c.if-number-ne0.true) ∙ ap (by t) (number_is t)
+returns-in-Err c =
+    let t = (goal.at.returns-in-Err c).After-row_number in
+    let e = c.in-Err.refusal in
+    c.not_shown.ensures ∙ sym (unless-refusal e (shown c.args.i (lent t)) (not_shown (refusal_number e))) ∙ ap (by t) (ap answer_number (sym c.in-Err.is) ∙ number_is t)
 
 -- the place is below each length, and so below the limit
-abbrev Inside : After-row_number-number → Type 0
+abbrev Inside : After-row_number → Type 0
 Inside c =
     (c.args.i < length c.args.x1.now)
     × (c.args.i < length c.args.x2.now)
@@ -50,7 +52,7 @@ Inside c =
     × (c.args.i < length c.args.v.now)
     × (c.args.i < most_months)
 
-inside : (c : After-row_number-number) → c.row_number-number.result ≡ 0 → Inside c
+inside : (c : After-row_number) → answer_number c.row_number.result ≡ 0 → Inside c
 inside c e =
     let cs = lent c in
     let p = row-passes c.args.run cs c.args.i (sym (number_is c) ∙ e) in
@@ -59,49 +61,49 @@ inside c e =
     omega arith
 
 pub record_at-kept-requires : goal.record_at-kept-requires
-record_at-kept-requires c = let h = inside (goal.at.record_at-kept-requires c).After-row_number-number c.if-number-ne0.false in omega arith
+record_at-kept-requires c = let h = inside (goal.at.record_at-kept-requires c).After-row_number (ap answer_number c.in-Ok.is) in omega arith
 
 pub offset_bounds-x1-i : goal.offset_bounds-x1-i
-offset_bounds-x1-i c = let h = inside (goal.at.offset_bounds-x1-i c).After-row_number-number c.if-number-ne0.false in omega arith
+offset_bounds-x1-i c = let h = inside (goal.at.offset_bounds-x1-i c).After-row_number (ap answer_number c.in-Ok.is) in omega arith
 
 pub bounds-x1-i : goal.bounds-x1-i
-bounds-x1-i c = let h = inside (goal.at.bounds-x1-i c).After-row_number-number c.if-number-ne0.false in omega arith
+bounds-x1-i c = let h = inside (goal.at.bounds-x1-i c).After-row_number (ap answer_number c.in-Ok.is) in omega arith
 
 pub offset_bounds-x2-i : goal.offset_bounds-x2-i
-offset_bounds-x2-i c = let h = inside (goal.at.offset_bounds-x2-i c).After-row_number-number c.if-number-ne0.false in omega arith
+offset_bounds-x2-i c = let h = inside (goal.at.offset_bounds-x2-i c).After-row_number (ap answer_number c.in-Ok.is) in omega arith
 
 pub bounds-x2-i : goal.bounds-x2-i
-bounds-x2-i c = let h = inside (goal.at.bounds-x2-i c).After-row_number-number c.if-number-ne0.false in omega arith
+bounds-x2-i c = let h = inside (goal.at.bounds-x2-i c).After-row_number (ap answer_number c.in-Ok.is) in omega arith
 
 pub offset_bounds-x3-i : goal.offset_bounds-x3-i
-offset_bounds-x3-i c = let h = inside (goal.at.offset_bounds-x3-i c).After-row_number-number c.if-number-ne0.false in omega arith
+offset_bounds-x3-i c = let h = inside (goal.at.offset_bounds-x3-i c).After-row_number (ap answer_number c.in-Ok.is) in omega arith
 
 pub bounds-x3-i : goal.bounds-x3-i
-bounds-x3-i c = let h = inside (goal.at.bounds-x3-i c).After-row_number-number c.if-number-ne0.false in omega arith
+bounds-x3-i c = let h = inside (goal.at.bounds-x3-i c).After-row_number (ap answer_number c.in-Ok.is) in omega arith
 
 pub offset_bounds-index-i : goal.offset_bounds-index-i
-offset_bounds-index-i c = let h = inside (goal.at.offset_bounds-index-i c).After-row_number-number c.if-number-ne0.false in omega arith
+offset_bounds-index-i c = let h = inside (goal.at.offset_bounds-index-i c).After-row_number (ap answer_number c.in-Ok.is) in omega arith
 
 pub bounds-index-i : goal.bounds-index-i
-bounds-index-i c = let h = inside (goal.at.bounds-index-i c).After-row_number-number c.if-number-ne0.false in omega arith
+bounds-index-i c = let h = inside (goal.at.bounds-index-i c).After-row_number (ap answer_number c.in-Ok.is) in omega arith
 
 pub bounds-mark-i : goal.bounds-mark-i
-bounds-mark-i c = let h = inside (goal.at.bounds-mark-i c).After-row_number-number c.if-number-ne0.false in omega arith
+bounds-mark-i c = let h = inside (goal.at.bounds-mark-i c).After-row_number (ap answer_number c.in-Ok.is) in omega arith
 
 pub offset_bounds-v-i : goal.offset_bounds-v-i
-offset_bounds-v-i c = let h = inside (goal.at.offset_bounds-v-i c).After-row_number-number c.if-number-ne0.false in omega arith
+offset_bounds-v-i c = let h = inside (goal.at.offset_bounds-v-i c).After-row_number (ap answer_number c.in-Ok.is) in omega arith
 
 pub bounds-v-i : goal.bounds-v-i
-bounds-v-i c = let h = inside (goal.at.bounds-v-i c).After-row_number-number c.if-number-ne0.false in omega arith
+bounds-v-i c = let h = inside (goal.at.bounds-v-i c).After-row_number (ap answer_number c.in-Ok.is) in omega arith
 
-pub returns : goal.returns
+pub returns-in-Ok : goal.returns-in-Ok
 unfolding row_of_run
-returns c =
+returns-in-Ok c =
     let i = c.args.i in
-    let t = (goal.at.returns c).After-row_number-number in
+    let t = (goal.at.returns-in-Ok c).After-row_number in
     let f1 : SFits w32 (get_or c.args.x1.now i (pos 0)) = search rules in
     let f2 : SFits w32 (get_or c.args.x2.now i (pos 0)) = search rules in
     let f3 : SFits w32 (get_or c.args.x3.now i (pos 0)) = search rules in
     let f4 : SFits w32 (get_or c.args.index.now i (pos 0)) = search rules in
     let f5 : SFits w64 (get_or c.args.v.now i (pos 0)) = search rules in
-    rw (to_z-of_z f1, to_z-of_z f2, to_z-of_z f3, to_z-of_z f4, to_z-of_z f5, c.record_at-kept.ensures) (ap (by t) (sym c.if-number-ne0.false ∙ number_is t))
+    rw (to_z-of_z f1, to_z-of_z f2, to_z-of_z f3, to_z-of_z f4, to_z-of_z f5, c.record_at-kept.ensures) (ap (by t) (ap answer_number (sym c.in-Ok.is) ∙ number_is t))

@@ -65,8 +65,8 @@ renew-requires c =
     let f = run_fits r cs a.i w in
     record { i_in_bounds = omega (arith, w.row, f.months, l.records_is); p_le_most_reading = c.requires.p_le_most_reading }
 
-pub loop-s-init : goal.loop-s-init
-loop-s-init c =
+pub loop-init : goal.loop-init
+loop-init c =
     let a = c.args in
     let r = run_of a.at a.constants.now in
     let cs = book a.x1.now a.x2.now a.x3.now a.index.now a.mark.now a.records.now a.v.now in
@@ -77,7 +77,7 @@ loop-s-init c =
     let o = c.reopen-opens.new in
     let e = c.run_before-s.ensures a.index.now a.mark.now a.constants.now (c.reopen-opens.ensures.value a.records.now) in
     let g = begins r cs a.i w a.p a.pe a.kind q o.index o.mark c.renew.new.records (c.reopen-opens.ensures.v_after a.records.now) c.renew.ensures in (
-      omega (arith, ap (λ (r : Run). r.months) e, w.row),
+      ap (λ (r : Run). r.months) e,
       refl,
       stands-first a.at.months e g (stands-begun r cs a.i w a.p a.pe a.kind q),
       recorded-first a.at.months e g (recorded-begun r cs a.i w a.p a.pe a.kind q),
@@ -90,42 +90,24 @@ add_again-t-requires c =
     let a = c.args in
     let r = run_of a.at a.constants.now in
     let cs = book a.x1.now a.x2.now a.x3.now a.index.now a.mark.now a.records.now a.v.now in
-    let l = c.loop-s in
+    let l = c.loop in
     let v = l.invariant in
     let q = run_of l.s a.constants.now in
     let so_far = book l.x1 l.x2 l.x3 l.index l.mark l.records l.v in
-    let due : l.s.months < a.at.months = omega (arith, c.loop-s-test.true) in
+    let due : l.s.months < a.at.months = omega (arith, c.loop-test.true, v.0) in
     let places : a.at.months ≤ long so_far = omega (arith, (run_fits r cs a.i c.requires.workable).months, v.4.0) in
     record { stands = v.2; months_in_bounds = (omega (arith, due, places), v.3 l.s.months (omega arith) due) }
 
-pub loop-s-smaller : goal.loop-s-smaller
-loop-s-smaller c =
+pub loop-preserved : goal.loop-preserved
+loop-preserved c =
     let a = c.args in
     let r = run_of a.at a.constants.now in
     let cs = book a.x1.now a.x2.now a.x3.now a.index.now a.mark.now a.records.now a.v.now in
-    let l = c.loop-s in
+    let l = c.loop in
     let v = l.invariant in
     let q = run_of l.s a.constants.now in
     let so_far = book l.x1 l.x2 l.x3 l.index l.mark l.records l.v in
-    let due : l.s.months < a.at.months = omega (arith, c.loop-s-test.true) in
-    let places : a.at.months ≤ long so_far = omega (arith, (run_fits r cs a.i c.requires.workable).months, v.4.0) in
-    let s = c.add_again-t in
-    let m = added_of s.result a.constants.now in
-    let then = book s.new.x1 s.new.x2 s.new.x3 s.new.index s.new.mark s.new.records s.new.v in
-    let again_is : result_of m then ≡ again q (record_at l.records l.s.months) so_far = s.ensures in
-    let e : s.result.progress.months ≡ suc l.s.months = months-next a.at.months q so_far v.2 due places v.3 m then again_is in
-    omega (arith, due, e)
-
-pub loop-s-preserved : goal.loop-s-preserved
-loop-s-preserved c =
-    let a = c.args in
-    let r = run_of a.at a.constants.now in
-    let cs = book a.x1.now a.x2.now a.x3.now a.index.now a.mark.now a.records.now a.v.now in
-    let l = c.loop-s in
-    let v = l.invariant in
-    let q = run_of l.s a.constants.now in
-    let so_far = book l.x1 l.x2 l.x3 l.index l.mark l.records l.v in
-    let due : l.s.months < a.at.months = omega (arith, c.loop-s-test.true) in
+    let due : l.s.months < a.at.months = omega (arith, c.loop-test.true, v.0) in
     let places : a.at.months ≤ long so_far = omega (arith, (run_fits r cs a.i c.requires.workable).months, v.4.0) in
     let s = c.add_again-t in
     let m = added_of s.result a.constants.now in
@@ -134,7 +116,7 @@ loop-s-preserved c =
     let e : s.result.progress.months ≡ suc l.s.months = months-next a.at.months q so_far v.2 due places v.3 m then again_is in
     let k = s.auto in
     let begun = book a.x1.now a.x2.now a.x3.now c.reopen-opens.new.index c.reopen-opens.new.mark c.renew.new.records a.v.now in (
-      omega (arith, due, e),
+      omega (arith, v.0, e),
       reworks-next a.at.months q so_far v.2 due places v.3 m then again_is v.1,
       stands-next a.at.months q so_far v.2 due places v.3 m then again_is,
       recorded-next a.at.months q so_far v.2 due places v.3 m then again_is,
@@ -151,7 +133,7 @@ returns c =
     let w = c.requires.workable in
     let q = c.requires.p_le_most_reading in
     let o = c.reopen-opens.new in
-    let l = c.loop-s in
+    let l = c.loop in
     let e = c.run_before-s.ensures a.index.now a.mark.now a.constants.now (c.reopen-opens.ensures.value a.records.now) in
     let g = begins r cs a.i w a.p a.pe a.kind q o.index o.mark c.renew.new.records (c.reopen-opens.ensures.v_after a.records.now) c.renew.ensures in
-    sym (ends a.at.months (run_of l.s a.constants.now) (book l.x1 l.x2 l.x3 l.index l.mark l.records l.v) c.loop-s-test.false) ∙ l.invariant.1 ∙ reworks-first a.at.months e g
+    sym (ends a.at.months (run_of l.s a.constants.now) (book l.x1 l.x2 l.x3 l.index l.mark l.records l.v) (omega (arith, c.loop-test.false, l.invariant.0))) ∙ l.invariant.1 ∙ reworks-first a.at.months e g

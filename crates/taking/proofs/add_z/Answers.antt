@@ -1,4 +1,5 @@
 -- `taking::add_z` meets its contract: no water, the month of spells, its record, and all put together. Assumes nothing.
+use mathlib.Core.Path.{◌≡◌}
 use native.Mathlib.Omega.{arith}
 use borrow.Author.Rules.{rules}
 use mir.Syntax.{w32, w64}
@@ -39,7 +40,8 @@ returns c =
     let fv : SFits w64 s.values.v = search rules in
     -- the spells are those of the Z
     let told = rw (to_z-of_z f) at c.add_spells-s.ensures in
-    λ k. rw (c.month_added.ensures, c.no_water-water.ensures, to_z-of_z f)
+    let d : c.default-water.result ≡ no_water = search rules in
+    λ k. rw (c.month_added.ensures, d, to_z-of_z f)
     (taken_is a.at a.at.soil no_water a.z (z_record a.at.soil a.z (modified_of a.at.values a.z)) (book a.x1.now a.x2.now a.x3.now a.index.now a.mark.now a.records.now a.v.now) s (columns n.x1 n.x2 n.x3 n.index n.mark) _ _
     told
     (rw (c.z_record-kept.ensures, to_z-of_z f, to_z-of_z fm, told.modified_is) at c.put.ensures)
