@@ -1,6 +1,6 @@
 -- The laws of the figures: a value's size, the twelve months of a line, and what is seen of them one after another. Assumes nothing.
 use mathlib.Core.Path.{◌≡◌, refl, ap}
-use mathlib.Core.Bool.{Bool, true, false, ◌&&◌, ◌||◌, and-eq-true_iff}
+use mathlib.Core.Bool.{Bool, true, false, beq, ◌&&◌, ◌||◌, and-eq-true_iff}
 use mathlib.Core.List.{List, [], ◌∷◌, ◌++◌, map, map-append}
 use Prim.Native.Nat.{ℕ, zero, suc, ◌+◌, ◌*◌, ◌^◌, ◌<◌}
 use native.Mathlib.Omega.{arith}
@@ -13,7 +13,7 @@ use Rattle.fields.proofs.Naturals.{natural-small}
 use Rattle.fields.proofs.Fields.{units-short}
 use Rattle.layout_months.specs.Months.{some, set_of}
 use Rattle.layout_months.proofs.Sets.{set_below, set_more, set_same}
-use Rattle.figures.specs.Figures.{figure_of, figures_of, is_malformed, is_present}
+use Rattle.figures.specs.Figures.{mark_hundredths, is_mark, figure_of, figures_of, is_malformed, is_present}
 use Rattle.figures.specs.Steps.{Small, seen_in, and_figure}
 use Rattle.figures.specs.declared.Figure.{Figure}
 use Rattle.figures.specs.declared.Figure.TheVariants.{Value, Missing, Malformed}
@@ -36,6 +36,12 @@ small_by f false e = rw e tt
 
 pub field-small : (f : List ℕ) → Small (field_of f)
 field-small f = small_by f (well_formed f) refl
+
+-- ---- a number that is the mark, as the code compares the two
+pub mark-is : (b minus : Bool) (n : ℕ) → b ≡ (beq minus true && eqb n mark_hundredths) → b ≡ is_mark minus n
+unfolding is_mark
+mark-is b true n e = e
+mark-is b false n e = e
 
 -- ---- the months of a line
 pub figures-twelve : (line : List ℕ) → length (figures_of line) ≡ months_of_year

@@ -1,11 +1,10 @@
 -- Document 02, E14: "Write index, Z and modified index lines in the nClimDiv layout .. The elements are 05, 07 and 08, and their missing mark is
 -- -99.99." What a value says of its month, and how a month's figure is written. Assumes nothing.
-use Rattle.std.specs.Prelude.{ℕ, suc, Bool, true, false, cond, not, ◌&&◌, List, [], ◌∷◌, ◌++◌, map, ℤ, pos, negsuc, neg_ℤ, eqb}
+use Rattle.std.specs.Prelude.{ℕ, suc, Bool, true, false, cond, not, ◌&&◌, List, [], ◌∷◌, ◌++◌, map, Option, Some, None, ℤ, pos, negsuc, neg_ℤ, eqb}
 use Rattle.fields.specs.Columns.{values}
 use Rattle.fields.specs.Field.{field_of}
 use Rattle.fields.specs.Written.{field_text, value_text, value_fits}
-use Rattle.fields.specs.declared.Field.{Field}
-use Rattle.fields.specs.declared.Field.TheVariants as field
+use Rattle.fields.specs.declared.Number.{Number}
 use Rattle.figures.specs.declared.Element.{Element}
 use Rattle.figures.specs.declared.Element.TheVariants as element
 use Rattle.figures.specs.declared.Figure.{Figure}
@@ -31,9 +30,9 @@ abbrev pub signed_of : Bool → ℕ → ℤ
 signed_of true n = neg_ℤ (pos n)
 signed_of false n = pos n
 
-abbrev pub figure_said : Field → Figure
-figure_said (field.Number minus n) = cond (is_mark minus n) Missing (Value (signed_of minus n))
-figure_said field.Malformed = Malformed
+abbrev pub figure_said : Option Number → Figure
+figure_said (Some said) = cond (is_mark said.minus said.hundredths) Missing (Value (signed_of said.minus said.hundredths))
+figure_said None = Malformed
 
 unfoldable pub figure_of : List ℕ → Figure
 figure_of f = figure_said (field_of f)

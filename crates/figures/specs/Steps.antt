@@ -1,8 +1,7 @@
 -- A proof's vocabulary, here since contracts cite it; no promise leans on it. The steps from a line's values to what is seen of its months.
 -- Assumes nothing.
-use Rattle.std.specs.Prelude.{ℕ, ◌+◌, ◌<◌, ◌^◌, true, List, map}
-use Rattle.fields.specs.declared.Field.{Field}
-use Rattle.fields.specs.declared.Field.TheVariants as field
+use Rattle.std.specs.Prelude.{ℕ, ◌+◌, ◌<◌, ◌^◌, true, List, Option, Some, None, map}
+use Rattle.fields.specs.declared.Number.{Number}
 use Rattle.layout_months.specs.Months.{some, set_of}
 use Rattle.figures.specs.Figures.{is_malformed, is_present}
 use Rattle.figures.specs.declared.Figure.{Figure}
@@ -10,9 +9,9 @@ use Rattle.figures.specs.declared.Figure.TheVariants.{Value, Missing, Malformed}
 use Rattle.figures.specs.declared.Seen.{Seen}
 
 -- a number that 32 bits with a sign hold
-abbrev pub Small : Field → Type 0
-Small (field.Number minus n) = n < 2 ^ 31
-Small field.Malformed = Unit {0}
+abbrev pub Small : Option Number → Type 0
+Small (Some said) = said.hundredths < 2 ^ 31
+Small None = Unit {0}
 
 -- what is seen of months
 unfoldable pub seen_in : List Figure → Seen

@@ -7,21 +7,21 @@
 
 ghost use Rattle.std.specs.Prelude.{◌≡◌, map, ◌+◌, ◌≤◌, ◌<◌, ◌^◌, length};
 ghost use Rattle.fields.specs.Columns.{months_of_year, last_column};
-ghost use Rattle.figures.specs.Figures.{number_of, is_mark, signed_of, figure_said, hundredths_of, figures_of};
+ghost use Rattle.figures.specs.Figures.{number_of, signed_of, figure_said, hundredths_of, figures_of};
 ghost use Rattle.figures.specs.Steps.{Small, seen_in, and_figure};
 
-use fields::{Field, HEADING, MONTHS, WIDTH};
+use fields::{HEADING, MONTHS, Number, WIDTH};
 
-// What is sent out of a month.
-#[derive(Clone, Copy)]
+// What is sent out of a month, with its number in the columns.
+#[derive(Clone, Copy, Debug, PartialEq, Eq)]
 pub enum Element {
-    Index,
-    Z,
-    Modified,
+    Index = 5,
+    Z = 7,
+    Modified = 8,
 }
 
 // What a value says of its month.
-#[derive(Clone, Copy)]
+#[derive(Clone, Copy, Debug, PartialEq, Eq)]
 pub enum Figure {
     // Hundredths.
     Value(i32),
@@ -32,62 +32,51 @@ pub enum Figure {
 }
 
 // The months read so far: whether one was malformed, and the set of those present, January bit 0, December bit 11.
-#[derive(Drop)]
+#[derive(Clone, Copy, Debug, Default, PartialEq, Eq)]
 pub struct Seen {
     pub malformed: bool,
     pub present: u32,
 }
 
-// The missing mark's size, -99.99.
-pub const MARK: u32 = 9_999;
+// The missing mark, -99.99.
+pub const MARK: Number = Number {
+    minus: true,
+    hundredths: 9_999,
+};
 
-// The number of an element in its columns.
-pub fn number_of(element: Element) -> u32
-    ensures { result ≡ number_of element }
-{
-    match element {
-        Element::Index => 5,
-        Element::Z => 7,
-        Element::Modified => 8,
+impl Element {
+    // Its number.
+    pub fn number(self) -> u32
+        ensures { result ≡ number_of self }
+    {
+        self as u32
     }
 }
 
 // ---- a value
 
-// Whether a number is the missing mark.
-pub fn is_mark(minus: bool, hundredths: u32) -> bool
-    ensures { result ≡ is_mark minus hundredths }
-{
-    if minus {
-        return hundredths == MARK;
-    }
-    false
-}
-
 // Hundredths with their sign; a minus before 0 says 0.
-fn signed(minus: bool, hundredths: u32) -> i32
-    requires { hundredths < 2 ^ 31 }
-    ensures { result ≡ signed_of minus hundredths }
+fn signed(said: Number) -> i32
+    requires { said.hundredths < 2 ^ 31 }
+    ensures { result ≡ signed_of said.minus said.hundredths }
 {
-    let n = hundredths as i32;
-    if minus {
-        return 0 - n;
-    }
-    n
+    let n = said.hundredths as i32;
+    if said.minus { -n } else { n }
 }
 
 // What a value says of its month.
-fn figure_said(said: Field) -> Figure
+fn figure_said(said: Option<Number>) -> Figure
     requires { Small said }
     ensures { result ≡ figure_said said }
 {
-    let Field::Number(minus, hundredths) = said else {
+    let Some(number) = said else {
         return Figure::Malformed;
     };
-    if is_mark(minus, hundredths) {
-        return Figure::Missing;
+    if number == MARK {
+        Figure::Missing
+    } else {
+        Figure::Value(signed(number))
     }
-    Figure::Value(signed(minus, hundredths))
 }
 
 // The hundredths of a month, 0 where it has none.
@@ -96,28 +85,29 @@ fn hundredths_of(figure: Figure) -> i32
 {
     match figure {
         Figure::Value(hundredths) => hundredths,
-        Figure::Missing => 0,
-        Figure::Malformed => 0,
+        Figure::Missing | Figure::Malformed => 0,
     }
 }
 
 // ---- the months of a line
 
-// The months so far and one more, whose bit of the set this is.
-fn and_figure(seen: Seen, figure: Figure, bit: u32) -> Seen
-    requires { seen.present + bit < 2 ^ 32 }
-    ensures { result ≡ and_figure seen figure bit }
-{
-    match figure {
-        Figure::Value(_) => Seen {
-            malformed: seen.malformed,
-            present: seen.present + bit,
-        },
-        Figure::Missing => seen,
-        Figure::Malformed => Seen {
-            malformed: true,
-            present: seen.present,
-        },
+impl Seen {
+    // The months so far and one more, whose bit of the set this is.
+    fn and(self, figure: Figure, bit: u32) -> Seen
+        requires { self.present + bit < 2 ^ 32 }
+        ensures { result ≡ and_figure self figure bit }
+    {
+        match figure {
+            Figure::Value(_) => Seen {
+                present: self.present + bit,
+                ..self
+            },
+            Figure::Missing => self,
+            Figure::Malformed => Seen {
+                malformed: true,
+                ..self
+            },
+        }
     }
 }
 
@@ -128,19 +118,12 @@ pub fn read_figures(line: &[u8], hundredths: &mut [i32]) -> Seen
     ensures value { result ≡ seen_in (figures_of line.now) }
     ensures hundredths_after { hundredths.new ≡ map hundredths_of (figures_of line.now) }
 {
-    let mut seen = Seen {
-        malformed: false,
-        present: 0,
-    };
-    let mut bit: u32 = 1;
-    let mut m = 0;
-    while m < MONTHS {
+    let mut seen = Seen::default();
+    for m in 0..MONTHS {
         let at = HEADING + WIDTH * m;
         let figure = figure_said(fields::read_field(&line[at..at + WIDTH]));
         hundredths[m] = hundredths_of(figure);
-        seen = and_figure(seen, figure, bit);
-        bit = 2 * bit;
-        m += 1;
+        seen = seen.and(figure, 1 << m);
     }
     seen
 }

@@ -1,7 +1,7 @@
 -- The refusal of a line, by its heading and by what follows it. The idea: a month is malformed for the one reader exactly where it is for the other,
 -- and only a line of precipitation has values out of range. Assumes nothing.
 use mathlib.Core.Path.{◌≡◌, refl, sym, ◌∙◌}
-use mathlib.Core.Bool.{Bool, true, false, not, ◌&&◌, and-false}
+use mathlib.Core.Bool.{Bool, true, false, cond, not, ◌&&◌, and-false}
 use mathlib.Core.List.{List, [], ◌∷◌, map}
 use Prim.Native.Nat.{ℕ, ◌≤◌, ◌<◌}
 use lib.Dec.{eqb}
@@ -11,8 +11,8 @@ use Rattle.text.specs.Bytes.{all_spaces, natural}
 use Rattle.fields.specs.Columns.{state, division, element, year, values, last_column, after}
 use Rattle.fields.specs.Refusals.{malformed, another}
 use Rattle.fields.specs.Field.{field_of}
-use Rattle.fields.specs.declared.Field.{Field}
-use Rattle.fields.specs.declared.Field.TheVariants as field
+use Rattle.std.specs.Prelude.{Option, Some, None}
+use Rattle.fields.specs.declared.Number.{Number}
 use Rattle.layout_months.specs.Months.{is_mark, in_range, rain_of, month_said, month_of, months_of, some}
 use Rattle.layout_months.specs.Months.{is_malformed as rain_malformed}
 use Rattle.layout_heading.specs.Heading.{precipitation, headed}
@@ -20,15 +20,16 @@ use Rattle.layout_heading.specs.Steps.{element_refusal}
 use Rattle.layout.specs.Rainfall.{is_line, rain_fits, is_year}
 use Rattle.layout.specs.Fault.{fault_of}
 use Rattle.layout.proofs.Faults.{fault-tells}
-use Rattle.figures.specs.Figures.{number_of, figure_said, figure_of, figures_of, is_malformed}
+use Rattle.figures.specs.Figures.{number_of, signed_of, figure_said, figure_of, figures_of, is_malformed}
 use Rattle.figures.specs.Figures.{is_mark as is_the_mark}
+use Rattle.figures.specs.declared.Figure.TheVariants.{Value, Missing}
 use Rattle.figures.specs.declared.Element.{Element}
 use Rattle.figures.specs.declared.Element.TheVariants.{Index, Z, Modified}
 use Rattle.layout_figures.specs.Line.{is_named, refusal}
 use Rattle.layout_figures.specs.Steps.{some_malformed, rest_fits, rain_refusal}
 
 -- ---- a month is malformed for both readers, or for none
-number_by : (minus : Bool) (n : ℕ) (a b c : Bool) → is_mark minus n ≡ a → in_range minus n ≡ b → is_the_mark minus n ≡ c → rain_malformed (month_said (field.Number minus n)) ≡ is_malformed (figure_said (field.Number minus n))
+number_by : (minus : Bool) (n : ℕ) (a b c : Bool) → is_mark minus n ≡ a → in_range minus n ≡ b → is_the_mark minus n ≡ c → rain_malformed (rain_of minus n) ≡ is_malformed (cond (is_the_mark minus n) Missing (Value (signed_of minus n)))
 unfolding rain_of
 number_by minus n true b true p q r = rw (p, r)
 number_by minus n true b false p q r = rw (p, r)
@@ -37,9 +38,9 @@ number_by minus n false true false p q r = rw (p, q, r)
 number_by minus n false false true p q r = rw (p, q, r)
 number_by minus n false false false p q r = rw (p, q, r)
 
-same-value : (x : Field) → rain_malformed (month_said x) ≡ is_malformed (figure_said x)
-same-value (field.Number minus n) = number_by minus n _ _ _ refl refl refl
-same-value field.Malformed = refl
+same-value : (x : Option Number) → rain_malformed (month_said x) ≡ is_malformed (figure_said x)
+same-value (Some said) = number_by said.minus said.hundredths _ _ _ refl refl refl
+same-value None = refl
 
 same-values : (vs : List (List ℕ)) → some (map rain_malformed (map month_of vs)) ≡ some (map is_malformed (map figure_of vs))
 unfolding some month_of figure_of

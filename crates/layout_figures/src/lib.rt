@@ -6,19 +6,20 @@
 #![tactic(auto)]
 
 ghost use Rattle.std.specs.Prelude.{◌≡◌, true, false, ◌≤◌, length};
+ghost use Rattle.outline.specs.Refused.{answer_number, refusal_number};
 ghost use Rattle.fields.specs.Columns.{last_column};
-ghost use Rattle.layout_months.specs.Months.{some};
 ghost use Rattle.layout_figures.specs.Line.{refusal, figures_said};
-ghost use Rattle.layout_figures.specs.Line.{refused as refused_line};
+ghost use Rattle.layout_figures.specs.Said.{figures_of};
 ghost use Rattle.layout_figures.specs.Steps.{some_malformed, rest_fits, rain_refusal};
 
-use fields::{LAST_COLUMN, MALFORMED, MONTHS, OTHER_LINE};
+use fields::{LAST_COLUMN, MONTHS};
 use figures::Element;
 use layout_heading::{Heading, PRECIPITATION};
+use outline::Refusal;
 
 // What a line says of its year.
 #[repr(C)]
-#[derive(Drop)]
+#[derive(Clone, Copy, Debug, PartialEq, Eq)]
 pub struct Figures {
     // 0, or the refusal, 14, 15 or 16; every other figure is 0 then.
     pub number: u8,
@@ -38,90 +39,89 @@ fn rest_fits(line: &[u8], malformed: bool) -> bool
     requires malformed_value { malformed ≡ some_malformed line.now }
     ensures { result ≡ rest_fits line.now }
 {
-    if malformed {
-        return false;
-    }
-    fields::all_spaces(&line[LAST_COLUMN..])
+    !malformed && fields::all_spaces(&line[LAST_COLUMN..])
 }
 
 // The refusal of a line of precipitation, whose values have a range: 14, or else it is another element.
-fn rain_refusal(line: &[u8]) -> u8
-    ensures { result ≡ rain_refusal line.now }
+fn rain_refusal(line: &[u8]) -> Refusal
+    ensures { refusal_number result ≡ rain_refusal line.now }
 {
-    if layout::fault(line) != 0 {
-        return MALFORMED;
+    if layout::fault(line).is_some() {
+        Refusal::Malformed
+    } else {
+        Refusal::OtherLine
     }
-    OTHER_LINE
 }
 
-// The refusal of a line that is long enough, of which a month is malformed or none is.
-fn line_refusal(
+// Refuses, with 14, 15 or 16, a line that is long enough, of which a month is malformed or none is, and that is not as
+// asked for.
+fn check_line(
     line: &[u8],
     malformed: bool,
     element: Element,
     state: u32,
     division: u32,
     year: u32,
-) -> u8
+) -> Result<(), Refusal>
     requires last_column_in_bounds { last_column ≤ length line.now }
     requires malformed_value { malformed ≡ some_malformed line.now }
-    ensures { result ≡ refusal line.now element state division year }
+    ensures { answer_number result ≡ refusal line.now element state division year }
 {
-    let heading = layout_heading::read_heading(line);
-    let Heading::Of(s, d, e, y) = heading else {
-        return MALFORMED;
+    let Ok(heading) = layout_heading::read_heading(line) else {
+        return Err(Refusal::Malformed);
     };
-    if e == PRECIPITATION {
-        return rain_refusal(line);
+    if heading.element == PRECIPITATION {
+        return Err(rain_refusal(line));
     }
     if !rest_fits(line, malformed) {
-        return MALFORMED;
+        return Err(Refusal::Malformed);
     }
-    layout_heading::element_refusal(
-        s,
-        d,
-        e,
-        y,
+    heading.check(Heading {
         state,
         division,
-        figures::number_of(element),
+        element: element.number(),
         year,
-    )
+    })
 }
 
-fn refused(number: u8) -> Figures
-    ensures { result ≡ refused_line number }
+// The figures of a line that is not refused.
+fn read_line(
+    line: &[u8],
+    element: Element,
+    state: u32,
+    division: u32,
+    year: u32,
+) -> Result<Figures, Refusal>
+    ensures { figures_of result ≡ figures_said line.now element state division year }
 {
-    Figures {
-        number,
-        hundredths: [0; MONTHS],
-        present: 0,
-        count: 0,
-        first_missing: 0,
+    if line.len() < LAST_COLUMN {
+        return Err(Refusal::Malformed);
     }
+    let mut hundredths = [0i32; MONTHS];
+    let seen = figures::read_figures(line, &mut hundredths);
+    check_line(line, seen.malformed, element, state, division, year)?;
+    let present = seen.present;
+    Ok(Figures {
+        number: 0,
+        hundredths,
+        present,
+        count: present.count_ones(),
+        first_missing: layout_months::first_missing(present).unwrap_or(0),
+    })
 }
 
 // Reads a line, for an element and a named state, division and expected year.
 pub fn read(line: &[u8], element: Element, state: u32, division: u32, year: u32) -> Figures
     ensures { result ≡ figures_said line.now element state division year }
 {
-    if line.len() < LAST_COLUMN {
-        return refused(MALFORMED);
-    }
-    let mut hundredths = [0i32; MONTHS];
-    let seen = figures::read_figures(line, &mut hundredths);
-    let number = line_refusal(line, seen.malformed, element, state, division, year);
-    if number != 0 {
-        return refused(number);
-    }
-    let present = seen.present;
-    let count = u32::count_ones(present);
-    let gap = layout_months::first_missing(present);
-    Figures {
-        number: 0,
-        hundredths,
-        present,
-        count,
-        first_missing: gap,
+    match read_line(line, element, state, division, year) {
+        Ok(figures) => figures,
+        Err(refusal) => Figures {
+            number: refusal.number(),
+            hundredths: [0; MONTHS],
+            present: 0,
+            count: 0,
+            first_missing: 0,
+        },
     }
 }

@@ -1,8 +1,8 @@
 -- `figures::read_figures`: what is seen so far is what is seen in the months so far, and the hundredths so far are theirs. Assumes nothing.
 use mathlib.Core.Path.{◌≡◌, refl, sym, ap, ◌∙◌}
+use mathlib.Core.Bool.{false}
 use mathlib.Core.List.{List, [], ◌∷◌, ◌++◌, map, map-append}
-use Prim.Native.Nat.{ℕ, ◌+◌, ◌-◌, ◌*◌, ◌^◌, ◌≤◌, ◌<◌}
-use native.Mathlib.Nat.{pow-suc}
+use Prim.Native.Nat.{ℕ, ◌+◌, ◌-◌, ◌*◌, ◌^◌, ◌%◌, ◌≤◌, ◌<◌}
 use native.Mathlib.Numerals.{add-one}
 use native.Mathlib.Omega.{arith}
 use lib.IntN.{ℤ}
@@ -15,6 +15,7 @@ use Rattle.fields.specs.Columns.{heading_columns, months_of_year, width}
 use Rattle.layout_months.specs.Months.{some, set_of}
 use Rattle.figures.specs.Figures.{figure_said, figure_of, figures_of, hundredths_of}
 use Rattle.figures.specs.Steps.{seen_in, and_figure}
+use Rattle.figures.specs.declared.Seen.{Seen}
 use Rattle.figures.specs.declared.Figure.{Figure}
 use Rattle.figures.specs.declared.Figure.TheVariants.{Malformed}
 use Rattle.figures.proofs.FigureLaws.{field-small, figures-twelve, field, figure-at, seen_more, seen_below}
@@ -46,8 +47,9 @@ module _ (line : List ℕ) (m : ℕ) (h : m < months_of_year) where
   bit_below : 2 ^ m ≤ 2048
   bit_below = pow_mono {i = m} {j = 11} (omega arith)
 
-pow-next : (m : ℕ) → 2 ^ (m + 1) ≡ 2 ^ m * 2
-pow-next m = rw (add-one m) (pow-suc 2 m)
+  -- the bit as the code shifts it
+  bit_is : 1 * 2 ^ m % 4294967296 ≡ 2 ^ m
+  bit_is = omega (arith, bit_below)
 
 -- ---- the columns that are read
 seven : (k : ℕ) → k + width - k ≡ width
@@ -58,61 +60,24 @@ unfolding figure_of
 said-is c =
     ap figure_said c.read_field.ensures ∙ ap (λ (n : ℕ). figure_of (take n (drop (heading_columns + width * c.loop-m.m) c.args.line.now))) (seven (heading_columns + width * c.loop-m.m))
 
-pub loop-m-init : goal.loop-m-init
+-- ---- none yet
+none : (s : Seen) → (s.malformed ≡ false) × (s.present ≡ 0) → s ≡ seen_in []
 unfolding seen_in set_of some
-loop-m-init c = (omega arith, refl, refl, refl, refl)
+none s e = rw (e.0, e.1) refl
 
-pub overflow_mul-at : goal.overflow_mul-at
-overflow_mul-at c = record { fits = omega (arith, c.loop-m-test.true) }
-
-pub overflow_add-at : goal.overflow_add-at
-overflow_add-at c = record { fits = omega (arith, c.loop-m-test.true) }
-
-pub overflow_add-at-in-loop-m : goal.overflow_add-at-in-loop-m
-overflow_add-at-in-loop-m c = record { fits = omega (arith, c.loop-m-test.true) }
-
-pub slice_bounds-read_field-count : goal.slice_bounds-read_field-count
-slice_bounds-read_field-count c = omega arith
-
-pub slice_bounds-read_field-start : goal.slice_bounds-read_field-start
-slice_bounds-read_field-start c = omega arith
-
-pub slice_bounds-read_field-end : goal.slice_bounds-read_field-end
-slice_bounds-read_field-end c = omega (arith, c.loop-m-test.true, c.requires.last_column_in_bounds)
-
-pub read_field-requires : goal.read_field-requires
-read_field-requires c =
-    let l = c.args.line.now in
-    let k = heading_columns + width * c.loop-m.m in
-    rw (seven k) (length-take-le width (drop k l) (omega (arith, length-drop k l, c.loop-m-test.true, c.requires.last_column_in_bounds)))
+pub loop-m-init : goal.loop-m-init
+loop-m-init c = record { seen_so_far = none c.default-seen.result c.default-seen.ensures; hundredths_so_far = refl }
 
 pub figure_said-figure-requires : goal.figure_said-figure-requires
 figure_said-figure-requires c = rw c.read_field.ensures (field-small _)
 
-pub offset_bounds-hundredths-m : goal.offset_bounds-hundredths-m
-offset_bounds-hundredths-m c = record { fits = omega (arith, c.loop-m-test.true) }
-
-pub bounds-hundredths-m : goal.bounds-hundredths-m
-bounds-hundredths-m c =
-    omega (arith, c.loop-m-test.true, c.loop-m.invariant.1, c.requires.hundredths_len)
-
-pub and_figure-seen-requires : goal.and_figure-seen-requires
-and_figure-seen-requires c =
+pub and-seen-requires : goal.and-seen-requires
+and-seen-requires c =
     let l = c.args.line.now in
     let h = c.loop-m-test.true in
-    let b = seen_below (take c.loop-m.m (figures_of l)) c.loop-m.seen c.loop-m.invariant.3 in
+    let b = seen_below (take c.loop-m.m (figures_of l)) c.loop-m.seen c.loop-m.invariant.seen_so_far in
     let w = rw (so-many l c.loop-m.m h) at b in
-    omega (arith, w, bit_below l c.loop-m.m h, c.loop-m.invariant.2)
-
-pub overflow_mul-bit : goal.overflow_mul-bit
-overflow_mul-bit c =
-    record { fits = omega (arith, bit_below c.args.line.now c.loop-m.m c.loop-m-test.true, c.loop-m.invariant.2) }
-
-pub overflow_add-m : goal.overflow_add-m
-overflow_add-m c = record { fits = omega (arith, c.loop-m-test.true) }
-
-pub loop-m-smaller : goal.loop-m-smaller
-loop-m-smaller c = omega (arith, c.loop-m-test.true)
+    omega (arith, w, bit_below l c.loop-m.m h)
 
 pub loop-m-preserved : goal.loop-m-preserved
 loop-m-preserved c =
@@ -120,21 +85,15 @@ loop-m-preserved c =
     let m = c.loop-m.m in
     let h = c.loop-m-test.true in
     let x = c.figure_said-figure.ensures ∙ said-is (goal.at.loop-m-preserved c).After-read_field in
-    let f = to_z-of_z {w = w32} {z = c.hundredths_of.result} (record { sfits = c.hundredths_of.type_inv }) in (
-      omega (arith, h),
-      length-set c.loop-m.hundredths m _ ∙ c.loop-m.invariant.1,
-      omega (arith, c.loop-m.invariant.2, pow-next m),
-      rw (c.and_figure-seen.ensures, x, c.loop-m.invariant.3, c.loop-m.invariant.2) (seen_next l m h),
-      rw (f, c.hundredths_of.ensures, x) (values-next l m h c.loop-m.hundredths (c.loop-m.invariant.1 ∙ c.requires.hundredths_len) c.loop-m.invariant.4),
-    )
-
-pub shape_of-hundredths : goal.shape_of-hundredths
-shape_of-hundredths c = c.loop-m.invariant.1
+    let f = to_z-of_z {w = w32} {z = c.hundredths_of.result} (record { sfits = c.hundredths_of.type_inv }) in record {
+      seen_so_far = rw (c.and-seen.ensures, bit_is l m h, x, c.loop-m.invariant.seen_so_far) (seen_next l m h);
+      hundredths_so_far = rw (f, c.hundredths_of.ensures, x) (values-next l m h c.loop-m.hundredths (c.loop-m.auto.hundredths ∙ c.requires.hundredths_len) c.loop-m.invariant.hundredths_so_far);
+    }
 
 pub returns : goal.returns
 returns c =
     let l = c.args.line.now in
     let t : take c.loop-m.m (figures_of l) ≡ figures_of l = take_all c.loop-m.m (figures_of l) (omega (arith, figures-twelve l, c.loop-m-test.false)) in record {
-      value = c.loop-m.invariant.3 ∙ ap seen_in t;
-      hundredths_after = sym (take_all c.loop-m.m c.loop-m.hundredths (omega (arith, c.loop-m.invariant.1, c.requires.hundredths_len, c.loop-m-test.false))) ∙ c.loop-m.invariant.4 ∙ ap (map hundredths_of) t;
+      value = c.loop-m.invariant.seen_so_far ∙ ap seen_in t;
+      hundredths_after = sym (take_all c.loop-m.m c.loop-m.hundredths (omega (arith, c.loop-m.auto.hundredths, c.requires.hundredths_len, c.loop-m-test.false))) ∙ c.loop-m.invariant.hundredths_so_far ∙ ap (map hundredths_of) t;
     }

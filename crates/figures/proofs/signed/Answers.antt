@@ -20,12 +20,12 @@ turned x = rw (is-Z x) (simp zs (omega arith))
 
 pub overflow_sub-result : goal.overflow_sub-result
 overflow_sub-result c =
-    rw (same c.args.hundredths c.requires) (turned-fits c.args.hundredths (pos c.args.hundredths) (Z-pos c.args.hundredths) c.requires)
+    rw (same c.args.said.hundredths c.requires) (turned-fits c.args.said.hundredths (pos c.args.said.hundredths) (Z-pos c.args.said.hundredths) c.requires)
 
-pub returns-then-minus : goal.returns-then-minus
-returns-then-minus c =
-    rw (to_z-of_z (overflow_sub-result c), same c.args.hundredths c.requires, turned (pos c.args.hundredths), c.if-minus.true)
+pub returns-then-said : goal.returns-then-said
+returns-then-said c =
+    rw (to_z-of_z (overflow_sub-result c), same c.args.said.hundredths c.requires, turned (pos c.args.said.hundredths), c.if-said.true)
 
-pub returns : goal.returns
-returns c =
-    rw (same c.args.hundredths c.requires, c.if-minus.false)
+pub returns-else-said : goal.returns-else-said
+returns-else-said c =
+    rw (same c.args.said.hundredths c.requires, c.if-said.false)
