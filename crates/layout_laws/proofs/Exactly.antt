@@ -14,9 +14,8 @@ use Rattle.layout_months.specs.Months.{months_of, is_present, amount_of, bit, se
 use Rattle.layout_months.specs.declared.Month.TheVariants.{Missing, Malformed}
 use Rattle.layout_months.proofs.Sets.{first_rest}
 use Rattle.layout_months.proofs.Months.{months-twelve}
-use Rattle.layout.specs.Rainfall.{is_line, rain_fits, is_named, is_year, refusal, told, answered, year_said}
+use Rattle.layout.specs.Rainfall.{Answer, is_line, rain_fits, is_named, is_year, refusal, told, answered, year_said}
 use Rattle.layout.specs.Fault.{fault_of}
-use Rattle.layout.specs.declared.Year.{Year}
 use Rattle.layout.proofs.Faults.{fault-tells}
 use Rattle.layout.proofs.Refusals.{number_is}
 
@@ -97,6 +96,6 @@ module _ (line : List ℕ) (s d y m : ℕ) (e : (year_said line s d y).number �
 
   pub never-filled : ((year_said line s d y).present / 2 ^ m % 2 ≡ 0) × (get_or (year_said line s d y).amounts m 0 ≡ 0)
   never-filled = (
-    ap (λ (a : Year). a.present / 2 ^ m % 2) told-so ∙ bit_at (map is_present (months_of line)) m (omega (arith, length-map (months_of line) is_present, months-twelve line)) ∙ ap bit flag_off,
-    ap (λ (a : Year). get_or a.amounts m 0) told-so ∙ get_or-map amount_of (months_of line) m Malformed ∙ ap amount_of f,
+    ap (λ (a : Answer). a.present / 2 ^ m % 2) told-so ∙ bit_at (map is_present (months_of line)) m (omega (arith, length-map (months_of line) is_present, months-twelve line)) ∙ ap bit flag_off,
+    ap (λ (a : Answer). get_or a.amounts m 0) told-so ∙ get_or-map amount_of (months_of line) m Malformed ∙ ap amount_of f,
   )

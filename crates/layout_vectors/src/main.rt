@@ -5,9 +5,11 @@
 // present, its count and the first missing month.
 #![tactic(auto)]
 
-ghost use Rattle.std.specs.Prelude.{◌+◌, ◌≤◌, ◌<◌, length};
+ghost use Rattle.std.specs.Prelude.{◌≤◌, length};
 
+use fields::MONTHS;
 use layout::Year;
+use outline::Refusal;
 use std::io::Read;
 
 // Room for the input. What does not fit is not read.
@@ -16,13 +18,19 @@ const ROOM: usize = 262_144;
 // The bytes before the line.
 const ASKED: usize = 9;
 
+// What is shown of a line that is refused.
+const NONE: Year = Year {
+    amounts: [0; MONTHS],
+    present: 0,
+    count: 0,
+    first_missing: None,
+};
+
 // The number that four bytes make at most, taken as digits.
-fn asked(input: &[u8], from: usize, to: usize) -> u32
-    requires { to ≤ length input.now }
-{
+fn asked(digits: &[u8]) -> u32 {
     let mut n: u32 = 0;
-    for i in from..to {
-        n = n % 1_000 * 10 + (input[i] % 16) as u32;
+    for b in digits {
+        n = n % 1_000 * 10 + u32::from(*b % 16);
     }
     n
 }
@@ -31,47 +39,37 @@ fn show(stdout: &impl Print, n: u32) {
     let _ = print!(stdout; " {n}");
 }
 
-fn show_year(stdout: &impl Print, year: Year) {
-    let _ = stdout.print(year.number);
+fn show_year(stdout: &impl Print, number: u8, year: Year) {
+    let _ = stdout.print(number);
     for amount in &year.amounts {
         show(stdout, *amount);
     }
     show(stdout, year.present);
     show(stdout, year.count);
-    show(stdout, year.first_missing);
+    show(stdout, year.first_missing.unwrap_or(0));
     let _ = println!(stdout);
 }
 
-// Where the line that begins at `from` ends.
-fn line_end(input: &[u8], from: usize) -> usize
-    requires { from ≤ length input.now }
-    ensures lower_bound { from ≤ result }
-    ensures upper_bound { result ≤ length input.now }
-{
-    for i in from..input.len() {
-        if input[i] == b'\n' {
-            return i;
-        }
+fn show_answer(stdout: &impl Print, answer: Result<Year, Refusal>) {
+    match answer {
+        Ok(year) => show_year(stdout, 0, year),
+        Err(refusal) => show_year(stdout, refusal.number(), NONE),
     }
-    input.len()
 }
 
 fn answer(stdout: &impl Print, part: &[u8]) {
     if part.len() < ASKED {
         return;
     }
-    let state = asked(part, 0, 2);
-    let division = asked(part, 2, 4);
-    let year = asked(part, 4, 8);
-    show_year(stdout, layout::read(&part[ASKED..], state, division, year));
+    let state = asked(&part[..2]);
+    let division = asked(&part[2..4]);
+    let year = asked(&part[4..8]);
+    show_answer(stdout, layout::read(&part[ASKED..], state, division, year));
 }
 
 fn answer_all(stdout: &impl Print, input: &[u8]) {
-    let mut from = 0;
-    while from < input.len() {
-        let end = line_end(input, from);
-        answer(stdout, &input[from..end]);
-        from = end + 1;
+    for part in input.split(|b| *b == b'\n') {
+        answer(stdout, part);
     }
 }
 

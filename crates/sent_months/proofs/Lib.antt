@@ -1,3 +1,3 @@
--- The size of a number and how it is rounded (Sizes), and a figure as the code holds it (Holds).
+-- How a size is rounded (Sizes), and a figure as the code holds it (Holds).
 pub mod Sizes
 pub mod Holds

@@ -5,31 +5,31 @@
 // has a `requires` is for it alone.
 #![tactic(auto)]
 
-ghost use Rattle.std.specs.Prelude.{◌≡◌, true, [], ◌+◌, ◌*◌, ◌≤◌, ◌<◌, length};
+ghost use Rattle.std.specs.Prelude.{◌≡◌, true, ◌+◌, ◌*◌, ◌≤◌, ◌<◌, Some, length};
 ghost use Rattle.outline.specs.Numbers.{last_month};
 ghost use Rattle.fields.specs.Columns.{width};
 ghost use Rattle.ranges.specs.Ranges.{calendar_fits};
-ghost use Rattle.refusals.specs.Book.{book};
-ghost use Rattle.figures.specs.Figures.{figure_text, figure_fits};
+ghost use Rattle.refusals.specs.Lists.{read};
 ghost use Rattle.sent_months.specs.Sent.{nearest_hundredths, thousandths_at, is_sent, row_sent, month_sent};
-ghost use Rattle.sent_months.specs.Signed.{size_of, sent_of, sent_text, sent_fits};
+ghost use Rattle.sent_months.specs.Signed.{sent_of, sent_text, sent_fits};
 
-use figures::Element;
+use fields::Number;
+use figures::{Element, MARK};
 use outline::LAST_MONTH;
-use records::{MODIFIED, RecordNumbers, Z};
+use records::{MODIFIED, Z};
+use refusals::Rows;
 
-// What a month sends: a minus or none and hundredths, or the missing mark. 0 has no minus.
-#[derive(Drop)]
-pub enum Sent {
-    Of(bool, u32),
-    Missing,
-}
-
-// A number without its sign, and whether that was a minus.
-#[derive(Drop)]
-struct Size {
-    minus: bool,
-    size: u32,
+// A calendar year of a run, as it is sent.
+#[derive(Clone, Copy)]
+pub struct SentYear<'a> {
+    pub element: Element,
+    // The calendar month of row 0, from 1.
+    pub calendar: u32,
+    // The run's months.
+    pub months: u32,
+    // Which of the run's years, where year 0 is the one that row 0 lies in.
+    pub which: u32,
+    pub rows: Rows<'a>,
 }
 
 // The mark of a month that is settled.
@@ -37,71 +37,36 @@ const SETTLED: u8 = 2;
 
 // ---- a value
 
-fn size_of(x: i32) -> Size
-    ensures { result ≡ size_of x }
+// Thousandths as they are sent: the nearest hundredths, halves away from zero. 0 has no minus.
+fn rounded(thousandths: i32) -> Number
+    ensures { Some result ≡ sent_of (nearest_hundredths thousandths) }
 {
-    let wide = x as i64;
-    if wide < 0 {
-        return Size {
-            minus: true,
-            size: (0 - wide) as u32,
-        };
+    let hundredths = (thousandths.unsigned_abs() + 5) / 10;
+    Number {
+        minus: thousandths < 0 && hundredths != 0,
+        hundredths,
     }
-    Size {
-        minus: false,
-        size: wide as u32,
-    }
-}
-
-// Thousandths as they are sent: the nearest hundredths, halves away from zero.
-fn rounded(thousandths: i32) -> Sent
-    ensures { result ≡ sent_of (nearest_hundredths thousandths) }
-{
-    let s = size_of(thousandths);
-    let hundredths = (s.size + 5) / 10;
-    if hundredths == 0 {
-        return Sent::Of(false, 0);
-    }
-    Sent::Of(s.minus, hundredths)
 }
 
 // Whether a month's value fits its seven characters, and is not the mark.
-pub fn sent_fits(sent: Sent) -> bool
+pub fn sent_fits(sent: Option<Number>) -> bool
     ensures { result ≡ sent_fits sent }
 {
-    let Sent::Of(minus, hundredths) = sent else {
-        return true;
-    };
-    if figures::is_mark(minus, hundredths) {
-        return false;
+    match sent {
+        Some(number) => number != MARK && number.fits(),
+        None => true,
     }
-    fields::size_fits(minus, hundredths)
 }
 
-// Writes what a month sends, in its seven characters.
-pub fn write_sent(field: &mut [u8], sent: Sent)
+// Writes what a month sends, or the mark, in its seven characters.
+pub fn write_sent(field: &mut [u8], sent: Option<Number>)
     requires { length field.old ≡ width }
     ensures { field.new ≡ sent_text sent }
 {
-    match sent {
-        Sent::Of(minus, hundredths) => fields::write_field(field, minus, hundredths),
-        Sent::Missing => fields::write_field(field, true, figures::MARK),
-    }
+    sent.unwrap_or(MARK).write(field);
 }
 
 // ---- a month
-
-// The thousandths of a row.
-fn thousandths_at(element: Element, i: usize, index: &[i32], records: &[RecordNumbers]) -> i32
-    requires { (i < length index.now) × (i < length records.now) }
-    ensures { result ≡ thousandths_at element index.now records.now i }
-{
-    match element {
-        Element::Index => index[i],
-        Element::Z => records[i][Z],
-        Element::Modified => records[i][MODIFIED],
-    }
-}
 
 // Whether a row is sent, by its mark: "An open Palmer month" is not.
 fn is_sent(element: Element, mark: u8) -> bool
@@ -109,59 +74,56 @@ fn is_sent(element: Element, mark: u8) -> bool
 {
     match element {
         Element::Index => mark == SETTLED,
-        Element::Z => true,
-        Element::Modified => true,
+        Element::Z | Element::Modified => true,
     }
-}
-
-// What a row sends.
-fn row_sent(
-    element: Element,
-    i: usize,
-    index: &[i32],
-    mark: &[u8],
-    records: &[RecordNumbers],
-) -> Sent
-    requires { (i < length index.now) × (i < length mark.now) × (i < length records.now) }
-    ensures { result ≡ sent_of (row_sent element (book [] [] [] index.now mark.now records.now []) i) }
-{
-    if !is_sent(element, mark[i]) {
-        return Sent::Missing;
-    }
-    rounded(thousandths_at(element, i, index, records))
 }
 
 // The months from January of year 0 to month m, from 0, of the year `which`.
 fn place_of(which: u32, m: u32) -> u64
     ensures { result ≡ last_month * which + m }
 {
-    (LAST_MONTH as u64) * (which as u64) + (m as u64)
+    u64::from(LAST_MONTH) * u64::from(which) + u64::from(m)
 }
 
-// What the calendar month m, from 0, of the run's year `which` sends, where row 0 is this calendar month, from 1. Year 0
-// is the one that row 0 lies in.
-pub fn month_sent(
-    element: Element,
-    calendar: u32,
-    months: u32,
-    which: u32,
-    m: u32,
-    index: &[i32],
-    mark: &[u8],
-    records: &[RecordNumbers],
-) -> Sent
-    requires calendar_value { calendar_fits calendar ≡ true }
-    requires months_in_bounds { (months ≤ length index.now) × (months ≤ length mark.now) × (months ≤ length records.now) }
-    ensures { result ≡ sent_of (month_sent element (book [] [] [] index.now mark.now records.now []) calendar months which m) }
-{
-    let place = place_of(which, m);
-    let before = (calendar - 1) as u64;
-    if place < before {
-        return Sent::Missing;
+impl SentYear<'_> {
+    // The thousandths of a row.
+    fn thousandths(&self, i: usize) -> i32
+        requires { (i < length self.now.rows.index.now) × (i < length self.now.rows.records.now) }
+        ensures { result ≡ thousandths_at self.now.element self.now.rows.index.now self.now.rows.records.now i }
+    {
+        match self.element {
+            Element::Index => self.rows.index[i],
+            Element::Z => self.rows.records[i][Z],
+            Element::Modified => self.rows.records[i][MODIFIED],
+        }
     }
-    let row = place - before;
-    if row >= months as u64 {
-        return Sent::Missing;
+
+    // What a row sends.
+    fn row(&self, i: usize) -> Option<Number>
+        requires { (i < length self.now.rows.index.now) × (i < length self.now.rows.mark.now) × (i < length self.now.rows.records.now) }
+        ensures { result ≡ sent_of (row_sent self.now.element (read self.now.rows) i) }
+    {
+        if !is_sent(self.element, self.rows.mark[i]) {
+            return None;
+        }
+        Some(rounded(self.thousandths(i)))
     }
-    row_sent(element, row as usize, index, mark, records)
+
+    // What the calendar month m, from 0, sends.
+    pub fn month(&self, m: u32) -> Option<Number>
+        requires calendar_value { calendar_fits self.now.calendar ≡ true }
+        requires months_in_bounds { (self.now.months ≤ length self.now.rows.index.now) × (self.now.months ≤ length self.now.rows.mark.now) × (self.now.months ≤ length self.now.rows.records.now) }
+        ensures { result ≡ sent_of (month_sent self.now.element (read self.now.rows) self.now.calendar self.now.months self.now.which m) }
+    {
+        let place = place_of(self.which, m);
+        let before = u64::from(self.calendar - 1);
+        if place < before {
+            return None;
+        }
+        let row = place - before;
+        if row >= u64::from(self.months) {
+            return None;
+        }
+        self.row(row as usize)
+    }
 }
