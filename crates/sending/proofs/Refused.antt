@@ -18,14 +18,13 @@ use Rattle.runs.specs.RunFits.{RunFits}
 use Rattle.runs.specs.declared.Run.{Run}
 use Rattle.runs.proofs.RunLaws.{run_fits}
 use Rattle.records.specs.Ends.{ends_meet}
-use Rattle.refusals.specs.Book.{Book, book, columns_fit}
+use Rattle.refusals.specs.Book.{Book, columns_fit}
 use Rattle.refusals.specs.Refusals.{is_run_for}
 use Rattle.refusals.specs.Lent.{lent_long, run_refusal_for}
 use Rattle.refusals.proofs.Refused.{columns_are}
 use Rattle.refusals.proofs.Lent.{lent-long, not-lent, run_lent}
 use Rattle.figures.specs.Figures.{number_of}
 use Rattle.figures.specs.declared.Element.{Element}
-use Rattle.sent_months.specs.Sent.{row_sent, month_sent}
 use Rattle.sending.specs.Sending.{line_text, year_of, heading_fits, all_fit, line_refusal, written, write_line}
 use Rattle.sending.specs.Steps.{written_by, write_line_for}
 
@@ -81,14 +80,6 @@ module _ (cs : Book) where
       (λ f. let l = columns_are cs f in let e = lent-long cs f in (omega (arith, e, l.index_is), omega (arith, e, l.mark_is), omega (arith, e, l.records_is)))
       (λ f. let e = not-lent cs f in (omega (arith, e), omega (arith, e), omega (arith, e)))
 
-  -- the columns that a line is made of
-  abbrev pub read_of : Book
-  read_of = book [] [] [] cs.index cs.mark cs.records []
-
-  pub same-year : (r : Run) (e : Element) (which : ℕ) → year_of r e which read_of ≡ year_of r e which cs
-  unfolding month_sent row_sent
-  same-year r e which = refl
-
-  pub by-lent : (r : Run) (e : Element) (s d y which : ℕ) (line : List ℕ) → write_line_for (lent_long cs) r e s d y which read_of line ≡ write_line r e s d y which cs line
+  pub by-lent : (r : Run) (e : Element) (s d y which : ℕ) (line : List ℕ) → write_line_for (lent_long cs) r e s d y which cs line ≡ write_line r e s d y which cs line
   unfolding write_line_for written_by write_line line_refusal
-  by-lent r e s d y which line = rw (run_lent cs r, same-year r e which) refl
+  by-lent r e s d y which line = rw (run_lent cs r) refl

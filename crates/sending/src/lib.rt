@@ -6,21 +6,23 @@
 // reading.
 #![tactic(auto)]
 
-ghost use Rattle.std.specs.Prelude.{◌≡◌, true, [], ◌++◌, ◌+◌, ◌≤◌, length, drop};
+ghost use Rattle.std.specs.Prelude.{◌≡◌, true, ◌++◌, ◌+◌, ◌≤◌, length, drop};
+ghost use Rattle.outline.specs.Refused.{answer_number};
 ghost use Rattle.fields.specs.Columns.{last_column};
 ghost use Rattle.ranges.specs.Ranges.{calendar_fits};
 ghost use Rattle.runs.specs.Progress.{run_of};
-ghost use Rattle.refusals.specs.Book.{book};
-ghost use Rattle.figures.specs.Figures.{number_of};
+ghost use Rattle.refusals.specs.Lists.{read};
 ghost use Rattle.sent_months.specs.Sent.{year_sent};
 ghost use Rattle.sending.specs.Sending.{line_text, heading_fits, all_fit, written, write_line};
 ghost use Rattle.sending.specs.Steps.{write_line_for};
 
-use fields::{HEADING, LAST_COLUMN, NO_ROOM, UNFIT, WIDTH};
+use fields::{HEADING, LAST_COLUMN, WIDTH};
 use figures::Element;
-use outline::{LAST_MONTH, MANY_CONSTANTS};
-use records::RecordNumbers;
+use layout_heading::Heading;
+use outline::{LAST_MONTH, MANY_CONSTANTS, Refusal};
+use refusals::Rows;
 use runs::{Progress, Run};
+use sent_months::SentYear;
 
 // The most that a state, a division and a year may be.
 const MOST_OF_TWO: u32 = 99;
@@ -35,31 +37,15 @@ pub fn write_line(
     division: u32,
     year: u32,
     which: u32,
-    x1: &[i32],
-    x2: &[i32],
-    x3: &[i32],
-    index: &[i32],
-    mark: &[u8],
-    records: &[RecordNumbers],
-    v: &[i64],
+    rows: &Rows<'_>,
     line: &mut [u8],
-) -> u8
-    ensures { written result line.new ≡ write_line run element state division year which (book x1.now x2.now x3.now index.now mark.now records.now v.now) line.old }
+) -> Result<(), Refusal>
+    ensures { written (answer_number result) line.new ≡ write_line run element state division year which (read rows.now) line.old }
 {
     let at = runs::progress_of(run);
     let constants = run.constants;
-    let n = refusals::lent_length(
-        x1.len(),
-        x2.len(),
-        x3.len(),
-        index.len(),
-        mark.len(),
-        records.len(),
-        v.len(),
-    );
-    try_line(
-        n, at, &constants, element, state, division, year, which, index, mark, records, line,
-    )
+    let n = rows.lent_length();
+    try_line(n, at, &constants, element, state, division, year, which, rows, line)
 }
 
 // A line written or refused, by n, what is lent, measured.
@@ -72,112 +58,73 @@ fn try_line(
     division: u32,
     year: u32,
     which: u32,
-    index: &[i32],
-    mark: &[u8],
-    records: &[RecordNumbers],
+    rows: &Rows<'_>,
     line: &mut [u8],
-) -> u8
-    requires { (n ≤ length index.now) × (n ≤ length mark.now) × (n ≤ length records.now) }
-    ensures { written result line.new ≡ write_line_for n (run_of at constants.now) element state division year which (book [] [] [] index.now mark.now records.now []) line.old }
+) -> Result<(), Refusal>
+    requires { (n ≤ length rows.now.index.now) × (n ≤ length rows.now.mark.now) × (n ≤ length rows.now.records.now) }
+    ensures { written (answer_number result) line.new ≡ write_line_for n (run_of at constants.now) element state division year which (read rows.now) line.old }
 {
-    let number = refusals::run_refusal(n, at, constants, records);
-    if number != 0 {
-        return number;
-    }
+    refusals::run_refusal(n, at, constants, rows.records)?;
     if !heading_fits(state, division, year, which) {
-        return UNFIT;
+        return Err(Refusal::Unfit);
     }
-    let calendar = reopening::calendar_back(at.calendar, at.months);
-    if !year_fits(element, calendar, at.months, which, index, mark, records) {
-        return UNFIT;
+    let sent = SentYear {
+        element,
+        calendar: reopening::calendar_back(at.calendar, at.months),
+        months: at.months,
+        which,
+        rows: *rows,
+    };
+    if !year_fits(&sent) {
+        return Err(Refusal::Unfit);
     }
     if line.len() < LAST_COLUMN {
-        return NO_ROOM;
+        return Err(Refusal::NoRoom);
     }
-    put_line(
-        element,
+    let heading = Heading {
         state,
         division,
-        year + which,
-        calendar,
-        at.months,
-        which,
-        index,
-        mark,
-        records,
-        line,
-    );
-    0
+        element: element.number(),
+        year: year + which,
+    };
+    put_line(heading, &sent, line);
+    Ok(())
 }
 
 // Whether a state, a division and the year `which` from this one on fit their digits.
+#[tactic(auto, unfolding(crate::specs::Sending::heading_fits))]
 fn heading_fits(state: u32, division: u32, year: u32, which: u32) -> bool
     ensures { result ≡ heading_fits state division (year + which) }
 {
-    if state > MOST_OF_TWO {
-        return false;
-    }
-    if division > MOST_OF_TWO {
-        return false;
-    }
-    (year as u64) + (which as u64) <= MOST_OF_FOUR
+    state <= MOST_OF_TWO
+        && division <= MOST_OF_TWO
+        && u64::from(year) + u64::from(which) <= MOST_OF_FOUR
 }
 
-// Whether each month of the run's year `which` fits, where row 0 is this calendar month.
-fn year_fits(
-    element: Element,
-    calendar: u32,
-    months: u32,
-    which: u32,
-    index: &[i32],
-    mark: &[u8],
-    records: &[RecordNumbers],
-) -> bool
-    requires calendar_value { calendar_fits calendar ≡ true }
-    requires months_in_bounds { (months ≤ length index.now) × (months ≤ length mark.now) × (months ≤ length records.now) }
-    ensures { result ≡ all_fit (year_sent element (book [] [] [] index.now mark.now records.now []) calendar months which) }
+// Whether each month of a run's year fits.
+fn year_fits(sent: &SentYear<'_>) -> bool
+    requires calendar_value { calendar_fits sent.now.calendar ≡ true }
+    requires months_in_bounds { (sent.now.months ≤ length sent.now.rows.index.now) × (sent.now.months ≤ length sent.now.rows.mark.now) × (sent.now.months ≤ length sent.now.rows.records.now) }
+    ensures { result ≡ all_fit (year_sent sent.now.element (read sent.now.rows) sent.now.calendar sent.now.months sent.now.which) }
 {
-    let mut k: u32 = 0;
-    while k < LAST_MONTH {
-        let sent = sent_months::month_sent(
-            element, calendar, months, which, k, index, mark, records,
-        );
-        if !sent_months::sent_fits(sent) {
+    for k in 0..LAST_MONTH {
+        if !sent_months::sent_fits(sent.month(k)) {
             return false;
         }
-        k += 1;
     }
     true
 }
 
-// Writes the line of the run's year `which`, of a list that has room for it.
-fn put_line(
-    element: Element,
-    state: u32,
-    division: u32,
-    year: u32,
-    calendar: u32,
-    months: u32,
-    which: u32,
-    index: &[i32],
-    mark: &[u8],
-    records: &[RecordNumbers],
-    line: &mut [u8],
-)
-    requires calendar_value { calendar_fits calendar ≡ true }
-    requires months_in_bounds { (months ≤ length index.now) × (months ≤ length mark.now) × (months ≤ length records.now) }
+// Writes the line of a run's year, of a list that has room for it.
+fn put_line(heading: Heading, sent: &SentYear<'_>, line: &mut [u8])
+    requires calendar_value { calendar_fits sent.now.calendar ≡ true }
+    requires months_in_bounds { (sent.now.months ≤ length sent.now.rows.index.now) × (sent.now.months ≤ length sent.now.rows.mark.now) × (sent.now.months ≤ length sent.now.rows.records.now) }
     requires last_column_in_bounds { last_column ≤ length line.old }
-    ensures { line.new ≡ line_text state division (number_of element) year (year_sent element (book [] [] [] index.now mark.now records.now []) calendar months which) ++ drop last_column line.old }
+    ensures { line.new ≡ line_text heading.state heading.division heading.element heading.year (year_sent sent.now.element (read sent.now.rows) sent.now.calendar sent.now.months sent.now.which) ++ drop last_column line.old }
 {
-    let number = figures::number_of(element);
-    layout_heading::write_heading(&mut line[0..HEADING], state, division, number, year);
-    let mut m: u32 = 0;
-    while m < LAST_MONTH {
+    heading.write(&mut line[..HEADING]);
+    for m in 0..LAST_MONTH {
         let at = HEADING + WIDTH * (m as usize);
-        let sent = sent_months::month_sent(
-            element, calendar, months, which, m, index, mark, records,
-        );
-        sent_months::write_sent(&mut line[at..at + WIDTH], sent);
-        m += 1;
+        sent_months::write_sent(&mut line[at..at + WIDTH], sent.month(m));
     }
 }
