@@ -10,11 +10,10 @@ use Rattle.outline.specs.Numbers.{last_month}
 use Rattle.outline.specs.Refusals.{bad_lists, not_a_run}
 use Rattle.text.specs.Bytes.{all_spaces}
 use Rattle.fields.specs.Columns.{width, last_column, months_of_year}
-use Rattle.fields.specs.Field.{units, field_of}
+use Rattle.fields.specs.Field.{units, numbered, field_of}
 use Rattle.fields.specs.Written.{field_text, value_text, size_fits}
 use Rattle.fields.specs.Refusals.{not_the_year, unfit, no_room}
 use Rattle.fields.specs.Refusals.{malformed as malformedLine, another as anotherLine}
-use Rattle.fields.specs.declared.Field.TheVariants.{Number}
 use Rattle.runs.specs.declared.Run.{Run}
 use Rattle.refusals.specs.Book.{Book, book, columns_fit}
 use Rattle.refusals.specs.Refusals.{is_run_of}
@@ -82,11 +81,11 @@ ReadBack =
 
 -- ---- a value's writer and its reader are inverse to each other over everything that fits seven characters
 pub record Inverse : Type 0 where
-  pub read_written : (minus : Bool) (n : ℕ) → size_fits minus n ≡ true → field_of (field_text minus n) ≡ Number minus n
+  pub read_written : (minus : Bool) (n : ℕ) → size_fits minus n ≡ true → field_of (field_text minus n) ≡ numbered minus n
   -- of every field with a digit before the point, as it is always written
-  pub written_read : (f : List ℕ) (minus : Bool) (n : ℕ) → length f ≡ width → field_of f ≡ Number minus n → (units f ≡ [] → ⊥) → field_text minus n ≡ f
+  pub written_read : (f : List ℕ) (minus : Bool) (n : ℕ) → length f ≡ width → field_of f ≡ numbered minus n → (units f ≡ [] → ⊥) → field_text minus n ≡ f
   -- and nothing else fits
-  pub all_fit : (f : List ℕ) (minus : Bool) (n : ℕ) → length f ≡ width → field_of f ≡ Number minus n → size_fits minus n ≡ true
+  pub all_fit : (f : List ℕ) (minus : Bool) (n : ℕ) → length f ≡ width → field_of f ≡ numbered minus n → size_fits minus n ≡ true
 
 -- ---- no value that is written can be read as the mark, the mark is, and a value that would be is 24
 pub record Marked : Type 0 where
