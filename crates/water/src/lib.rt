@@ -4,7 +4,7 @@
 // crate above, which holds the soil, the readings and the constants in range before it calls.
 #![tactic(auto)]
 
-ghost use Rattle.std.specs.Prelude.{◌≡◌, ◌+◌, ◌*◌, ◌≤◌, ◌<◌, min, nat_abs};
+ghost use Rattle.std.specs.Prelude.{◌≡◌, ◌+◌, ◌*◌, ◌≤◌, ◌<◌, nat_abs};
 ghost use Rattle.door.specs.Readings.{most_reading};
 ghost use Rattle.water.specs.Layers.{surface_holds, underlying_holds, most_capacity, SoilFits};
 ghost use Rattle.water.specs.Constants.{most_k};
@@ -23,7 +23,7 @@ const SURFACE: u32 = 1_000;
 
 // The soil: its capacity, and what each layer holds.
 #[repr(C)]
-#[derive(Clone, Copy)]
+#[derive(Clone, Copy, Default)]
 pub struct Soil {
     pub capacity: u32,
     pub surface: u32,
@@ -67,7 +67,8 @@ pub struct Expected {
     pub z: i32,
 }
 
-// A month of water, whole: the balance, the potentials, what was expected.
+// A month of water, whole: the balance, the potentials, what was expected. Their fields stand in it side by side, as in the record of
+// the month, which is made of it: three values in one would be taken apart again there.
 #[derive(Clone, Copy)]
 pub struct Month {
     pub ls: u32,
@@ -84,28 +85,18 @@ pub struct Month {
     pub underlying: u32,
 }
 
-fn smaller(a: u32, b: u32) -> u32
-    ensures { result ≡ min a b }
-{
-    if a < b { a } else { b }
-}
-
 // What the surface layer holds when it is full: an inch, or all of a thinner soil.
 pub fn surface_holds(capacity: u32) -> u32
     ensures { result ≡ surface_holds capacity }
 {
-    smaller(SURFACE, capacity)
+    SURFACE.min(capacity)
 }
 
 // What the underlying layer holds when it is full: the rest, possibly nothing.
 pub fn underlying_holds(capacity: u32) -> u32
     ensures { result ≡ underlying_holds capacity }
 {
-    if capacity < SURFACE {
-        0
-    } else {
-        capacity - SURFACE
-    }
+    capacity.saturating_sub(SURFACE)
 }
 
 // The product, which a u64 always holds.
@@ -122,7 +113,7 @@ fn under_loss(want: u32, su: u32, capacity: u32) -> u32
     ensures { result ≡ under_loss want su capacity }
 {
     let part = (want * su + capacity / 2) / capacity;
-    smaller(part, su)
+    part.min(su)
 }
 
 // P below PE: the surface layer gives first, then the underlying one. For the crates above, which hold the soil and the readings in
@@ -133,7 +124,7 @@ pub fn dry_month(s: Soil, p: u32, pe: u32) -> Balance
     ensures { result ≡ dry_month s p pe }
 {
     let want = pe - p;
-    let ls = smaller(s.surface, want);
+    let ls = s.surface.min(want);
     let lu = under_loss(want - ls, s.underlying, s.capacity);
     Balance {
         ls,
@@ -154,9 +145,9 @@ pub fn wet_month(s: Soil, p: u32, pe: u32) -> Balance
     ensures { result ≡ wet_month s p pe }
 {
     let excess = p - pe;
-    let first = smaller(excess, surface_holds(s.capacity) - s.surface);
+    let first = excess.min(surface_holds(s.capacity) - s.surface);
     let left = excess - first;
-    let second = smaller(left, underlying_holds(s.capacity) - s.underlying);
+    let second = left.min(underlying_holds(s.capacity) - s.underlying);
     Balance {
         ls: 0,
         lu: 0,
@@ -186,7 +177,7 @@ pub fn potentials_of(s: Soil, pe: u32) -> Potentials
     requires pe_le_most_reading { pe ≤ most_reading }
     ensures { result ≡ potentials_of s pe }
 {
-    let pls = smaller(pe, s.surface);
+    let pls = pe.min(s.surface);
     let plu = under_loss(pe - pls, s.underlying, s.capacity);
     Potentials {
         pr: s.capacity - s.surface - s.underlying,

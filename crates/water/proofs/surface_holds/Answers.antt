@@ -4,4 +4,4 @@ use Rattle.water.proofs.surface_holds.Goals as goal
 
 pub returns : goal.returns
 unfolding surface_holds
-returns c = c.smaller.ensures
+returns c = c.min.ensures

@@ -23,4 +23,4 @@ pub returns : goal.returns
 unfolding under_loss
 returns c =
     let a = c.args in
-    c.smaller.ensures ∙ ap (λ (n : ℕ). min n a.su) (sym (near-half-added (a.want * a.su) a.capacity c.requires.capacity_nonzero.0))
+    c.min.ensures ∙ ap (λ (n : ℕ). min n a.su) (sym (near-half-added (a.want * a.su) a.capacity c.requires.capacity_nonzero.0))
