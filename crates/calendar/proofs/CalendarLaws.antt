@@ -1,22 +1,24 @@
 -- The laws of the calendar: it goes round the twelve months; where the sixty constants are in range, so are the five of any of them; what
 -- the test for a K of 0 says, month by month; and constants that serve, by one month more. Assumes nothing.
 use mathlib.Core.Path.{◌≡◌, refl, sym, ◌∙◌}
-use mathlib.Core.Bool.{Bool, true, false, not, ◌&&◌, ◌||◌, and-false, or-true, false≢true}
+use mathlib.Core.Bool.{Bool, true, false, not, ◌&&◌, ◌||◌, and-false, or-true, and-true, and_assoc, false≢true}
 use mathlib.Core.Logic.{◌⊎◌, inl, inr, ⊎_elim, ◌↔◌}
 use mathlib.Core.List.{List}
 use Prim.Native.Nat.{ℕ, zero, suc, ◌+◌, ◌-◌, ◌*◌, ◌/◌, ◌%◌, ◌≤◌, ◌<◌}
 use native.Mathlib.Nat.{not-suc-le-zero, le_of_suc-le-suc, eq-or-lt_of_le}
 use native.Mathlib.Omega.{arith}
-use borrow.Author.Tests.{eq-eqb, eqb-true}
-use lib.Dec.{eqb}
-use lib.IntN.{ℤ, pos, nat_abs}
+use borrow.Author.Tests.{le-leb, eq-eqb, ne_eqb, eqb-true}
+use lib.Dec.{leb, eqb}
+use lib.IntN.{ℤ, pos, negsuc, nat_abs}
 use lib.ListN.{get_or}
+use lib.Signed.{le_z}
 use Rattle.outline.specs.Numbers.{many_constants, many_of_a_month, last_month}
 use Rattle.outline.proofs.Tests.{if-so}
 use Rattle.water.specs.Bounds.{ConstantsFit}
-use Rattle.ranges.specs.Ranges.{limit_of, constants_fit_to, constants_fit, calendar_fits}
-use Rattle.ranges.specs.Five.{five_fit}
-use Rattle.outline.proofs.Every.{not-both}
+use Rattle.water.specs.Constants.{most_k}
+use Rattle.outline.specs.Every.{all_of}
+use Rattle.ranges.specs.Ranges.{limit_of, constant_fits, constants_fit_to, constants_fit, calendar_fits}
+use Rattle.ranges.specs.Five.{five_fit, five_from, fit_from}
 use Rattle.ranges.proofs.RangeLaws.{calendar-is, is-calendar, fits-five, each_fits, constant-is}
 use Rattle.calendar.specs.Calendar.{place_of, constants_at, zero_k_within, some_zero_k, ZeroK, next_calendar}
 use Rattle.calendar.specs.Serve.{serve_to, five_serve}
@@ -128,6 +130,24 @@ module _ (l : List ℤ) (i : ℕ) (h : i % many_of_a_month ≡ 0) where
       let p : many_of_a_month * (i / many_of_a_month) ≡ i = omega arith in
       rw (m, next-month l (i / many_of_a_month), k-at l (i / many_of_a_month), p, fits-five l i) (by-pairs (constants_fit_to l i) (five_fit l i) (zero_k_within l (i / many_of_a_month)) (eqb (nat_abs (get_or l (i + 4) (pos 0))) 0))
 
-  -- they do not serve where those before them or the five do not
-  pub bad-on : {b f : Bool} → b ≡ not (serve_to l i) → f ≡ not (five_serve l i) → (b || f) ≡ not (serve_to l (i + many_of_a_month))
-  bad-on p q = rw (p, q, five-more) (sym (not-both (serve_to l i) (five_serve l i)))
+-- a K from 1 on is one in range that is not 0
+from_one : (x : ℤ) (k : ℕ) → (le_z (pos 1) x && le_z x (pos k)) ≡ (le_z (pos 0) x && le_z x (pos k) && not (eqb (nat_abs x) 0))
+from_one (pos zero) k = sym (and-false (leb 0 k))
+from_one (pos (suc n)) k = rw (le-leb 1 (suc n) (omega arith), le-leb 0 (suc n) (omega arith), ne_eqb (suc n) 0 (λ e. omega arith)) (sym (and-true (leb (suc n) k)))
+from_one (negsuc n) k = refl
+
+five-from-one : (l : List ℤ) (k : ℕ) → k % many_of_a_month ≡ 0 → five_from (pos 1) l k ≡ five_serve l k
+unfolding five_from five_fit constant_fits limit_of
+five-from-one l k h =
+    let e : (k + 4) % many_of_a_month ≡ 4 = omega arith in
+    rw (e, from_one (get_or l (k + 4) (pos 0)) most_k) (simp and_assoc)
+
+-- so the months' fives that are in range from a K of 1 on are those that serve
+pub fit-from-one : (l : List ℤ) (n : ℕ) → fit_from (pos 1) l n ≡ serve_to l (many_of_a_month * n)
+unfolding all_of constants_fit_to zero_k_within
+fit-from-one l zero = refl
+fit-from-one l (suc n) =
+    let i = many_of_a_month * n in
+    let m : i % many_of_a_month ≡ 0 = omega arith in
+    let e : many_of_a_month * suc n ≡ i + many_of_a_month = omega arith in
+    rw (e, five-more l i m, fit-from-one l n, five-from-one l i m)

@@ -1,9 +1,9 @@
 -- The laws of the ranges: what the tests of the sixty constants and of the calendar say, place by place. Assumes nothing.
 use mathlib.Core.Path.{◌≡◌, refl, sym, ◌∙◌}
-use mathlib.Core.Bool.{true, false, ◌&&◌, and-false, and_assoc}
+use mathlib.Core.Bool.{true, ◌&&◌, and_assoc}
 use mathlib.Core.List.{List}
 use mathlib.Core.Logic.{⊎_elim}
-use Prim.Native.Nat.{ℕ, zero, suc, ◌+◌, ◌%◌, ◌≤◌, ◌<◌}
+use Prim.Native.Nat.{ℕ, zero, suc, ◌+◌, ◌*◌, ◌%◌, ◌≤◌, ◌<◌}
 use native.Mathlib.Nat.{not-suc-le-zero, le_of_suc-le-suc, eq-or-lt_of_le}
 use native.Mathlib.Numerals.{add-one, add-two, add-three, add-four, add_five}
 use native.Mathlib.Omega.{arith}
@@ -16,8 +16,9 @@ use mir.Syntax.{w32}
 use mir.Val.{Fits, SFits}
 use Rattle.exact.proofs.Z.{zs, zs-abs, is-Z, le_yes}
 use Rattle.ranges.specs.Ranges.{limit_of, constant_fits, constants_fit_to, calendar_fits}
-use Rattle.ranges.specs.Five.{five_fit}
+use Rattle.ranges.specs.Five.{five_fit, five_from, fit_from}
 use Rattle.outline.specs.Numbers.{many_of_a_month, last_month}
+use Rattle.outline.specs.Every.{all_of}
 use Rattle.outline.proofs.Tests.{first, second, both}
 
 -- ---- the calendar
@@ -52,19 +53,6 @@ fits-five l k = simp (add-one, add-two, add-three, add-four, add_five, and_assoc
 pub five-more : (l : List ℤ) (k : ℕ) → constants_fit_to l k ≡ true → five_fit l k ≡ true → constants_fit_to l (k + many_of_a_month) ≡ true
 five-more l k p q = fits-five l k ∙ both p q
 
--- places that do not all fit spoil all
-some-spoil : (l : List ℤ) (k n : ℕ) → k ≤ n → constants_fit_to l k ≡ false → constants_fit_to l n ≡ false
-some-spoil l k zero h e = let z : k ≡ 0 = omega arith in rw z at e
-some-spoil l k (suc n) h e =
-    ⊎_elim
-    (λ (b : k ≡ suc n). rw b at e)
-    (λ (b : k < suc n). fits_last l n ∙ rw (some-spoil l k n (le_of_suc-le-suc b) e))
-    (eq-or-lt_of_le h)
-
--- a month's five do
-pub five-spoil : (l : List ℤ) (k n : ℕ) → k + many_of_a_month ≤ n → five_fit l k ≡ false → constants_fit_to l n ≡ false
-five-spoil l k n h e = some-spoil l (k + many_of_a_month) n h (fits-five l k ∙ rw e (and-false (constants_fit_to l k)))
-
 -- where all fit, each does
 pub each_fits : (l : List ℤ) (i n : ℕ) → i < n → constants_fit_to l n ≡ true → constant_fits l i ≡ true
 each_fits l i zero h e = absurd (not-suc-le-zero h)
@@ -74,6 +62,19 @@ each_fits l i (suc n) h e =
     (λ (b : i ≡ n). rw b (second (constants_fit_to l n) (constant_fits l n) g))
     (λ (b : i < n). each_fits l i n b (first (constants_fit_to l n) (constant_fits l n) g))
     (eq-or-lt_of_le (le_of_suc-le-suc h))
+
+-- a K that is not below 0 is one in its range
+five-from-zero : (l : List ℤ) (k : ℕ) → k % many_of_a_month ≡ 0 → five_from (pos 0) l k ≡ five_fit l k
+unfolding five_from five_fit constant_fits limit_of
+five-from-zero l k h = let e : (k + 4) % many_of_a_month ≡ 4 = omega arith in rw e
+
+-- so the months' fives are the places
+pub fit-from-zero : (l : List ℤ) (n : ℕ) → fit_from (pos 0) l n ≡ constants_fit_to l (many_of_a_month * n)
+unfolding all_of constants_fit_to
+fit-from-zero l zero = refl
+fit-from-zero l (suc n) =
+    let e : many_of_a_month * suc n ≡ many_of_a_month * n + many_of_a_month = omega arith in
+    rw (e, fits-five l (many_of_a_month * n), fit-from-zero l n, five-from-zero l (many_of_a_month * n) (omega arith))
 
 -- a constant in its range, as orders
 pub constant-is : (l : List ℤ) (i : ℕ) → constant_fits l i ≡ true → (pos 0 ≤ℤ get_or l i (pos 0)) × (nat_abs (get_or l i (pos 0)) ≤ limit_of (i % many_of_a_month))

@@ -5,11 +5,11 @@
 
 ghost use Rattle.std.specs.Prelude.{◌≡◌, not, ◌&&◌, ◌+◌, ◌%◌, ◌≤◌, ◌<◌, pos, nat_abs, ◌≤ℤ◌, leb, length};
 ghost use Rattle.std.specs.Int.Signed.{le_z};
-ghost use Rattle.outline.specs.Numbers.{many_constants, many_of_a_month, length_fits, z_fits};
-ghost use Rattle.ranges.specs.Ranges.{limit_of, constant_fits, constants_fit, calendar_fits};
-ghost use Rattle.ranges.specs.Five.{five_fit};
+ghost use Rattle.outline.specs.Numbers.{many_constants, many_of_a_month, last_month, length_fits, z_fits};
+ghost use Rattle.ranges.specs.Ranges.{constants_fit, calendar_fits};
+ghost use Rattle.ranges.specs.Five.{five_from, fit_from};
 
-use outline::{LAST_MONTH, MANY_CONSTANTS, MANY_OF_A_MONTH, MOST_MONTHS, MOST_Z};
+use outline::{LAST_MONTH, MANY_OF_A_MONTH, MOST_MONTHS, MOST_Z};
 
 // The most of alpha, beta and delta, of gamma, and of K.
 pub const MOST_SHARE: i32 = 10_000;
@@ -18,29 +18,29 @@ pub const MOST_GAMMA: i32 = 50_000;
 
 pub const MOST_K: i32 = 100_000;
 
+// The months of a year, each with its five constants.
+const MONTHS: usize = LAST_MONTH as usize;
+
 // The capacity's ends.
 pub const LEAST_CAPACITY: u32 = 100;
 
 pub const MOST_CAPACITY: u32 = 30_000;
 
+// The four tests between two ends stay apart: one generic over the numbers' types would ask its callers for laws of an order, and two
+// of them are no such test: `beyond` has no branch, and `within` has one end.
+
 // From the least to the most, both let in.
 pub fn between(least: u32, n: u32, most: u32) -> bool
     ensures { result ≡ (leb least n && leb n most) }
 {
-    if n < least {
-        return false;
-    }
-    n <= most
+    least <= n && n <= most
 }
 
 // The same of a number that may be below zero.
 pub fn signed_between(least: u32, n: i32, most: u32) -> bool
     ensures { result ≡ (le_z (pos least) n && le_z n (pos most)) }
 {
-    if n < 0 {
-        return false;
-    }
-    between(least, n as u32, most)
+    n >= 0 && between(least, n as u32, most)
 }
 
 // Below the least or above the most: with no branch, so that many numbers can be tested at once.
@@ -55,30 +55,21 @@ pub fn within(x: i64, most: i64) -> bool
     requires { pos 0 ≤ℤ most }
     ensures { result ≡ leb (nat_abs x) (nat_abs most) }
 {
-    if x > most {
-        return false;
-    }
-    0 - most <= x
+    x <= most && 0 - most <= x
 }
 
 // A length that lent lists may have.
 pub fn length_fits(n: usize) -> bool
     ensures { result ≡ length_fits n }
 {
-    if n < 1 {
-        return false;
-    }
-    n <= MOST_MONTHS
+    1 <= n && n <= MOST_MONTHS
 }
 
 // A Z that may be added.
 pub fn z_fits(z: i32) -> bool
     ensures { result ≡ z_fits z }
 {
-    if z < 0 - MOST_Z {
-        return false;
-    }
-    z <= MOST_Z
+    -MOST_Z <= z && z <= MOST_Z
 }
 
 pub fn calendar_fits(month: u32) -> bool
@@ -87,47 +78,28 @@ pub fn calendar_fits(month: u32) -> bool
     between(1, month, LAST_MONTH)
 }
 
-// The most that the constant at a place of a month may be.
-fn limit_of(place: usize) -> i32
-    requires { place < many_of_a_month }
-    ensures { result ≡ pos (limit_of place) }
-{
-    if place == 2 {
-        return MOST_GAMMA;
-    }
-    if place == 4 {
-        return MOST_K;
-    }
-    MOST_SHARE
-}
-
-// The constant at i, which stands at this place of its month, is in range.
-fn fits_at(c: &[i32], i: usize, place: usize) -> bool
-    requires { (i < length c.now) × (i % many_of_a_month ≡ place) }
-    ensures { result ≡ constant_fits c.now i }
-{
-    let x = c[i];
-    !beyond(0, x, limit_of(place))
-}
-
-// A month's five constants, from this place on, are in range.
-fn five_fit(c: &[i32], at: usize) -> bool
+// Some of a month's five constants, from this place on, is out of range, or its K is below this least one: with no branch.
+fn five_beyond<const LEAST_K: i32>(c: &[i32], at: usize) -> bool
     requires { (at + many_of_a_month ≤ length c.now) × (at % many_of_a_month ≡ 0) }
-    ensures { result ≡ five_fit c.now at }
+    ensures { result ≡ not (five_from LEAST_K c.now at) }
 {
-    if !fits_at(c, at, 0) {
-        return false;
+    beyond(0, c[at], MOST_SHARE)
+        | beyond(0, c[at + 1], MOST_SHARE)
+        | beyond(0, c[at + 2], MOST_GAMMA)
+        | beyond(0, c[at + 3], MOST_SHARE)
+        | beyond(LEAST_K, c[at + 4], MOST_K)
+}
+
+// The sixty constants are each in range, with no K below this least one. All are looked at, whatever the first ones are.
+pub fn constants_fit_from<const LEAST_K: i32>(c: &[i32]) -> bool
+    requires { many_constants ≤ length c.now }
+    ensures { result ≡ fit_from LEAST_K c.now last_month }
+{
+    let mut bad = false;
+    for month in 0..MONTHS {
+        bad = bad | five_beyond::<LEAST_K>(c, MANY_OF_A_MONTH * month);
     }
-    if !fits_at(c, at + 1, 1) {
-        return false;
-    }
-    if !fits_at(c, at + 2, 2) {
-        return false;
-    }
-    if !fits_at(c, at + 3, 3) {
-        return false;
-    }
-    fits_at(c, at + 4, 4)
+    !bad
 }
 
 // The sixty constants are each in range. A start that is refused for its constants asks this alone: which of its
@@ -136,12 +108,5 @@ pub fn constants_fit(c: &[i32]) -> bool
     requires { many_constants ≤ length c.now }
     ensures { result ≡ constants_fit c.now }
 {
-    let mut i = 0;
-    while i < MANY_CONSTANTS {
-        if !five_fit(c, i) {
-            return false;
-        }
-        i += MANY_OF_A_MONTH;
-    }
-    true
+    constants_fit_from::<0>(c)
 }

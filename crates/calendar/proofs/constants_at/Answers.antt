@@ -8,22 +8,22 @@ pub overflow_sub-at : goal.overflow_sub-at
 overflow_sub-at c = let m = calendar-is c.args.month c.requires.1 in omega arith
 
 -- what each call asks: the constants fit, and the place is among the sixty
-pub constant-alpha-requires : goal.constant-alpha-requires
-constant-alpha-requires c = let m = calendar-is c.args.month c.requires.1 in (c.requires.0, omega arith)
+pub constant-requires : goal.constant-requires
+constant-requires c = let m = calendar-is c.args.month c.requires.1 in (c.requires.0, omega arith)
 
-pub constant-beta-requires : goal.constant-beta-requires
-constant-beta-requires c = let m = calendar-is c.args.month c.requires.1 in (c.requires.0, omega arith)
+pub constant-requires-2 : goal.constant-requires-2
+constant-requires-2 c = let m = calendar-is c.args.month c.requires.1 in (c.requires.0, omega arith)
 
-pub constant-gamma-requires : goal.constant-gamma-requires
-constant-gamma-requires c = let m = calendar-is c.args.month c.requires.1 in (c.requires.0, omega arith)
+pub constant-requires-3 : goal.constant-requires-3
+constant-requires-3 c = let m = calendar-is c.args.month c.requires.1 in (c.requires.0, omega arith)
 
-pub constant-delta-requires : goal.constant-delta-requires
-constant-delta-requires c = let m = calendar-is c.args.month c.requires.1 in (c.requires.0, omega arith)
+pub constant-requires-4 : goal.constant-requires-4
+constant-requires-4 c = let m = calendar-is c.args.month c.requires.1 in (c.requires.0, omega arith)
 
-pub constant-k-requires : goal.constant-k-requires
-constant-k-requires c = let m = calendar-is c.args.month c.requires.1 in (c.requires.0, omega arith)
+pub constant-requires-5 : goal.constant-requires-5
+constant-requires-5 c = let m = calendar-is c.args.month c.requires.1 in (c.requires.0, omega arith)
 
 pub returns : goal.returns
 unfolding constants_at
 returns c =
-    rw (c.constant-alpha.ensures, c.constant-beta.ensures, c.constant-gamma.ensures, c.constant-delta.ensures, c.constant-k.ensures)
+    rw (c.constant.ensures, c.constant-2.ensures, c.constant-3.ensures, c.constant-4.ensures, c.constant-5.ensures)
