@@ -36,47 +36,40 @@ pub struct Progress {
     pub values: Running,
 }
 
-// A run without its constants.
+// A run without its constants. No `From`: a conversion would keep them.
 pub fn progress_of(run: Run) -> Progress
     ensures { result ≡ progress_of run }
 {
-    let soil = run.soil;
-    let values = run.values;
     Progress {
         months: run.months,
         opens: run.opens,
         calendar: run.calendar,
-        soil,
-        values,
+        soil: run.soil,
+        values: run.values,
     }
 }
 
-// The run that stands so, with these constants.
+// The run that stands so, with these constants. C has its fields side by side, so that a run holds no `Progress`.
 pub fn run_of(s: Progress, constants: [i32; MANY_CONSTANTS]) -> Run
     ensures { result ≡ run_of s constants }
 {
-    let soil = s.soil;
-    let values = s.values;
     Run {
         months: s.months,
         opens: s.opens,
         calendar: s.calendar,
-        soil,
-        values,
+        soil: s.soil,
+        values: s.values,
         constants,
     }
 }
 
+#[tactic(auto, unfolding(crate::specs::Runs::soil_fits))]
 fn soil_fits(s: Soil) -> bool
     ensures { result ≡ soil_fits s }
 {
-    if !ranges::between(LEAST_CAPACITY, s.capacity, MOST_CAPACITY) {
-        return false;
-    }
-    if s.surface > water::surface_holds(s.capacity) {
-        return false;
-    }
-    s.underlying <= water::underlying_holds(s.capacity)
+    ranges::between(LEAST_CAPACITY, s.capacity, MOST_CAPACITY)
+        && s.surface <= water::surface_holds(s.capacity)
+        && s.underlying <= water::underlying_holds(s.capacity)
 }
 
 fn size_fits(x: i32) -> bool
@@ -85,69 +78,38 @@ fn size_fits(x: i32) -> bool
     ranges::within(x as i64, MOST_X)
 }
 
+#[tactic(auto, unfolding(crate::specs::Runs::sizes_fit))]
 fn sizes_fit(v: Running) -> bool
     ensures { result ≡ sizes_fit v }
 {
-    if !size_fits(v.x1) {
-        return false;
-    }
-    if !size_fits(v.x2) {
-        return false;
-    }
-    size_fits(v.x3)
+    size_fits(v.x1) && size_fits(v.x2) && size_fits(v.x3)
 }
 
+#[tactic(auto, unfolding(crate::specs::Runs::signs_fit))]
 fn signs_fit(v: Running) -> bool
     ensures { result ≡ signs_fit v }
 {
-    if v.x1 < 0 {
-        return false;
-    }
-    if v.x2 > 0 {
-        return false;
-    }
-    if v.v > 0 {
-        return v.x3 < 0;
-    }
-    if v.v < 0 {
-        return v.x3 > 0;
-    }
-    true
+    v.x1 >= 0 && v.x2 <= 0 && (v.v <= 0 || v.x3 < 0) && (v.v >= 0 || v.x3 > 0)
 }
 
+#[tactic(auto, unfolding(crate::specs::Runs::v_fits))]
 fn v_fits(months: u32, v: Running) -> bool
     ensures { result ≡ v_fits months v }
 {
-    let most = MOST_U * (months as i64);
-    ranges::within(v.v, most)
+    ranges::within(v.v, MOST_U * months as i64)
 }
 
 // What is handed in is a run, for columns of this length.
+#[tactic(auto, unfolding(crate::specs::Runs::is_run))]
 pub fn is_run(long: usize, at: Progress, constants: &[i32; MANY_CONSTANTS]) -> bool
     ensures { result ≡ is_run long (run_of at constants.now) }
 {
-    if at.months as usize > long {
-        return false;
-    }
-    if at.opens > at.months {
-        return false;
-    }
-    if !calendar::constants_serve(constants) {
-        return false;
-    }
-    let soil = at.soil;
-    if !soil_fits(soil) {
-        return false;
-    }
-    if !ranges::calendar_fits(at.calendar) {
-        return false;
-    }
-    let v = at.values;
-    if !sizes_fit(v) {
-        return false;
-    }
-    if !signs_fit(v) {
-        return false;
-    }
-    v_fits(at.months, v)
+    at.months as usize <= long
+        && at.opens <= at.months
+        && calendar::constants_serve(constants)
+        && soil_fits(at.soil)
+        && ranges::calendar_fits(at.calendar)
+        && sizes_fit(at.values)
+        && signs_fit(at.values)
+        && v_fits(at.months, at.values)
 }
