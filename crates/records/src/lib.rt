@@ -10,7 +10,7 @@
 ghost use Rattle.std.specs.Prelude.{◌≡◌, ◌≤◌, ◌<◌, length, set};
 ghost use Rattle.door.specs.Readings.{most_reading};
 ghost use Rattle.water.specs.Layers.{SoilFits};
-ghost use Rattle.records.specs.Record.{water_record, z_record, no_record, numbers_of, record_at};
+ghost use Rattle.records.specs.Record.{water_record, z_record, no_record, numbers_of, record_in, record_at};
 ghost use Rattle.records.specs.Ends.{amounts, ends_meet};
 ghost use Rattle.records.specs.Recordable.{Recordable};
 
@@ -50,7 +50,7 @@ const NONE: i32 = 0;
 // A month's record: its Z, its water, both storages at its start and at its end, whether it had water, its modified index, and
 // the kind of its precipitation.
 #[repr(C)]
-#[derive(Clone, Copy)]
+#[derive(Clone, Copy, Default)]
 pub struct Record {
     pub z: i32,
     pub p: i32,
@@ -101,12 +101,6 @@ pub fn z_record(s: Soil, z: i32, modified: i32) -> Record
     let underlying = s.underlying as i32;
     Record {
         z,
-        p: 0,
-        pe: 0,
-        et: 0,
-        r: 0,
-        l: 0,
-        ro: 0,
         ss: surface,
         su: underlying,
         surface,
@@ -114,6 +108,7 @@ pub fn z_record(s: Soil, z: i32, modified: i32) -> Record
         water: NO_WATER,
         modified,
         kind: NONE,
+        ..Record::default()
     }
 }
 
@@ -121,21 +116,70 @@ pub fn z_record(s: Soil, z: i32, modified: i32) -> Record
 pub fn no_record() -> Record
     ensures { result ≡ no_record }
 {
-    Record {
-        z: 0,
-        p: 0,
-        pe: 0,
-        et: 0,
-        r: 0,
-        l: 0,
-        ro: 0,
-        ss: 0,
-        su: 0,
-        surface: 0,
-        underlying: 0,
-        water: NO_WATER,
-        modified: 0,
-        kind: 0,
+    Record::default()
+}
+
+// Its numbers, in the order of its fields.
+impl From<Record> for RecordNumbers {
+    ghost from_gives = { λ r n. n ≡ numbers_of r };
+
+    fn from(r: Record) -> RecordNumbers {
+        [
+            r.z,
+            r.p,
+            r.pe,
+            r.et,
+            r.r,
+            r.l,
+            r.ro,
+            r.ss,
+            r.su,
+            r.surface,
+            r.underlying,
+            r.water,
+            r.modified,
+            r.kind,
+        ]
+    }
+}
+
+// The record whose numbers these are.
+impl From<RecordNumbers> for Record {
+    ghost from_gives = { λ n r. r ≡ record_in n };
+
+    fn from(n: RecordNumbers) -> Record {
+        let [
+            z,
+            p,
+            pe,
+            et,
+            r,
+            l,
+            ro,
+            ss,
+            su,
+            surface,
+            underlying,
+            water,
+            modified,
+            kind,
+        ] = n;
+        Record {
+            z,
+            p,
+            pe,
+            et,
+            r,
+            l,
+            ro,
+            ss,
+            su,
+            surface,
+            underlying,
+            water,
+            modified,
+            kind,
+        }
     }
 }
 
@@ -144,22 +188,7 @@ pub fn put(at: usize, r: Record, records: &mut [RecordNumbers])
     requires { at < length records.old }
     ensures { records.new ≡ set records.old at (numbers_of r) }
 {
-    records[at] = [
-        r.z,
-        r.p,
-        r.pe,
-        r.et,
-        r.r,
-        r.l,
-        r.ro,
-        r.ss,
-        r.su,
-        r.surface,
-        r.underlying,
-        r.water,
-        r.modified,
-        r.kind,
-    ];
+    records[at] = RecordNumbers::from(r);
 }
 
 // V after a month, written at its place.
@@ -175,23 +204,7 @@ pub fn record_at(records: &[RecordNumbers], i: usize) -> Record
     requires { i < length records.now }
     ensures { result ≡ record_at records.now i }
 {
-    let n = records[i];
-    Record {
-        z: n[0],
-        p: n[1],
-        pe: n[2],
-        et: n[ET],
-        r: n[R],
-        l: n[L],
-        ro: n[RO],
-        ss: n[7],
-        su: n[8],
-        surface: n[SURFACE],
-        underlying: n[UNDERLYING],
-        water: n[11],
-        modified: n[12],
-        kind: n[13],
-    }
+    Record::from(records[i])
 }
 
 // Whether after these months the last record's storages are the soil's; there is no last one where there are no months.
@@ -203,10 +216,7 @@ pub fn ends_meet(months: u32, s: Soil, records: &[RecordNumbers]) -> bool
         return true;
     }
     let last = months as usize - 1;
-    if !amounts(records[last][SURFACE], s.surface) {
-        return false;
-    }
-    amounts(records[last][UNDERLYING], s.underlying)
+    amounts(records[last][SURFACE], s.surface) && amounts(records[last][UNDERLYING], s.underlying)
 }
 
 // Whether a number of a record is this amount.

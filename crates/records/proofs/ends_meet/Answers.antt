@@ -17,19 +17,19 @@ returns-then-months-eq0 c = let a = c.args in sym (after_none a.s a.records.now 
 pub amounts-requires : goal.amounts-requires
 amounts-requires c = omega (arith, (stored-most c.args.s c.requires.1).0)
 
-pub returns-then-not-amounts : goal.returns-then-not-amounts
-returns-then-not-amounts c =
-    let a = c.args in
-    let f : SFits w32 (record_at a.records.now (a.months - 1)).surface = search rules in
-    rw (after-some a.s a.records.now a.months c.if-months-eq0.false, sym (rw (to_z-of_z f) at c.amounts.ensures) ∙ c.if-not-amounts.true)
+pub amounts-requires-then-amounts : goal.amounts-requires-then-amounts
+amounts-requires-then-amounts c = omega (arith, (stored-most c.args.s c.requires.1).1)
 
-pub amounts-requires-2 : goal.amounts-requires-2
-amounts-requires-2 c = omega (arith, (stored-most c.args.s c.requires.1).1)
-
-pub returns : goal.returns
-returns c =
+pub returns-then-amounts : goal.returns-then-amounts
+returns-then-amounts c =
     let a = c.args in
     let f : SFits w32 (record_at a.records.now (a.months - 1)).surface = search rules in
     let g : SFits w32 (record_at a.records.now (a.months - 1)).underlying = search rules in
-    rw (after-some a.s a.records.now a.months c.if-months-eq0.false, sym (rw (to_z-of_z f) at c.amounts.ensures) ∙ c.if-not-amounts.false)
-    (rw (to_z-of_z g) at c.amounts-2.ensures)
+    rw (after-some a.s a.records.now a.months c.if-months-eq0.false, sym (rw (to_z-of_z f) at c.amounts.ensures) ∙ c.if-amounts.true)
+    (rw (to_z-of_z g) at c.amounts-then-amounts.ensures)
+
+pub returns-else-amounts : goal.returns-else-amounts
+returns-else-amounts c =
+    let a = c.args in
+    let f : SFits w32 (record_at a.records.now (a.months - 1)).surface = search rules in
+    rw (after-some a.s a.records.now a.months c.if-months-eq0.false, sym (rw (to_z-of_z f) at c.amounts.ensures) ∙ c.if-amounts.false) c.if-amounts.false

@@ -18,4 +18,5 @@ returns c =
     let h = stored-most c.args.s c.requires in
     let f1 : SFits w32 (pos c.args.s.surface) = search rules in
     let f2 : SFits w32 (pos c.args.s.underlying) = search rules in
-    rw (to_z-of_z c.ranges.z, to_z-of_z f1, to_z-of_z f2, to_z-of_z c.ranges.modified)
+    let d = c.default.ensures in
+    rw (d.1.0, d.1.1.0, d.1.1.1.0, d.1.1.1.1.0, d.1.1.1.1.1.0, d.1.1.1.1.1.1.0, to_z-of_z c.ranges.z, to_z-of_z f1, to_z-of_z f2, to_z-of_z c.ranges.modified)
