@@ -126,6 +126,7 @@ pub fn z_refusal(
 }
 
 // A row, of lists that can be lent: 7, 11.
+#[tactic(auto, unfolding(crate::specs::Lent::row_refusal_for))]
 pub fn row_refusal(
     n: usize,
     at: Progress,
@@ -147,6 +148,7 @@ pub fn row_refusal(
 }
 
 // 1 and 7, which every call on a run asks first.
+#[tactic(auto, unfolding(crate::specs::Lent::run_refusal_for))]
 pub fn run_refusal(
     n: usize,
     at: Progress,
@@ -180,6 +182,7 @@ fn is_run_for(
 
 // The length of lists of these lengths, and 0 where they cannot be lent: 0 is no lent list's length, and `run_refusal` gives it 1 as
 // it gives a run its 7. An `Option` would be tested by each call, and by `run_refusal` again.
+#[tactic(auto, unfolding(crate::specs::Lent::lent_length))]
 pub fn lent_length(
     x1: usize,
     x2: usize,
@@ -199,6 +202,7 @@ pub fn lent_length(
 }
 
 // Whether lists of these lengths can be lent: 1.
+#[tactic(auto, unfolding(crate::specs::Book::lengths_fit))]
 pub fn lengths_fit(
     x1: usize,
     x2: usize,
@@ -227,6 +231,7 @@ pub fn reading_refusal(p: Result<(), Refusal>, pe: Result<(), Refusal>) -> Resul
 }
 
 // 10, which every add asks last, of columns of length n.
+#[tactic(auto, unfolding(crate::specs::Refusals::room_refusal))]
 pub fn room_refusal(n: usize, months: u32) -> Result<(), Refusal>
     ensures { answer_number result ≡ room_refusal n months }
 {
