@@ -17,6 +17,9 @@ use Rattle.outline.specs.Refusals.{bad_lists, not_a_run, not_sixty, bad_constant
 use Rattle.outline.proofs.Tests.{if-so, each, cond-zero}
 use Rattle.outline.proofs.Refusals.{or-zero, or-first, or-second, is-refused}
 use Rattle.outline.proofs.Every.{all-at}
+use Rattle.outline.specs.Refused.{refusal_number}
+use Rattle.outline.specs.declared.Refusal.{Refusal}
+use Rattle.outline.proofs.Refused.{number-ne-zero}
 use Rattle.ranges.specs.Ranges.{calendar_fits}
 use Rattle.ranges.proofs.RangeLaws.{is-calendar}
 use Rattle.calendar.specs.Calendar.{some_zero_k}
@@ -43,6 +46,11 @@ use Rattle.weighing.specs.Weighing.{Span, span, gammas_fit, weights_fit, total_i
 use Rattle.weighing.specs.Stores.{Years}
 use Rattle.constants.specs.WorkOut.{span_of, record_refusal, weights_refusal, fewest_years, years_refusal, set_refusal, work_out_refusal, sum_refusal, worked_out, not_worked_out, set_of, work_out, summed, not_summed, sum_month}
 use Rattle.constants.specs.Asked.{asked_refusal}
+
+-- a refusal that a test answers: the test is not passed, and the refusal is its
+pub refused-by : (e : Refusal) (b : Bool) (n : ℕ) → refusal_number e ≡ cond b 0 n → (b ≡ false) × (refusal_number e ≡ n)
+refused-by e true n h = absurd (number-ne-zero e h)
+refused-by e false n h = (refl, h)
 
 -- ---- 1 and 7
 module _ (r : Run) (cs : Book) where

@@ -10,18 +10,18 @@ ghost use Rattle.outline.specs.Refusals.{bad_month};
 ghost use Rattle.ranges.specs.Ranges.{calendar_fits};
 ghost use Rattle.runs.specs.Progress.{run_of};
 ghost use Rattle.refusals.specs.Book.{book};
+ghost use Rattle.refusals.specs.Lists.{read};
+ghost use Rattle.outline.specs.Refused.{refusal_number, answer_number};
 ghost use Rattle.starts.specs.Start.{month_fits};
 ghost use Rattle.years.specs.Years.{first_of, years_of};
 ghost use Rattle.weighing.specs.Weighing.{span, weights_fit};
 ghost use Rattle.weighing.specs.Stores.{Years};
 ghost use Rattle.constants.specs.WorkOut.{record_refusal, weights_refusal, fewest_years, years_refusal, not_worked_out, set_of, work_out, not_summed, sum_month};
-ghost use Rattle.constants.specs.Asked.{asked_refusal};
+ghost use Rattle.constants.specs.Asked.{asked_refusal, answered, answered_sums};
 
-use outline::{
-    BAD_CONSTANT, BAD_GAMMA, BAD_K, BAD_MONTH, FEW_YEARS, LAST_MONTH, MANY_CONSTANTS, NOT_A_RUN,
-    NOT_SIXTY, ZERO_K,
-};
+use outline::{LAST_MONTH, MANY_CONSTANTS, Refusal};
 use records::RecordNumbers;
+use refusals::Rows;
 use runs::{Progress, Run};
 use sums::Sums;
 use weighing::MANY_MONTHS;
@@ -47,6 +47,13 @@ pub struct WorkedOut {
     pub departures: [u32; MANY_MONTHS],
 }
 
+// The sixty constants worked out again, and the twelve D.
+#[derive(Drop)]
+struct Set {
+    constants: [i32; MANY_CONSTANTS],
+    departures: [u32; MANY_MONTHS],
+}
+
 // The whole years of a run: the row of the first January, and how many they are.
 #[derive(Drop)]
 struct WholeYears {
@@ -55,26 +62,49 @@ struct WholeYears {
 }
 
 // Works the sixty constants out again from a run's whole years, with twelve first weights: 1, 7, 2 or 3, 18, 19, 20, 21.
-pub fn work_out(
+pub fn work_out<'a>(
     run: Run,
     weights: &[i32],
-    x1: &[i32],
-    x2: &[i32],
-    x3: &[i32],
-    index: &[i32],
-    mark: &[u8],
-    records: &[RecordNumbers],
-    v: &[i64],
+    x1: &'a [i32],
+    x2: &'a [i32],
+    x3: &'a [i32],
+    index: &'a [i32],
+    mark: &'a [u8],
+    records: &'a [RecordNumbers],
+    v: &'a [i64],
 ) -> WorkedOut
     ensures { result ≡ work_out run weights.now (book x1.now x2.now x3.now index.now mark.now records.now v.now) }
 {
+    let rows = Rows {
+        x1,
+        x2,
+        x3,
+        index,
+        mark,
+        records,
+        v,
+    };
+    match set_worked_out(run, weights, &rows) {
+        Ok(set) => {
+            let constants = set.constants;
+            let departures = set.departures;
+            WorkedOut {
+                number: 0,
+                constants,
+                departures,
+            }
+        }
+        Err(refusal) => not_worked_out(refusal),
+    }
+}
+
+// The set that is answered, or the refusal.
+fn set_worked_out(run: Run, weights: &[i32], rows: &Rows) -> Result<Set, Refusal>
+    ensures { answered result ≡ work_out run weights.now (read rows.now) }
+{
     let at = runs::progress_of(run);
     let constants = run.constants;
-    let given = weights_refusal(weights);
-    let number = refusal(at, &constants, given, x1, x2, x3, index, mark, records, v);
-    if number != 0 {
-        return not_worked_out(number);
-    }
+    refusal(at, &constants, weights_refusal(weights), rows)?;
     let soil = at.soil;
     let whole = whole_years(at);
     set_of(
@@ -82,124 +112,111 @@ pub fn work_out(
         whole.first as usize,
         whole.years,
         weights,
-        records,
+        rows.records,
     )
 }
 
 // Sums a calendar month, 1 to 12, over a run's whole years: 1, 7, 6, 18.
-pub fn sum_month(
+pub fn sum_month<'a>(
     run: Run,
     month: i32,
-    x1: &[i32],
-    x2: &[i32],
-    x3: &[i32],
-    index: &[i32],
-    mark: &[u8],
-    records: &[RecordNumbers],
-    v: &[i64],
+    x1: &'a [i32],
+    x2: &'a [i32],
+    x3: &'a [i32],
+    index: &'a [i32],
+    mark: &'a [u8],
+    records: &'a [RecordNumbers],
+    v: &'a [i64],
 ) -> Summed
     ensures { result ≡ sum_month run month (book x1.now x2.now x3.now index.now mark.now records.now v.now) }
 {
-    let at = runs::progress_of(run);
-    let constants = run.constants;
-    let given = month_refusal(month);
-    let number = refusal(at, &constants, given, x1, x2, x3, index, mark, records, v);
-    if number != 0 {
-        return not_summed(number);
-    }
-    let soil = at.soil;
-    let whole = whole_years(at);
-    let row = whole.first as usize + (month as usize - 1);
-    let sums = sums::sums_of(soil.capacity, row, whole.years, records);
-    Summed {
-        number: 0,
-        years: whole.years,
-        sums,
+    let rows = Rows {
+        x1,
+        x2,
+        x3,
+        index,
+        mark,
+        records,
+        v,
+    };
+    match month_summed(run, month, &rows) {
+        Ok((years, sums)) => Summed {
+            number: 0,
+            years,
+            sums,
+        },
+        Err(refusal) => not_summed(refusal),
     }
 }
 
-// 1, 7, the number of what else is handed in, and 18.
+// The years and the sums that are answered, or the refusal.
+fn month_summed(run: Run, month: i32, rows: &Rows) -> Result<(u32, Sums), Refusal>
+    ensures { answered_sums result ≡ sum_month run month (read rows.now) }
+{
+    let at = runs::progress_of(run);
+    let constants = run.constants;
+    refusal(at, &constants, month_refusal(month), rows)?;
+    let soil = at.soil;
+    let whole = whole_years(at);
+    let row = whole.first as usize + (month as usize - 1);
+    let sums = sums::sums_of(soil.capacity, row, whole.years, rows.records);
+    Ok((whole.years, sums))
+}
+
+// 1, 7, the refusal of what else is handed in, and 18.
 fn refusal(
     at: Progress,
     constants: &[i32; MANY_CONSTANTS],
-    given: u8,
-    x1: &[i32],
-    x2: &[i32],
-    x3: &[i32],
-    index: &[i32],
-    mark: &[u8],
-    records: &[RecordNumbers],
-    v: &[i64],
-) -> u8
-    ensures { result ≡ asked_refusal (run_of at constants.now) given (book x1.now x2.now x3.now index.now mark.now records.now v.now) }
+    given: Result<(), Refusal>,
+    rows: &Rows,
+) -> Result<(), Refusal>
+    ensures { answer_number result ≡ asked_refusal (run_of at constants.now) (answer_number given) (read rows.now) }
 {
-    let number = record_refusal(at, constants, x1, x2, x3, index, mark, records, v);
-    if number != 0 {
-        return number;
-    }
-    if given != 0 {
-        return given;
-    }
+    record_refusal(at, constants, rows)?;
+    given?;
     let whole = whole_years(at);
-    years_refusal(whole.first, whole.years, records)
+    years_refusal(whole.first, whole.years, rows.records)
 }
 
 // 1 and 7, the rows asked too.
 fn record_refusal(
     at: Progress,
     constants: &[i32; MANY_CONSTANTS],
-    x1: &[i32],
-    x2: &[i32],
-    x3: &[i32],
-    index: &[i32],
-    mark: &[u8],
-    records: &[RecordNumbers],
-    v: &[i64],
-) -> u8
-    ensures { result ≡ record_refusal (run_of at constants.now) (book x1.now x2.now x3.now index.now mark.now records.now v.now) }
+    rows: &Rows,
+) -> Result<(), Refusal>
+    ensures { answer_number result ≡ record_refusal (run_of at constants.now) (read rows.now) }
 {
-    let long = refusals::lent_length(
-        x1.len(),
-        x2.len(),
-        x3.len(),
-        index.len(),
-        mark.len(),
-        records.len(),
-        v.len(),
-    );
-    let number = refusals::run_refusal(long, at, constants, records);
-    if number != 0 {
-        return number;
-    }
+    let long = rows.lent_length();
+    refusals::run_refusal(long, at, constants, rows.records)?;
     let soil = at.soil;
-    if !given_rows::rows_given(soil.capacity, at.months, records) {
-        return NOT_A_RUN;
+    if !given_rows::rows_given(soil.capacity, at.months, rows.records) {
+        return Err(Refusal::NotARun);
     }
-    0
+    Ok(())
 }
 
 // 2 and 3, of the weights.
-fn weights_refusal(weights: &[i32]) -> u8
-    ensures { result ≡ weights_refusal weights.now }
+fn weights_refusal(weights: &[i32]) -> Result<(), Refusal>
+    ensures { answer_number result ≡ weights_refusal weights.now }
 {
     if weights.len() != MANY_MONTHS {
-        return NOT_SIXTY;
+        return Err(Refusal::NotSixty);
     }
     if weighing::weights_fit(weights) {
-        0
+        Ok(())
     } else {
-        BAD_CONSTANT
+        Err(Refusal::BadConstant)
     }
 }
 
 // 6, of a calendar month.
-fn month_refusal(month: i32) -> u8
-    ensures { result ≡ cond (month_fits month) 0 bad_month }
+fn month_refusal(month: i32) -> Result<(), Refusal>
+    ensures { answer_number result ≡ cond (month_fits month) 0 bad_month }
 {
     if ranges::signed_between(1, month, LAST_MONTH) {
-        0
+        Ok(())
     } else {
-        BAD_MONTH
+        Err(Refusal::BadMonth)
     }
 }
 
@@ -216,17 +233,17 @@ fn whole_years(at: Progress) -> WholeYears
 }
 
 // 18: too few years, or a month among them without water.
-fn years_refusal(first: u32, years: u32, records: &[RecordNumbers]) -> u8
+fn years_refusal(first: u32, years: u32, records: &[RecordNumbers]) -> Result<(), Refusal>
     requires { fewest_years ≤ years → (first + last_month * years ≤ length records.now) × (first + last_month * years ≤ most_months) }
-    ensures { (capacity : ℕ) → result ≡ years_refusal (span capacity records.now first years) }
+    ensures { (capacity : ℕ) → answer_number result ≡ years_refusal (span capacity records.now first years) }
 {
     if years < FEWEST_YEARS {
-        return FEW_YEARS;
+        return Err(Refusal::FewYears);
     }
     if years::all_water(first, LAST_MONTH * years, records) {
-        0
+        Ok(())
     } else {
-        FEW_YEARS
+        Err(Refusal::FewYears)
     }
 }
 
@@ -237,61 +254,46 @@ fn set_of(
     years: u32,
     weights: &[i32],
     records: &[RecordNumbers],
-) -> WorkedOut
+) -> Result<Set, Refusal>
     requires first_le_most_months { (first ≤ most_months) × Years capacity records.now first years }
     requires weights_len { (length weights.now ≡ last_month) × (weights_fit weights.now last_month ≡ true) }
-    ensures { result ≡ set_of (span capacity records.now first years) weights.now }
+    ensures { answered result ≡ set_of (span capacity records.now first years) weights.now }
 {
     let mut set = [0i32; MANY_CONSTANTS];
     let mut means = [0u32; MANY_MONTHS];
-    if !weighing::put_shares(capacity, first, years, records, &mut set, &mut means) {
-        return not_worked_out(BAD_GAMMA);
-    }
+    weighing::put_shares(capacity, first, years, records, &mut set, &mut means)?;
     let total = weighing::products(&means, weights);
     if total == 0 {
-        return not_worked_out(BAD_K);
+        return Err(Refusal::BadK);
     }
-    if !weighing::put_ks(total, weights, &mut set) {
-        return not_worked_out(BAD_K);
-    }
+    weighing::put_ks(total, weights, &mut set)?;
     if !calendar::constants_serve(&set) {
-        return not_worked_out(ZERO_K);
+        return Err(Refusal::ZeroK);
     }
-    WorkedOut {
-        number: 0,
+    Ok(Set {
         constants: set,
         departures: means,
-    }
+    })
 }
 
 // A refusal: its number, and all else 0.
-fn not_worked_out(number: u8) -> WorkedOut
-    ensures { result ≡ not_worked_out number }
+fn not_worked_out(refusal: Refusal) -> WorkedOut
+    ensures { result ≡ not_worked_out (refusal_number refusal) }
 {
     WorkedOut {
-        number,
+        number: refusal.number(),
         constants: [0; MANY_CONSTANTS],
         departures: [0; MANY_MONTHS],
     }
 }
 
 // The same of the sums.
-fn not_summed(number: u8) -> Summed
-    ensures { result ≡ not_summed number }
+fn not_summed(refusal: Refusal) -> Summed
+    ensures { result ≡ not_summed (refusal_number refusal) }
 {
-    let sums = Sums {
-        et: 0,
-        pe: 0,
-        r: 0,
-        pr: 0,
-        ro: 0,
-        pro: 0,
-        l: 0,
-        pl: 0,
-    };
     Summed {
-        number,
+        number: refusal.number(),
         years: 0,
-        sums,
+        sums: Sums::default(),
     }
 }

@@ -67,11 +67,7 @@ fn departure_of(k: Constants, w: WaterRow) -> u32
     let q = water::potentials_of(soil, w.pe);
     let n = n_of(k, soil.capacity, w.pe, q);
     let short = (w.p as i64) - cafec_of(n);
-    if short < 0 {
-        (0 - short) as u32
-    } else {
-        short as u32
-    }
+    short.unsigned_abs() as u32
 }
 
 // The departures of so many years of the calendar month whose first row stands at a place, summed.
@@ -87,12 +83,10 @@ fn departures_of(
     ensures { result ≡ departures_of k (row_in capacity records.now at) years }
 {
     let mut sum: u32 = 0;
-    let mut y: u32 = 0;
-    while y < years {
+    for y in 0..years {
         let row = at + (LAST_MONTH * y) as usize;
         let w = given_rows::water_at(capacity, row, records);
         sum += departure_of(k, w);
-        y += 1;
     }
     sum
 }

@@ -11,11 +11,9 @@ ghost use Rattle.water.specs.Layers.{least_capacity, most_capacity};
 ghost use Rattle.records.specs.Record.{record_at};
 ghost use Rattle.given_rows.specs.GivenRows.{water_of, addable, holds, given_by_add, row_given, rows_given};
 
+use kept_rows::MOST_READING;
 use records::{ET, L, R, RO, Record, RecordNumbers, SURFACE, UNDERLYING, WATER};
 use water::{Balance, Soil};
-
-// The most of a month's precipitation and PE, in thousandths of an inch.
-const MOST_READING: i32 = 100_000;
 
 // A month of water as its record has it, without the signs: what fell, what was asked for, what the balance made of it, and the
 // soil from which it started.
@@ -35,12 +33,10 @@ pub fn rows_given(capacity: u32, months: u32, records: &[RecordNumbers]) -> bool
     requires { (least_capacity ≤ capacity) × (capacity ≤ most_capacity) × (months ≤ length records.now) }
     ensures { result ≡ rows_given capacity records.now months }
 {
-    let mut row: u32 = 0;
-    while row < months {
-        if !row_given(capacity, row as usize, records) {
+    for row in 0..months as usize {
+        if !row_given(capacity, row, records) {
             return false;
         }
-        row += 1;
     }
     true
 }

@@ -1,13 +1,15 @@
 -- The tests of the rows, list by list: the rows fit exactly where the columns, the marks and what is left of each row do (`rows_are`). Assumes
 -- nothing.
 use mathlib.Core.Path.{◌≡◌, refl, sym, ◌∙◌}
-use mathlib.Core.Bool.{Bool, true, false, ◌&&◌, ◌||◌}
+use mathlib.Core.Bool.{Bool, true, false, not, ◌&&◌, ◌||◌}
+use mathlib.Core.List.{List}
 use Prim.Native.Nat.{ℕ, suc, ◌*◌, ◌≤◌, ◌<◌}
 use native.Mathlib.Omega.{arith}
 use borrow.Author.Tests.{leb-true, le-leb}
 use lib.Dec.{leb}
 use lib.IntN.{ℤ, pos, negsuc, nat_abs}
-use lib.ListN.{get_or}
+use lib.ListN.{length, get_or, take}
+use Rattle.std.proofs.lemmas.List.{get_or_default, get_or-take, length-take-le}
 use lib.Signed.{le_z, lt_z}
 use Rattle.outline.specs.Numbers.{most_x, most_u}
 use Rattle.outline.specs.Every.{all_of}
@@ -47,6 +49,24 @@ index_is x =
     (leb (nat_abs x) most_x)
     (λ h. le-leb (nat_abs x) most_x (in_size x (first (le_z (negsuc 12999999) x) (le_z x (pos most_x)) h) (second (le_z (negsuc 12999999) x) (le_z x (pos most_x)) h)))
     (λ h. both (not_low x (leb-true (nat_abs x) most_x h)) (not-high x (leb-true (nat_abs x) most_x h)))
+
+-- ---- the first numbers of a list: the number at a place of them is the list's
+module _ (n : ℕ) (i : ℕ) where
+  pub first-at : {A : Type 0} (l : List A) (x d : A) → n ≤ length l → i < length (take n l) → get_or (take n l) i x ≡ x → get_or l i d ≡ x
+  first-at l x d h b e =
+      let m : i < n = rw (length-take-le n l h) at b in
+      get_or_default l i d x (omega arith) ∙ sym (get_or-take n l i x m) ∙ e
+
+  -- so what is said of it is said of the test at that place
+  pub column-answers : (least most : ℤ) (l : List ℤ) (x : ℤ) (r : Bool) → n ≤ length l → i < length (take n l) → get_or (take n l) i x ≡ x
+      → r ≡ not (le_z least x && le_z x most) → r ≡ not (between_at least most l i)
+  unfolding between_at
+  column-answers least most l x r h b e t = rw (first-at l x (pos 0) h b e) t
+
+  pub mark-answers : (l : List ℕ) (x : ℕ) (r : Bool) → n ≤ length l → i < length (take n l) → get_or (take n l) i x ≡ x
+      → r ≡ not (le_z (pos 1) (pos x) && le_z (pos x) (pos 2)) → r ≡ not (mark_at l i)
+  unfolding mark_at mark_fits
+  mark-answers l x r h b e t = rw (first-at l x 0 h b e) t
 
 -- ---- the rows
 x1_size : (x : ℤ) → le_z (pos 0) x ≡ true → le_z x (pos most_x) ≡ true → nat_abs x ≤ most_x

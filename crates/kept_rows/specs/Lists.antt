@@ -1,5 +1,5 @@
 -- A proof's vocabulary, which contracts cite: the tests of the rows, list by list. Assumes nothing.
-use Rattle.std.specs.Prelude.{ℕ, suc, ◌*◌, Bool, ◌&&◌, ◌||◌, List, ℤ, pos, nat_abs, leb, get_or}
+use Rattle.std.specs.Prelude.{ℕ, suc, ◌*◌, ◌<◌, ◌≡◌, Bool, not, ◌&&◌, ◌||◌, List, ℤ, pos, nat_abs, leb, get_or, length}
 use Rattle.std.specs.Int.Signed.{le_z, lt_z}
 use Rattle.outline.specs.Numbers.{most_u}
 use Rattle.records.specs.Record.{record_at}
@@ -24,3 +24,7 @@ v_row_fits months x3 v = opposed_to x3 v && leb (nat_abs v) (most_u * months)
 -- V and the record of the row at a place
 unfoldable pub rest_at : ℕ → List ℤ → List (List ℤ) → List ℤ → ℕ → Bool
 rest_at capacity x3 records v i = v_row_fits (suc i) (get_or x3 i (pos 0)) (get_or v i (pos 0)) && record_fits capacity (record_at records i)
+
+-- each answer at an item is that the test at the item's place is not passed
+abbrev pub AnswersNot : {T : Type 0} → (T → Bool → Type 0) → List T → (ℕ → Bool) → Type 0
+AnswersNot {T} answers items test = (i : ℕ) (x : T) (r : Bool) → i < length items → get_or items i x ≡ x → answers x r → r ≡ not (test i)

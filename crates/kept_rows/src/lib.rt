@@ -3,34 +3,34 @@
 // For the crate `repair`, which has asked for 1 and for the rest of 7: `rows_fit` has a `requires`.
 #![tactic(auto)]
 
-ghost use Rattle.std.specs.Prelude.{◌≡◌, ◌&&◌, ◌≤◌, ◌<◌, pos, length};
+ghost use Rattle.std.specs.Prelude.{◌≡◌, ◌&&◌, ◌≤◌, ◌<◌, pos, length, not, ℕ, Bool};
 ghost use Rattle.outline.specs.Numbers.{most_months};
 ghost use Rattle.outline.specs.Every.{all_of};
 ghost use Rattle.water.specs.Layers.{most_capacity};
 ghost use Rattle.refusals.specs.Book.{book};
 ghost use Rattle.kept_rows.specs.KeptRows.{water_fits, storages_fit, record_fits, rows_fit};
-ghost use Rattle.kept_rows.specs.Lists.{between_at, mark_at, opposed_to, v_row_fits, rest_at};
+ghost use Rattle.std.specs.Int.Signed.{le_z};
+ghost use Rattle.std.specs.Fn.{FnReturnsAt};
+ghost use Rattle.kept_rows.specs.Lists.{AnswersNot, between_at, mark_at, opposed_to, v_row_fits, rest_at};
 
-use outline::MOST_U;
+use outline::{MOST_U, MOST_X};
 use ranges::MOST_CAPACITY;
-use records::{Record, RecordNumbers};
+use records::{Record, RecordNumbers, WATER};
 
 // The most of an X and of an index, in size.
-const MOST_INDEX: i32 = 13_000_000;
+const MOST_INDEX: i32 = MOST_X as i32;
 
-const LEAST_INDEX: i32 = -13_000_000;
+const LEAST_INDEX: i32 = -MOST_INDEX;
 
-// The most of a month's water, in thousandths of an inch.
-const MOST_WATER: i32 = 100_000;
+// The most of a month's reading and of its water, in thousandths of an inch.
+pub const MOST_READING: i32 = 100_000;
 
 // The marks: open and settled.
 const OPEN: i32 = 1;
 
 const SETTLED: i32 = 2;
 
-// The numbers of a record's `water` and `kind` end here.
-const HAD_WATER: i32 = 1;
-
+// A record's `kind` ends here.
 const MEASURED: i32 = 2;
 
 // Each figure of the first rows is in its range, in a soil of this capacity. The columns are asked one after another, and then
@@ -68,33 +68,40 @@ pub fn rows_fit(
     rest_fits(capacity, months, x3, records, v)
 }
 
-// A column's first numbers are from the least to the most. All are looked at, whatever the first ones are, so that several are
-// compared at once.
+// A column's first numbers are from the least to the most.
 fn column_fits(months: u32, column: &[i32], least: i32, most: i32) -> bool
     requires { months ≤ length column.now }
     ensures { result ≡ all_of (between_at least most column.now) months }
 {
-    let mut bad = false;
-    let mut i: u32 = 0;
-    while i < months {
-        bad = bad | ranges::beyond(least, column[i as usize], most);
-        i += 1;
-    }
-    !bad
+    none_of(
+        &column[..months as usize],
+        |x: &i32| -> bool
+            ensures { result ≡ not (le_z least x.now && le_z x.now most) }
+        { ranges::beyond(least, *x, most) },
+    )
 }
 
-// The first marks are open or settled: all are looked at, so that several are compared at once.
+// The first marks are open or settled.
 fn marks_fit(months: u32, mark: &[u8]) -> bool
     requires { months ≤ length mark.now }
     ensures { result ≡ all_of (mark_at mark.now) months }
 {
-    let mut bad = false;
-    let mut i: u32 = 0;
-    while i < months {
-        bad = bad | ranges::beyond(OPEN, mark[i as usize] as i32, SETTLED);
-        i += 1;
+    none_of(
+        &mark[..months as usize],
+        |x| ranges::beyond(OPEN, i32::from(*x), SETTLED),
+    )
+}
+
+// Whether none of the items is so. All are looked at, whatever the first ones are, so that several are compared at once.
+pub fn none_of<T, F: Fn(&T) -> bool>(items: &[T], is_so: F) -> bool
+    requires { F.IsAlwaysCallable is_so }
+    ensures { (test : ℕ → Bool) → AnswersNot (FnReturnsAt F.Fn is_so) items.now test → result ≡ all_of test (length items.now) }
+{
+    let mut some = false;
+    for x in items {
+        some |= is_so(x);
     }
-    !bad
+    !some
 }
 
 // What is left of each row: V and the record.
@@ -103,8 +110,7 @@ fn rest_fits(capacity: u32, months: u32, x3: &[i32], records: &[RecordNumbers], 
     requires months_in_bounds { (months ≤ length x3.now) × (months ≤ length records.now) × (months ≤ length v.now) }
     ensures { result ≡ all_of (rest_at capacity x3.now records.now v.now) months }
 {
-    let mut row: u32 = 0;
-    while row < months {
+    for row in 0..months {
         let at = row as usize;
         if !v_fits(row + 1, x3[at], v[at]) {
             return false;
@@ -112,7 +118,6 @@ fn rest_fits(capacity: u32, months: u32, x3: &[i32], records: &[RecordNumbers], 
         if !record_fits(capacity, records::record_at(records, at)) {
             return false;
         }
-        row += 1;
     }
     true
 }
@@ -155,7 +160,7 @@ fn record_fits(capacity: u32, m: Record) -> bool
     if !amounts_fit(capacity, m) {
         return false;
     }
-    if ranges::beyond(0, m.water, HAD_WATER) {
+    if ranges::beyond(0, m.water, WATER) {
         return false;
     }
     if ranges::beyond(LEAST_INDEX, m.modified, MOST_INDEX) {
@@ -171,12 +176,12 @@ fn amounts_fit(capacity: u32, m: Record) -> bool
 {
     let surface = limit(water::surface_holds(capacity));
     let underlying = limit(water::underlying_holds(capacity));
-    let bad = ranges::beyond(0, m.p, MOST_WATER)
-        | ranges::beyond(0, m.pe, MOST_WATER)
-        | ranges::beyond(0, m.et, MOST_WATER)
-        | ranges::beyond(0, m.r, MOST_WATER)
-        | ranges::beyond(0, m.l, MOST_WATER)
-        | ranges::beyond(0, m.ro, MOST_WATER)
+    let bad = ranges::beyond(0, m.p, MOST_READING)
+        | ranges::beyond(0, m.pe, MOST_READING)
+        | ranges::beyond(0, m.et, MOST_READING)
+        | ranges::beyond(0, m.r, MOST_READING)
+        | ranges::beyond(0, m.l, MOST_READING)
+        | ranges::beyond(0, m.ro, MOST_READING)
         | ranges::beyond(0, m.ss, surface)
         | ranges::beyond(0, m.su, underlying);
     if bad {
@@ -194,8 +199,5 @@ pub fn limit(holds: u32) -> i32
     requires { holds ≤ most_capacity }
     ensures { result ≡ pos holds }
 {
-    if holds > MOST_CAPACITY {
-        return MOST_CAPACITY as i32;
-    }
-    holds as i32
+    holds.min(MOST_CAPACITY) as i32
 }

@@ -22,13 +22,7 @@ use water::Soil;
 fn decided(s: Running) -> bool
     ensures { result ≡ decided s }
 {
-    if s.v != 0 {
-        return false;
-    }
-    if s.x1 == 0 {
-        return true;
-    }
-    s.x2 == 0
+    s.v == 0 && (s.x1 == 0 || s.x2 == 0)
 }
 
 // The running values after the month at place i.
@@ -36,15 +30,11 @@ fn values_at(i: usize, x1: &[i32], x2: &[i32], x3: &[i32], v: &[i64]) -> Running
     requires { (i < length x1.now) × (i < length x2.now) × (i < length x3.now) × (i < length v.now) }
     ensures { result ≡ values_at (book x1.now x2.now x3.now [] [] [] v.now) i }
 {
-    let a = x1[i];
-    let b = x2[i];
-    let c = x3[i];
-    let d = v[i];
     Running {
-        x1: a,
-        x2: b,
-        x3: c,
-        v: d,
+        x1: x1[i],
+        x2: x2[i],
+        x3: x3[i],
+        v: v[i],
     }
 }
 
@@ -63,17 +53,14 @@ pub fn reopen(
     ensures value { (records : List (List ℤ)) → result ≡ opens_before (book x1.now x2.now x3.now index.old mark.old records v.now) m }
     ensures v_after { (records : List (List ℤ)) → book x1.now x2.now x3.now index.new mark.new records v.now ≡ reopened (book x1.now x2.now x3.now index.old mark.old records v.now) m }
 {
-    let mut j = m;
-    while 0 < j {
-        let i = j - 1;
+    for i in (0..m).rev() {
         let s = values_at(i, x1, x2, x3, v);
         if decided(s) {
-            return m - j;
+            return m - (i + 1);
         }
         let shown = spells::provisional_of(s);
         index[i] = shown;
         mark[i] = 1;
-        j = i;
     }
     m
 }

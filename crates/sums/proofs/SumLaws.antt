@@ -27,6 +27,16 @@ pub rows_fit : (capacity : ℕ) (records : List (List ℤ)) (at years : ℕ) →
 rows_fit capacity records at years w y b = row_fits capacity (record_at records (at + last_month * y)) w.least w.most (w.given y b)
 
 -- ---- the sums
+-- sums that are each 0
+pub zero-is : (s : Sums) → (s.et ≡ 0) × ((s.pe ≡ 0) × ((s.r ≡ 0) × ((s.pr ≡ 0) × ((s.ro ≡ 0) × ((s.pro ≡ 0) × ((s.l ≡ 0) × (s.pl ≡ 0))))))) → s ≡ no_sums
+zero-is s e = go s.et s.pe s.r s.pr s.ro s.pro s.l s.pl e.0 e.1.0 e.1.1.0 e.1.1.1.0 e.1.1.1.1.0 e.1.1.1.1.1.0 e.1.1.1.1.1.1.0 e.1.1.1.1.1.1.1
+  where
+    go :
+        (et pe r pr ro pro l pl : ℕ) →
+        et ≡ 0 → pe ≡ 0 → r ≡ 0 → pr ≡ 0 → ro ≡ 0 → pro ≡ 0 → l ≡ 0 → pl ≡ 0 →
+        ◌≡◌ {A = Sums} (record { et = et; pe = pe; r = r; pr = pr; ro = ro; pro = pro; l = l; pl = pl }) no_sums
+    go et pe r pr ro pro l pl a b c d e f g h = rw (a, b, c, d, e, f, g, h) refl
+
 none-fit : SumsFit no_sums 0
 none-fit =
     record {

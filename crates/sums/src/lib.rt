@@ -20,7 +20,7 @@ const ONE: u64 = 10_000;
 
 // ET and PE, R and PR, RO and PRO, L and PL, each summed over the years.
 #[repr(C)]
-#[derive(Clone, Copy)]
+#[derive(Clone, Copy, Default)]
 pub struct Sums {
     pub et: u32,
     pub pe: u32,
@@ -58,22 +58,11 @@ pub fn sums_of(capacity: u32, at: usize, years: u32, records: &[RecordNumbers]) 
     requires { Watered capacity records.now at years }
     ensures { result ≡ sums_of (row_in capacity records.now at) years }
 {
-    let mut s = Sums {
-        et: 0,
-        pe: 0,
-        r: 0,
-        pr: 0,
-        ro: 0,
-        pro: 0,
-        l: 0,
-        pl: 0,
-    };
-    let mut y: u32 = 0;
-    while y < years {
+    let mut s = Sums::default();
+    for y in 0..years {
         let row = at + (LAST_MONTH * y) as usize;
         let w = given_rows::water_at(capacity, row, records);
         s = plus(s, w);
-        y += 1;
     }
     with_pr(s, capacity * years)
 }
@@ -84,14 +73,8 @@ fn with_pr(s: Sums, whole: u32) -> Sums
     ensures { result ≡ with_pr s (whole - s.pro) }
 {
     Sums {
-        et: s.et,
-        pe: s.pe,
-        r: s.r,
         pr: whole - s.pro,
-        ro: s.ro,
-        pro: s.pro,
-        l: s.l,
-        pl: s.pl,
+        ..s
     }
 }
 

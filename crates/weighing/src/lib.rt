@@ -3,14 +3,17 @@
 // For the crate `constants`, which holds the rows, the lists and the weights in range: what has a `requires` is for it alone.
 #![tactic(auto)]
 
-ghost use Rattle.std.specs.Prelude.{◌≡◌, true, ◌+◌, ◌*◌, ◌≤◌, length};
+ghost use Rattle.std.specs.Prelude.{◌≡◌, true, cond, not, ◌&&◌, ◌+◌, ◌*◌, ◌≤◌, pos, length, OnOk};
+ghost use Rattle.std.specs.Int.Signed.{le_z};
+ghost use Rattle.outline.specs.Refusals.{bad_gamma, bad_k};
+ghost use Rattle.outline.specs.Refused.{answer_number};
 ghost use Rattle.outline.specs.Numbers.{most_months, many_constants, many_of_a_month, last_month};
 ghost use Rattle.water.specs.Constants.{most_k};
 ghost use Rattle.water.specs.Bounds.{ConstantsFit};
 ghost use Rattle.weighing.specs.Weighing.{span, shares_in, departure_in, gammas_fit, weight_at, weights_fit, products, ks_fit};
 ghost use Rattle.weighing.specs.Stores.{with_four, fours_to, means_to, ks_to, most_product, Years};
 
-use outline::{MANY_CONSTANTS, MANY_OF_A_MONTH};
+use outline::{MANY_CONSTANTS, MANY_OF_A_MONTH, Refusal};
 use ranges::{MOST_GAMMA, MOST_K};
 use records::RecordNumbers;
 use water::Constants;
@@ -35,13 +38,12 @@ pub fn weights_fit(weights: &[i32]) -> bool
     requires { length weights.now ≡ last_month }
     ensures { result ≡ weights_fit weights.now last_month }
 {
-    let mut bad = false;
-    let mut m = 0;
-    while m < MANY_MONTHS {
-        bad = bad | ranges::beyond(0, weights[m], MOST_K);
-        m += 1;
-    }
-    !bad
+    kept_rows::none_of(
+        weights,
+        |w: &i32| -> bool
+            ensures { result ≡ not (le_z (pos 0) w.now && le_z w.now (pos most_k)) }
+        { ranges::beyond(0, *w, MOST_K) },
+    )
 }
 
 // Four of a month's five constants, put at their places.
@@ -55,7 +57,7 @@ fn put_four(set: &mut [i32; MANY_CONSTANTS], at: usize, k: Constants)
     set[at + 3] = k.delta as i32;
 }
 
-// Four of each month's five constants and D of each month, until a gamma is out of its range.
+// Four of each month's five constants and D of each month, unless a gamma is out of its range: 19.
 pub fn put_shares(
     capacity: u32,
     first: usize,
@@ -63,26 +65,24 @@ pub fn put_shares(
     records: &[RecordNumbers],
     set: &mut [i32; MANY_CONSTANTS],
     means: &mut [u32; MANY_MONTHS],
-) -> bool
+) -> Result<(), Refusal>
     requires { (first ≤ most_months) × Years capacity records.now first years }
-    ensures value { result ≡ gammas_fit (span capacity records.now first years) last_month }
-    ensures set_after { result ≡ true → set.new ≡ fours_to (shares_in (span capacity records.now first years)) set.old last_month }
-    ensures means_after { result ≡ true → means.new ≡ means_to (departure_in (span capacity records.now first years)) means.old last_month }
+    ensures value { answer_number result ≡ cond (gammas_fit (span capacity records.now first years) last_month) 0 bad_gamma }
+    ensures set_after { OnOk result (set.new ≡ fours_to (shares_in (span capacity records.now first years)) set.old last_month) }
+    ensures means_after { OnOk result (means.new ≡ means_to (departure_in (span capacity records.now first years)) means.old last_month) }
 {
-    let mut m = 0;
-    while m < MANY_MONTHS {
+    for m in 0..MANY_MONTHS {
         let at = first + m;
         let s = sums::sums_of(capacity, at, years, records);
         if sums::gamma_of(s) > MOST_GAMMA as u64 {
-            return false;
+            return Err(Refusal::BadGamma);
         }
         let k = sums::shares_of(s);
         let d = departures::mean_of(k, capacity, at, years, records);
         means[m] = d;
         put_four(set, MANY_OF_A_MONTH * m, k);
-        m += 1;
     }
-    true
+    Ok(())
 }
 
 // D times weight, which 64 bits hold.
@@ -99,28 +99,24 @@ pub fn products(means: &[u32; MANY_MONTHS], weights: &[i32]) -> u64
     ensures { result ≡ products means.now weights.now last_month }
 {
     let mut sum: u64 = 0;
-    let mut m = 0;
-    while m < MANY_MONTHS {
+    for m in 0..MANY_MONTHS {
         sum += product(means[m], weight_at(weights, m));
-        m += 1;
     }
     sum
 }
 
-// Each month's K by its weight, put at its place, until one is out of its range.
-pub fn put_ks(total: u64, weights: &[i32], set: &mut [i32; MANY_CONSTANTS]) -> bool
+// Each month's K by its weight, put at its place, unless one is out of its range: 20.
+pub fn put_ks(total: u64, weights: &[i32], set: &mut [i32; MANY_CONSTANTS]) -> Result<(), Refusal>
     requires { (length weights.now ≡ last_month) × (weights_fit weights.now last_month ≡ true) }
-    ensures value { result ≡ ks_fit total weights.now last_month }
-    ensures set_after { result ≡ true → set.new ≡ ks_to total weights.now set.old last_month }
+    ensures value { answer_number result ≡ cond (ks_fit total weights.now last_month) 0 bad_k }
+    ensures set_after { OnOk result (set.new ≡ ks_to total weights.now set.old last_month) }
 {
-    let mut m = 0;
-    while m < MANY_MONTHS {
+    for m in 0..MANY_MONTHS {
         let k = exact::nearest_unsigned(WHOLE * weight_at(weights, m), total);
         if k > MOST_K as u64 {
-            return false;
+            return Err(Refusal::BadK);
         }
         set[MANY_OF_A_MONTH * m + 4] = k as i32;
-        m += 1;
     }
-    true
+    Ok(())
 }

@@ -35,11 +35,9 @@ pub fn all_water(first: u32, many: u32, records: &[RecordNumbers]) -> bool
     ensures { result ≡ all_water records.now first many }
 {
     let mut bad = false;
-    let mut k: u32 = 0;
-    while k < many {
+    for k in 0..many {
         let m = records::record_at(records, (first + k) as usize);
-        bad = bad | (m.water != WATER);
-        k += 1;
+        bad |= m.water != WATER;
     }
     !bad
 }

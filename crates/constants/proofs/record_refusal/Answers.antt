@@ -1,54 +1,58 @@
 -- `constants::record_refusal` meets its contract: 1 and 7, each way by its tests. Assumes nothing.
+use Rattle.std.proofs.lemmas.Result.{err_from_is_err_and}
 use mathlib.Core.Path.{◌≡◌, sym, ◌∙◌}
+use Prim.Native.Nat.{ℕ}
 use native.Mathlib.Omega.{arith}
 use Rattle.runs.specs.Progress.{run_of}
 use Rattle.runs.specs.declared.Run.{Run}
-use Rattle.refusals.specs.Book.{Book, book}
+use Rattle.refusals.specs.Book.{Book}
+use Rattle.refusals.specs.Lists.{read}
+use Rattle.refusals.specs.Lent.{lent_long, run_refusal_for}
+use Rattle.outline.proofs.Refused.{number-ne-zero}
 use Rattle.refusals.specs.Good.{Good}
 use Rattle.refusals.specs.Refusals.{run_refusal}
 use Rattle.refusals.proofs.Refused.{run-passes, columns_are}
 use Rattle.refusals.proofs.Lent.{lent-records, run_lent}
 use Rattle.constants.proofs.Passes.{run-refuses, rows-refuse, rows_pass, run_is}
 use Rattle.constants.proofs.record_refusal.Goals as goal
-use Rattle.constants.proofs.record_refusal.Goals.{Start, After-run_refusal-number}
+use Rattle.constants.proofs.record_refusal.Goals.{Start}
 
 abbrev lent : Start → Book
-lent s = let a = s.args in book a.x1.now a.x2.now a.x3.now a.index.now a.mark.now a.records.now a.v.now
+lent s = read s.args.rows.now
 
 abbrev given : Start → Run
 given s = run_of s.args.at s.args.constants.now
 
-pub run_refusal-number-requires : goal.run_refusal-number-requires
-run_refusal-number-requires c = rw c.lent_length-long.ensures (lent-records (lent (goal.at.run_refusal-number-requires c).Start))
+pub run_refusal-requires : goal.run_refusal-requires
+run_refusal-requires c = rw c.lent_length-long.ensures (lent-records (lent (goal.at.run_refusal-requires c).Start))
 
-number_is : (q : After-run_refusal-number) → let a = q.args in q.run_refusal-number.result ≡ run_refusal (run_of a.at a.constants.now) (book a.x1.now a.x2.now a.x3.now a.index.now a.mark.now a.records.now a.v.now)
-number_is q =
-    let a = q.args in
-    (rw q.lent_length-long.ensures at q.run_refusal-number.ensures) ∙ run_lent (book a.x1.now a.x2.now a.x3.now a.index.now a.mark.now a.records.now a.v.now) (run_of a.at a.constants.now)
+number_is : (s : Start) (long n : ℕ) → long ≡ lent_long (lent s) → n ≡ run_refusal_for long (given s) s.args.rows.now.records.now → n ≡ run_refusal (given s) (lent s)
+number_is s long n l e = (rw l at e) ∙ run_lent (lent s) (given s)
 
-pub returns-then-number-ne0 : goal.returns-then-number-ne0
-returns-then-number-ne0 c =
-    let at = goal.at.returns-then-number-ne0 c in
-    let e = number_is at.After-run_refusal-number in
-    e ∙ run-refuses (given at.Start) (lent at.Start) (λ z. c.if-number-ne0.true (e ∙ z))
+pub returns-in_err-run_refusal : goal.returns-in_err-run_refusal
+returns-in_err-run_refusal c =
+    let s = (goal.at.returns-in_err-run_refusal c).Start in
+    let e = number_is s c.lent_length-long.result _ c.lent_length-long.ensures c.in_err-run_refusal.ensures in
+    let p = err_from_is_err_and c.from_residual.result c.from_residual.ensures.1 in
+    rw (p.1, p.2) (e ∙ run-refuses (given s) (lent s) (λ z. number-ne-zero _ (e ∙ z)))
 
--- a run that is theirs, where the number is 0
-good : (q : After-run_refusal-number) → q.run_refusal-number.result ≡ 0 → let a = q.args in Good (run_of a.at a.constants.now) (book a.x1.now a.x2.now a.x3.now a.index.now a.mark.now a.records.now a.v.now)
-good q z = let a = q.args in run-passes (run_of a.at a.constants.now) (book a.x1.now a.x2.now a.x3.now a.index.now a.mark.now a.records.now a.v.now) (sym (number_is q) ∙ z)
+-- a run that is theirs, where none is refused
+good : (s : Start) (long : ℕ) → long ≡ lent_long (lent s) → 0 ≡ run_refusal_for long (given s) s.args.rows.now.records.now → Good (given s) (lent s)
+good s long l e = run-passes (given s) (lent s) (sym (number_is s long 0 l e))
 
 pub rows_given-requires : goal.rows_given-requires
 rows_given-requires c =
-    let at = goal.at.rows_given-requires c in
-    let g = good at.After-run_refusal-number c.if-number-ne0.false in
-    let f = run_is (given at.Start) (lent at.Start) g in
-    (f.soil.least, f.soil.most, omega (arith, f.months, (columns_are (lent at.Start) g.fit).records_is))
+    let s = (goal.at.rows_given-requires c).Start in
+    let g = good s c.lent_length-long.result c.lent_length-long.ensures c.in_ok-run_refusal.ensures in
+    let f = run_is (given s) (lent s) g in
+    (f.soil.least, f.soil.most, omega (arith, f.months, (columns_are (lent s) g.fit).records_is))
 
 pub returns-then-not-rows_given : goal.returns-then-not-rows_given
 returns-then-not-rows_given c =
-    let at = goal.at.returns-then-not-rows_given c in
-    rows-refuse (given at.Start) (lent at.Start) (good at.After-run_refusal-number c.if-number-ne0.false) (sym c.rows_given.ensures ∙ c.if-not-rows_given.true)
+    let s = (goal.at.returns-then-not-rows_given c).Start in
+    rows-refuse (given s) (lent s) (good s c.lent_length-long.result c.lent_length-long.ensures c.in_ok-run_refusal.ensures) (sym c.rows_given.ensures ∙ c.if-not-rows_given.true)
 
 pub returns : goal.returns
 returns c =
-    let at = goal.at.returns c in
-    rows_pass (given at.Start) (lent at.Start) (good at.After-run_refusal-number c.if-number-ne0.false) (sym c.rows_given.ensures ∙ c.if-not-rows_given.false)
+    let s = (goal.at.returns c).Start in
+    rows_pass (given s) (lent s) (good s c.lent_length-long.result c.lent_length-long.ensures c.in_ok-run_refusal.ensures) (sym c.rows_given.ensures ∙ c.if-not-rows_given.false)

@@ -1,17 +1,15 @@
 -- `departures::departure_of` meets its contract. P and CAFEC are bounded, so that the machine's difference is the number, and its size fits a `u32`.
 -- Assumes nothing.
 use mathlib.Core.Path.{◌≡◌, ap, ap₂, ◌∙◌}
-use mathlib.Core.Bool.{true, false}
 use Prim.Native.Nat.{◌≤◌}
 use native.Mathlib.Nat.{lt_of_le_of_lt}
 use native.Mathlib.Omega.{arith}
-use lib.Dec.{T, lit<}
+use lib.Dec.{lit<}
 use lib.IntN.{ℤ, pos, nat_abs, ◌-ℤ◌}
-use lib.Signed.{lt_z, non_neg}
 use mir.Syntax.{w32, w64}
 use mir.Val.{Fits, SFits, to_z, of_z}
 use mir.Facts.{to_z-of_z, to_z_pos}
-use Rattle.exact.proofs.Z.{zs, zs-abs, is-Z, fits-within}
+use Rattle.exact.proofs.Z.{fits-within}
 use Rattle.water.specs.Expected.{n_of, cafec_of}
 use Rattle.water.proofs.WaterLaws.{potential-shares, potential-loss}
 use Rattle.sums.specs.Sums.{potentials_in}
@@ -23,16 +21,6 @@ use Rattle.departures.specs.Departures.{expected_in, departure_of}
 use Rattle.departures.proofs.DepartureLaws.{most_departure, short-most, wanted-most, expected-most}
 use Rattle.departures.proofs.departure_of.Goals as goal
 use Rattle.departures.proofs.departure_of.Goals.{After-n_of-n, After-cafec_of}
-
--- a number below 0 turned is above 0, and of the same size
-turned_same : (x : ℤ) → nat_abs (pos 0 -ℤ x) ≡ nat_abs x
-turned_same x = rw (is-Z x) (simp zs-abs (omega arith))
-
-turned-above : (x : ℤ) → lt_z x (pos 0) ≡ true → T (non_neg (pos 0 -ℤ x))
-turned-above x = rw (is-Z x) (simp zs (omega arith))
-
-above : (x : ℤ) → lt_z x (pos 0) ≡ false → T (non_neg x)
-above x = rw (is-Z x) (simp zs (omega arith))
 
 fits : (x : ℤ) → nat_abs x ≤ most_departure → Fits w32 (nat_abs x)
 fits x h = omega arith
@@ -54,15 +42,9 @@ module _ (k : Constants) (w : WaterRow) (kf : ConstantsFit k) (rf : RowFits w) (
   read-fits : SFits w64 read
   read-fits = rw read_is (fits-within w64 short most_departure small (lit< tt))
 
-  -- read back, and turned
+  -- read back
   held-is : to_z w64 (of_z w64 read) ≡ short
   held-is = to_z-of_z read-fits ∙ read_is
-
-  turned-fits : SFits w64 (pos 0 -ℤ short)
-  turned-fits = fits-within w64 (pos 0 -ℤ short) most_departure (rw (turned_same short) small) (lit< tt)
-
-  turned-is : to_z w64 (of_z w64 (pos 0 -ℤ to_z w64 (of_z w64 read))) ≡ pos 0 -ℤ short
-  turned-is = rw held-is (to_z-of_z turned-fits)
 
 pub n_of-n-requires : goal.n_of-n-requires
 n_of-n-requires c =
@@ -96,13 +78,6 @@ overflow_sub-short c =
     let at = (goal.at.overflow_sub-short c).After-cafec_of in
     read-fits c.args.k c.args.w c.requires.constants_fit c.requires.row_fits c.cafec_of.result (cafec-fits at) (cafec-is at)
 
-pub overflow_sub-result : goal.overflow_sub-result
-overflow_sub-result c =
-    let at = (goal.at.overflow_sub-result c).After-cafec_of in
-    let kf = c.requires.constants_fit in
-    let rf = c.requires.row_fits in
-    rw (held-is c.args.k c.args.w kf rf c.cafec_of.result (cafec-fits at) (cafec-is at)) (turned-fits c.args.k c.args.w kf rf c.cafec_of.result (cafec-fits at) (cafec-is at))
-
 pub overflow_cast-result : goal.overflow_cast-result
 overflow_cast-result c =
     let at = (goal.at.overflow_cast-result c).After-cafec_of in
@@ -112,30 +87,12 @@ overflow_cast-result c =
     let x = c.cafec_of.result in
     let e = cafec-is at in
     let fx = cafec-fits at in
-    let d = pos a.w.p -ℤ expected_in a.k a.w in
-    rw (turned-is a.k a.w kf rf x fx e) (turned-above d (rw (held-is a.k a.w kf rf x fx e) at c.if-short-lt0.true), rw (turned_same d) (fits d (small a.k a.w kf rf x fx e)))
+    let size = rw (held-is a.k a.w kf rf x fx e) at c.unsigned_abs.ensures.value in
+    rw size (fits (pos a.w.p -ℤ expected_in a.k a.w) (small a.k a.w kf rf x fx e))
 
-pub overflow_cast-result-else-short-lt0 : goal.overflow_cast-result-else-short-lt0
-overflow_cast-result-else-short-lt0 c =
-    let at = (goal.at.overflow_cast-result-else-short-lt0 c).After-cafec_of in
-    let a = c.args in
-    let kf = c.requires.constants_fit in
-    let rf = c.requires.row_fits in
-    let x = c.cafec_of.result in
-    let e = cafec-is at in
-    let fx = cafec-fits at in
-    let d = pos a.w.p -ℤ expected_in a.k a.w in
-    rw (held-is a.k a.w kf rf x fx e) (above d (rw (held-is a.k a.w kf rf x fx e) at c.if-short-lt0.false), fits d (small a.k a.w kf rf x fx e))
-
-pub returns-then-short-lt0 : goal.returns-then-short-lt0
+pub returns : goal.returns
 unfolding departure_of
-returns-then-short-lt0 c =
-    let at = (goal.at.returns-then-short-lt0 c).After-cafec_of in
+returns c =
+    let at = (goal.at.returns c).After-cafec_of in
     let a = c.args in
-    rw (turned-is a.k a.w c.requires.constants_fit c.requires.row_fits c.cafec_of.result (cafec-fits at) (cafec-is at)) (turned_same (pos a.w.p -ℤ expected_in a.k a.w))
-
-pub returns-else-short-lt0 : goal.returns-else-short-lt0
-unfolding departure_of
-returns-else-short-lt0 c =
-    let at = (goal.at.returns-else-short-lt0 c).After-cafec_of in
-    rw (held-is c.args.k c.args.w c.requires.constants_fit c.requires.row_fits c.cafec_of.result (cafec-fits at) (cafec-is at))
+    rw (held-is a.k a.w c.requires.constants_fit c.requires.row_fits c.cafec_of.result (cafec-fits at) (cafec-is at)) at c.unsigned_abs.ensures.value

@@ -23,10 +23,10 @@ fit s = let a = s.args in rows_fit a.capacity a.records.now a.at a.years s.requi
 next-is : (c : After-departure_of-sum) → let a = c.args in c.loop-y.sum + c.departure_of-sum.result ≡ departures_of a.k (row_in a.capacity a.records.now a.at) (c.loop-y.y + 1)
 next-is c =
     let a = c.args in
-    ap₂ ◌+◌ c.loop-y.invariant.1 (c.departure_of-sum.ensures ∙ ap (departure_of c.args.k) c.water_at-w.ensures) ∙ sym (departures-more c.args.k (row_in a.capacity a.records.now a.at) c.loop-y.y)
+    ap₂ ◌+◌ c.loop-y.invariant (c.departure_of-sum.ensures ∙ ap (departure_of c.args.k) c.water_at-w.ensures) ∙ sym (departures-more c.args.k (row_in a.capacity a.records.now a.at) c.loop-y.y)
 
 pub loop-y-init : goal.loop-y-init
-loop-y-init c = (omega arith, sym (departures-none c.args.k (row c)))
+loop-y-init c = sym (departures-none c.args.k (row c))
 
 pub overflow_mul-row : goal.overflow_mul-row
 overflow_mul-row c = let w = c.requires.watered in omega arith
@@ -53,16 +53,10 @@ overflow_add-sum c =
     let m = departures-most c.args.k (row at.Start) (c.loop-y.y + 1) c.requires.constants_fit (λ i b. fit at.Start i (omega arith)) in
     omega arith
 
-pub overflow_add-y : goal.overflow_add-y
-overflow_add-y c = omega arith
-
-pub loop-y-smaller : goal.loop-y-smaller
-loop-y-smaller c = omega arith
-
 pub loop-y-preserved : goal.loop-y-preserved
-loop-y-preserved c = (omega arith, next-is (goal.at.loop-y-preserved c).After-departure_of-sum)
+loop-y-preserved c = next-is (goal.at.loop-y-preserved c).After-departure_of-sum
 
 pub returns : goal.returns
 returns c =
     let e : c.loop-y.y ≡ c.args.years = omega arith in
-    rw e at c.loop-y.invariant.1
+    rw e at c.loop-y.invariant

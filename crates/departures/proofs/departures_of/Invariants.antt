@@ -1,11 +1,7 @@
 use mathlib.Core.Path.{◌≡◌}
-use Prim.Native.Nat.{◌-◌, ◌≤◌}
 use Rattle.sums.specs.Sums.{row_in}
 use Rattle.departures.specs.Departures.{departures_of}
 use Rattle.departures.proofs.departures_of.Given as goal
 
 abbrev pub invariant-loop-y : goal.invariant-loop-y
-invariant-loop-y l = (l.y ≤ l.years) × (l.sum ≡ departures_of l.k (row_in l.capacity l.records l.at) l.y)
-
-abbrev pub decreases-loop-y : goal.decreases-loop-y
-decreases-loop-y l = l.years - l.y
+invariant-loop-y l = l.sum ≡ departures_of l.k (row_in l.capacity l.records l.at) l.y

@@ -1,5 +1,4 @@
 -- `given_rows::rows_given` meets its contract. The loop's invariant: each row passed is given. Assumes nothing.
-use borrow.Author.Rules.{rules}
 use mathlib.Core.Path.{◌≡◌, sym, ◌∙◌}
 use mathlib.Core.Bool.{Bool}
 use Prim.Native.Nat.{ℕ}
@@ -17,10 +16,7 @@ row_is : (c : After-row_given) → c.row_given.result ≡ test c.before.before.b
 row_is c = c.row_given.ensures
 
 pub loop-row-init : goal.loop-row-init
-loop-row-init c = (omega arith, all_none (test c))
-
-pub overflow_cast-row : goal.overflow_cast-row
-overflow_cast-row c = search rules
+loop-row-init c = all_none (test c)
 
 pub row_given-requires : goal.row_given-requires
 row_given-requires c = (c.requires.0, c.requires.1, omega arith)
@@ -29,17 +25,11 @@ pub returns-then-not-row_given : goal.returns-then-not-row_given
 returns-then-not-row_given c =
     sym (all-spoilt (test c.before.before.before.before) c.args.months c.loop-row.row (omega arith) (sym (row_is c.before) ∙ c.if-not-row_given.true))
 
-pub overflow_add-row : goal.overflow_add-row
-overflow_add-row c = omega arith
-
-pub loop-row-smaller : goal.loop-row-smaller
-loop-row-smaller c = omega arith
-
 pub loop-row-preserved : goal.loop-row-preserved
 loop-row-preserved c =
-    (omega arith, all_more (test c.before.before.before.before) c.loop-row.row c.loop-row.invariant.1 (sym (row_is c.before) ∙ c.if-not-row_given.false))
+    all_more (test c.before.before.before.before) c.loop-row.row c.loop-row.invariant (sym (row_is c.before) ∙ c.if-not-row_given.false)
 
 pub returns : goal.returns
 returns c =
     let e : c.loop-row.row ≡ c.args.months = omega arith in
-    sym (rw e at c.loop-row.invariant.1)
+    sym (rw e at c.loop-row.invariant)

@@ -33,7 +33,7 @@ module _ (capacity : ℕ) (x3 : List ℤ) (records : List (List ℤ)) (v : List 
   row-passes p q = both p q
 
 pub loop-row-init : goal.loop-row-init
-loop-row-init c = let a = c.args in (omega arith, all_none (rest_at a.capacity a.x3.now a.records.now a.v.now))
+loop-row-init c = let a = c.args in all_none (rest_at a.capacity a.x3.now a.records.now a.v.now)
 
 pub overflow_add-row : goal.overflow_add-row
 overflow_add-row c = omega arith
@@ -63,12 +63,6 @@ returns-then-not-record_fits c =
     let r = sym (rw c.record_at.ensures at c.record_fits.ensures) ∙ c.if-not-record_fits.true in
     sym (all-spoilt (rest_at a.capacity a.x3.now a.records.now a.v.now) a.months i (omega arith) (record-spoils a.capacity a.x3.now a.records.now a.v.now i r))
 
-pub overflow_add-row-in-loop-row : goal.overflow_add-row-in-loop-row
-overflow_add-row-in-loop-row c = omega arith
-
-pub loop-row-smaller : goal.loop-row-smaller
-loop-row-smaller c = omega arith
-
 pub loop-row-preserved : goal.loop-row-preserved
 loop-row-preserved c =
     let a = c.args in
@@ -77,9 +71,9 @@ loop-row-preserved c =
     let g : SFits w64 (get_or a.v.now i (pos 0)) = search rules in
     let v = sym (rw (to_z-of_z f, to_z-of_z g, add-one i) at c.v_fits.ensures) ∙ c.if-not-v_fits.false in
     let r = sym (rw c.record_at.ensures at c.record_fits.ensures) ∙ c.if-not-record_fits.false in
-    (omega arith, all_more (rest_at a.capacity a.x3.now a.records.now a.v.now) i c.loop-row.invariant.1 (row-passes a.capacity a.x3.now a.records.now a.v.now i v r))
+    all_more (rest_at a.capacity a.x3.now a.records.now a.v.now) i c.loop-row.invariant (row-passes a.capacity a.x3.now a.records.now a.v.now i v r)
 
 pub returns : goal.returns
 returns c =
     let e : c.loop-row.row ≡ c.args.months = omega arith in
-    sym (rw e at c.loop-row.invariant.1)
+    sym (rw e at c.loop-row.invariant)

@@ -1,13 +1,9 @@
 -- What is left of each row passed fits. Assumes nothing.
 use mathlib.Core.Path.{◌≡◌}
 use mathlib.Core.Bool.{true}
-use Prim.Native.Nat.{◌-◌, ◌≤◌}
 use Rattle.outline.specs.Every.{all_of}
 use Rattle.kept_rows.specs.Lists.{rest_at}
 use Rattle.kept_rows.proofs.rest_fits.Given as goal
 
 abbrev pub invariant-loop-row : goal.invariant-loop-row
-invariant-loop-row l = (l.row ≤ l.months) × (all_of (rest_at l.capacity l.x3 l.records l.v) l.row ≡ true)
-
-abbrev pub decreases-loop-row : goal.decreases-loop-row
-decreases-loop-row l = l.months - l.row
+invariant-loop-row l = all_of (rest_at l.capacity l.x3 l.records l.v) l.row ≡ true

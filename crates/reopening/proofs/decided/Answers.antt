@@ -2,7 +2,7 @@
 use mathlib.Core.Path.{◌≡◌, ap, ◌∙◌}
 use mathlib.Core.Bool.{true, false}
 use borrow.Author.Rules.{rules}
-use borrow.Author.Tests.{eqb-true, eqb-false}
+use borrow.Author.Tests.{eqb-true, eqb-false, eq-eqb, ne_eqb}
 use lib.Dec.{eqb}
 use lib.IntN.{ℤ, pos}
 use mir.Syntax.{w32, w64}
@@ -35,19 +35,19 @@ module _ (s : Running) where
   unfolding decided
   x1-some h g = rw (zero_is s.v h, zero-not s.x1 g)
 
-pub returns-then-s-ne0 : goal.returns-then-s-ne0
-returns-then-s-ne0 c = v-some c.args.s (λ e. c.if-s-ne0.true (ap (of_z w64) e))
+pub returns-else-s-eq0 : goal.returns-else-s-eq0
+returns-else-s-eq0 c = ne_eqb _ 0 c.if-s-eq0.false ∙ v-some c.args.s (λ e. c.if-s-eq0.false (ap (of_z w64) e))
 
-pub returns-then-s-eq0 : goal.returns-then-s-eq0
-returns-then-s-eq0 c =
+pub returns-then-s-eq0-2 : goal.returns-then-s-eq0-2
+returns-then-s-eq0-2 c =
     let s = c.args.s in
     let f : SFits w64 s.v = search rules in
     let g : SFits w32 s.x1 = search rules in
-    x1-none s (same_bits {y = pos 0} f (sfits_lit tt) c.if-s-ne0.false) (same_bits {y = pos 0} g (sfits_lit tt) c.if-s-eq0.true)
+    eq-eqb _ 0 c.if-s-eq0-2.true ∙ x1-none s (same_bits {y = pos 0} f (sfits_lit tt) c.if-s-eq0.true) (same_bits {y = pos 0} g (sfits_lit tt) c.if-s-eq0-2.true)
 
-pub returns : goal.returns
-returns c =
+pub returns-else-s-eq0-2 : goal.returns-else-s-eq0-2
+returns-else-s-eq0-2 c =
     let s = c.args.s in
     let f : SFits w64 s.v = search rules in
     let g : SFits w32 s.x2 = search rules in
-    bits-zero s.x2 g ∙ x1-some s (same_bits {y = pos 0} f (sfits_lit tt) c.if-s-ne0.false) (λ e. c.if-s-eq0.false (ap (of_z w32) e))
+    bits-zero s.x2 g ∙ x1-some s (same_bits {y = pos 0} f (sfits_lit tt) c.if-s-eq0.true) (λ e. c.if-s-eq0-2.false (ap (of_z w32) e))

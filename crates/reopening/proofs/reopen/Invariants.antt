@@ -1,19 +1,14 @@
--- The months from j up to m are open again, whatever the records are (`Going`). Assumes nothing.
+-- The months from i up to m are open again, whatever the records are (`Going`). Assumes nothing.
 use mathlib.Core.Path.{◌≡◌}
 use mathlib.Core.List.{List}
-use Prim.Native.Nat.{◌≤◌}
 use lib.IntN.{ℤ}
 use lib.ListN.{length}
 use Rattle.refusals.specs.Book.{book}
 use Rattle.reopening.proofs.Back.{Going}
 use Rattle.reopening.proofs.reopen.Given as goal
 
-abbrev pub invariant-loop-j : goal.invariant-loop-j
-invariant-loop-j l =
-    (l.j ≤ l.m)
-    × (length l.index ≡ length l.initial.index)
+abbrev pub invariant-loop-i : goal.invariant-loop-i
+invariant-loop-i l =
+    (length l.index ≡ length l.initial.index)
     × (length l.mark ≡ length l.initial.mark)
-    × ((records : List (List ℤ)) → Going (book l.x1 l.x2 l.x3 l.initial.index l.initial.mark records l.v) l.m l.index l.mark l.j)
-
-abbrev pub decreases-loop-j : goal.decreases-loop-j
-decreases-loop-j l = l.j
+    × ((records : List (List ℤ)) → Going (book l.x1 l.x2 l.x3 l.initial.index l.initial.mark records l.v) l.m l.index l.mark l.i)

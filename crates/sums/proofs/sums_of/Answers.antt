@@ -8,7 +8,7 @@ use Rattle.given_rows.specs.Facts.{RowFits}
 use Rattle.given_rows.specs.declared.WaterRow.{WaterRow}
 use Rattle.sums.specs.Sums.{row_in, sums_of}
 use Rattle.sums.specs.SumsFit.{without_pr, most_before}
-use Rattle.sums.proofs.SumLaws.{rows_fit, sums_none, sums-more, pr-rest, sums-fit, fit-within}
+use Rattle.sums.proofs.SumLaws.{zero-is, rows_fit, sums_none, sums-more, pr-rest, sums-fit, fit-within}
 use Rattle.sums.proofs.sums_of.Goals as goal
 use Rattle.sums.proofs.sums_of.Goals.{Start, After-loop-y}
 
@@ -20,7 +20,8 @@ fits : (c : Start) (y : ℕ) → y < c.args.years → RowFits (row c y)
 fits c = rows_fit c.args.capacity c.args.records.now c.args.at c.args.years c.requires
 
 pub loop-y-init : goal.loop-y-init
-loop-y-init c = (omega arith, sums_none (row c))
+loop-y-init c =
+    zero-is c.default-s.result c.default-s.ensures ∙ sums_none (row (goal.at.loop-y-init c).Start)
 
 pub overflow_mul-row : goal.overflow_mul-row
 overflow_mul-row c = omega (arith, c.requires.few)
@@ -36,25 +37,19 @@ pub plus-s-requires : goal.plus-s-requires
 plus-s-requires c =
     let st = (goal.at.plus-s-requires c).Start in
     record {
-      within = rw c.loop-y.invariant.1 (fit-within (sums_of (row st) c.loop-y.y) c.loop-y.y most_before (omega (arith, c.requires.few)) (sums-fit (row st) c.loop-y.y (λ y b. fits st y (omega arith))));
+      within = rw c.loop-y.invariant (fit-within (sums_of (row st) c.loop-y.y) c.loop-y.y most_before (omega (arith, c.requires.few)) (sums-fit (row st) c.loop-y.y (λ y b. fits st y (omega arith))));
       row_fits = rw c.water_at-w.ensures (fits st c.loop-y.y c.loop-y-test.true);
     }
 
-pub overflow_add-y : goal.overflow_add-y
-overflow_add-y c = omega arith
-
-pub loop-y-smaller : goal.loop-y-smaller
-loop-y-smaller c = omega arith
-
 pub loop-y-preserved : goal.loop-y-preserved
 loop-y-preserved c =
-    (omega arith, sums-more (row (goal.at.loop-y-preserved c).Start) c.loop-y.y c.loop-y.s c.plus-s.result c.loop-y.invariant.1 (rw c.water_at-w.ensures at c.plus-s.ensures))
+    sums-more (row (goal.at.loop-y-preserved c).Start) c.loop-y.y c.loop-y.s c.plus-s.result c.loop-y.invariant (rw c.water_at-w.ensures at c.plus-s.ensures)
 
 -- after the last year
 done : (c : After-loop-y) → c.loop-y.s ≡ without_pr (sums_of (row_in c.args.capacity c.args.records.now c.args.at) c.args.years)
 done c =
     let e : c.loop-y.y ≡ c.args.years = omega arith in
-    rw e at c.loop-y.invariant.1
+    rw e at c.loop-y.invariant
 
 shared : (c : Start) → let t = sums_of (row c) c.args.years in t.pr + t.pro ≡ c.args.capacity * c.args.years
 shared c = pr-rest (row c) c.args.capacity (λ y. refl) c.args.years (fits c)

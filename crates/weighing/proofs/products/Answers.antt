@@ -9,7 +9,7 @@ use Rattle.weighing.proofs.WeightLaws.{weight-most, products-none, products-more
 use Rattle.weighing.proofs.products.Goals as goal
 
 pub loop-m-init : goal.loop-m-init
-loop-m-init c = (omega arith, sym (products-none c.args.means.now c.args.weights.now), omega arith)
+loop-m-init c = (sym (products-none c.args.means.now c.args.weights.now), omega arith)
 
 pub offset_bounds-means-m : goal.offset_bounds-means-m
 offset_bounds-means-m c = omega arith
@@ -25,24 +25,17 @@ product-sum-requires c =
     omega (arith, c.weight_at.ensures, weight-most c.args.weights.now c.loop-m.m c.requires.1 (omega arith))
 
 pub overflow_add-sum : goal.overflow_add-sum
-overflow_add-sum c = let p = c.product-sum.ensures in omega (arith, p.1, c.loop-m.invariant.2)
-
-pub overflow_add-m : goal.overflow_add-m
-overflow_add-m c = omega arith
-
-pub loop-m-smaller : goal.loop-m-smaller
-loop-m-smaller c = omega arith
+overflow_add-sum c = let p = c.product-sum.ensures in omega (arith, p.1, c.loop-m.invariant.1)
 
 pub loop-m-preserved : goal.loop-m-preserved
 loop-m-preserved c =
     let p = c.product-sum.ensures in
     let means = c.args.means.now in (
-      omega arith,
-      ap₂ ◌+◌ c.loop-m.invariant.1 (p.0 ∙ ap (λ (w : ℕ). get_or means c.loop-m.m 0 * w) c.weight_at.ensures) ∙ sym (products-more means c.args.weights.now c.loop-m.m),
-      omega (arith, p.1, c.loop-m.invariant.2),
+      ap₂ ◌+◌ c.loop-m.invariant.0 (p.0 ∙ ap (λ (w : ℕ). get_or means c.loop-m.m 0 * w) c.weight_at.ensures) ∙ sym (products-more means c.args.weights.now c.loop-m.m),
+      omega (arith, p.1, c.loop-m.invariant.1),
     )
 
 pub returns : goal.returns
 returns c =
     let e : c.loop-m.m ≡ last_month = omega arith in
-    rw e at c.loop-m.invariant.1
+    rw e at c.loop-m.invariant.0

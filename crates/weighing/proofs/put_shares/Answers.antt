@@ -1,7 +1,7 @@
 -- `weighing::put_shares` meets its contract. The loop's invariant: each gamma passed is in its range, and each month's four constants and D stand at
 -- their places. Assumes nothing.
-use mathlib.Core.Path.{◌≡◌, sym, ap, ◌∙◌}
-use mathlib.Core.Bool.{Bool, false≢true}
+use mathlib.Core.Path.{◌≡◌, ap, ◌∙◌}
+use mathlib.Core.Bool.{Bool}
 use Prim.Native.Nat.{ℕ, ◌≤◌, ◌<◌}
 use native.Mathlib.Omega.{arith}
 use borrow.Author.Tests.{le-leb, lt-leb}
@@ -28,7 +28,7 @@ pub loop-m-init : goal.loop-m-init
 loop-m-init c =
     let a = c.args in
     let s = span a.capacity a.records.now a.first a.years in
-    (omega arith, all_none (test s), fours-none (shares_in s) a.set.now, means-none (departure_in s) a.means.now)
+    (all_none (test s), fours-none (shares_in s) a.set.now, means-none (departure_in s) a.means.now)
 
 pub overflow_add-at : goal.overflow_add-at
 overflow_add-at c = omega (arith, c.requires.0)
@@ -45,9 +45,9 @@ returns-then-gamma_of c =
     let a = c.args in
     let e = gamma-is (goal.at.returns-then-gamma_of c).After-gamma_of in
     record {
-      value = sym (all-spoilt (test (span a.capacity a.records.now a.first a.years)) last_month c.loop-m.m (omega arith) (lt-leb _ _ (rw e at c.if-gamma_of.true)));
-      set_after = λ t. absurd (false≢true t);
-      means_after = λ t. absurd (false≢true t);
+      value = rw (all-spoilt (test (span a.capacity a.records.now a.first a.years)) last_month c.loop-m.m (omega arith) (lt-leb _ _ (rw e at c.if-gamma_of.true)));
+      set_after = tt;
+      means_after = tt;
     }
 
 gamma-most : (c : Else-gamma_of) → let a = c.args in gamma_of (sums_in (span a.capacity a.records.now a.first a.years) c.loop-m.m) ≤ most_gamma
@@ -108,14 +108,13 @@ loop-m-preserved c =
     let s = span a.capacity a.records.now a.first a.years in
     let at = goal.at.loop-m-preserved c in
     let i = c.loop-m.invariant in (
-      omega arith,
-      all_more (test s) c.loop-m.m i.1 (le-leb _ _ (gamma-most at.Else-gamma_of)),
-      c.put_four.ensures ∙ fours-more (shares_in s) a.set.now c.loop-m.m c.loop-m.set c.shares_of-k.result i.2 (shares-are at.After-shares_of-k),
-      means-more (departure_in s) a.means.now c.loop-m.m c.loop-m.means c.mean_of-d.result i.3 (mean-is at.After-mean_of-d),
+      all_more (test s) c.loop-m.m i.0 (le-leb _ _ (gamma-most at.Else-gamma_of)),
+      c.put_four.ensures ∙ fours-more (shares_in s) a.set.now c.loop-m.m c.loop-m.set c.shares_of-k.result i.1 (shares-are at.After-shares_of-k),
+      means-more (departure_in s) a.means.now c.loop-m.m c.loop-m.means c.mean_of-d.result i.2 (mean-is at.After-mean_of-d),
     )
 
 pub returns : goal.returns
 returns c =
     let i = c.loop-m.invariant in
     let e : c.loop-m.m ≡ last_month = omega arith in
-    record { value = sym (rw e at i.1); set_after = λ t. rw e at i.2; means_after = λ t. rw e at i.3 }
+    record { value = rw (rw e at i.0); set_after = rw e at i.1; means_after = rw e at i.2 }

@@ -1,7 +1,5 @@
 use mathlib.Core.Path.{◌≡◌}
 use mathlib.Core.Bool.{true}
-use Prim.Native.Nat.{◌-◌, ◌≤◌}
-use Rattle.outline.specs.Numbers.{last_month}
 use Rattle.weighing.specs.Weighing.{span, shares_in, departure_in, gammas_fit}
 use Rattle.weighing.specs.Stores.{fours_to, means_to}
 use Rattle.weighing.proofs.put_shares.Given as goal
@@ -9,7 +7,4 @@ use Rattle.weighing.proofs.put_shares.Given as goal
 abbrev pub invariant-loop-m : goal.invariant-loop-m
 invariant-loop-m l =
     let s = span l.capacity l.records l.first l.years in
-    (l.m ≤ last_month) × (gammas_fit s l.m ≡ true) × (l.set ≡ fours_to (shares_in s) l.initial.set l.m) × (l.means ≡ means_to (departure_in s) l.initial.means l.m)
-
-abbrev pub decreases-loop-m : goal.decreases-loop-m
-decreases-loop-m l = last_month - l.m
+    (gammas_fit s l.m ≡ true) × (l.set ≡ fours_to (shares_in s) l.initial.set l.m) × (l.means ≡ means_to (departure_in s) l.initial.means l.m)

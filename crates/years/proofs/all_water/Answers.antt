@@ -25,7 +25,7 @@ test-is t =
     water-is r.result f ∙ ap had_water r.ensures
 
 pub loop-k-init : goal.loop-k-init
-loop-k-init c = (omega arith, rw (all_none (had c)) refl)
+loop-k-init c = rw (all_none (had c)) refl
 
 pub overflow_add-first : goal.overflow_add-first
 overflow_add-first c = omega arith
@@ -36,18 +36,12 @@ overflow_cast-first c = search rules
 pub record_at-m-requires : goal.record_at-m-requires
 record_at-m-requires c = omega arith
 
-pub overflow_add-k : goal.overflow_add-k
-overflow_add-k c = omega arith
-
-pub loop-k-smaller : goal.loop-k-smaller
-loop-k-smaller c = omega arith
-
 pub loop-k-preserved : goal.loop-k-preserved
 loop-k-preserved c =
-    (omega arith, bad-on (had c.before.before.before.before.before) c.loop-k.k c.loop-k.bad _ c.loop-k.invariant.1 (ap not (test-is c)))
+    bad-on (had c.before.before.before.before.before) c.loop-k.k c.loop-k.bad _ c.loop-k.invariant (ap not (test-is c))
 
 pub returns : goal.returns
 returns c =
     let e : c.loop-k.k ≡ c.args.many = omega arith in
-    let b : c.loop-k.bad ≡ not (all_water c.args.records.now c.args.first c.args.many) = rw e at c.loop-k.invariant.1 in
+    let b : c.loop-k.bad ≡ not (all_water c.args.records.now c.args.first c.args.many) = rw e at c.loop-k.invariant in
     rw b (not-not _)
