@@ -8,8 +8,6 @@ use lib.IntN.{ℤ}
 use lib.ListN.{set}
 use Rattle.water.specs.declared.Soil.{Soil}
 use Rattle.spells.specs.Spells.{step_of}
-use Rattle.spells.specs.declared.Decision.{Decision}
-use Rattle.spells.specs.declared.Decision.TheVariants.{Nothing, Decides}
 use Rattle.spells.specs.declared.Running.{Running}
 use Rattle.spells.specs.declared.SpellMonth.{SpellMonth}
 use Rattle.modified.specs.Modified.{modified_of}
@@ -29,15 +27,17 @@ use Rattle.adding.specs.Progress.{month_added, Takes}
 use Rattle.adding.specs.Spelled.{Spells}
 use Rattle.adding.specs.declared.Spelled.{Spelled}
 use Rattle.adding.specs.declared.WaterFigures.{WaterFigures}
+use Rattle.std.specs.Prelude.{Option, None, Some}
+use Rattle.spells.specs.declared.With.{With}
 
 -- the row that the code's numbers say
 pub row_is : (s : SpellMonth) (by : ℕ) → by ≡ decision_number s.decision → row_of s.after.x1 s.after.x2 s.after.x3 by s.index ≡ row_for s
 row_is s by e = rw (e, number_is s.decision)
 
 -- what an add settles and what it leaves open are together at most one more than were open
-counts-as : (d : Decision) (run : History) (r : Row) → settled_as d run.opens + (add_as d run r).opens ≤ suc run.opens
-counts-as Nothing run r = omega arith
-counts-as (Decides w) run r = omega arith
+counts-as : (d : Option With) (run : History) (r : Row) → settled_as d run.opens + (add_as d run r).opens ≤ suc run.opens
+counts-as None run r = omega arith
+counts-as (Some w) run r = omega arith
 
 pub counts-most : (run : History) (r : Row) → settled_count run r + (add_month run r).opens ≤ suc run.opens
 counts-most run r = counts-as r.decision run r

@@ -11,8 +11,6 @@ use lib.ListN.{length, get_or, take, drop, length-append}
 use lib.Seq.{get_or-set_same, get_or-set_other, get_or-take, get_or_at, take-append-le, length-take-le}
 use Rattle.spells.specs.Spells.{step_of, provisional}
 use Rattle.spells.specs.declared.SpellMonth.{SpellMonth}
-use Rattle.spells.specs.declared.Decision.{Decision}
-use Rattle.spells.specs.declared.Decision.TheVariants.{Nothing, Decides}
 use Rattle.hindsight.specs.Adding.{add_as}
 use Rattle.runs.specs.declared.Run.{Run}
 use Rattle.refusals.specs.Book.{Book, values_at}
@@ -23,6 +21,8 @@ use Rattle.reopening.proofs.Laws.{step-decides, step-open, open-shows}
 use Rattle.demands.specs.Months.{Ask, asked, State, standing, state_of, after, after_all, Accepted, Station, station_of, z_for, station_row}
 use Rattle.demands.specs.Demands.{Fresh, first}
 use Rattle.demands.proofs.Took.{Took, took, months-next, station-next, x1-next, x2-next, x3-next, v_next}
+use Rattle.std.specs.Prelude.{Option, None, Some}
+use Rattle.spells.specs.declared.With.{With}
 
 -- ---- the rows before a place are all that tells
 pub values_same : (cs ds : Book) (m : ℕ) → ((j : ℕ) → j < m → values_at ds j ≡ values_at cs j) → values_before ds m ≡ values_before cs m
@@ -71,17 +71,17 @@ module _ (r : Run) (a : Ask) (cs : Book) (t : Took r a cs) where
   values-next = ap (λ (d : Station). d.values) (station-next r a cs t)
 
   -- what it leaves open, in index and in mark, by what it decides
-  opens-next : (d : Decision) → step.decision ≡ d → next.run.opens ≡ (add_as d (held_by r cs) (station_row (station_of r) a)).opens
+  opens-next : (d : Option With) → step.decision ≡ d → next.run.opens ≡ (add_as d (held_by r cs) (station_row (station_of r) a)).opens
   unfolding taken
-  opens-next d e = ap (λ (b : Result). b.answer.run.opens) t.did ∙ ap (λ (u : Decision). (add_as u (held_by r cs) (station_row (station_of r) a)).opens) e
+  opens-next d e = ap (λ (b : Result). b.answer.run.opens) t.did ∙ ap (λ (u : Option With). (add_as u (held_by r cs) (station_row (station_of r) a)).opens) e
 
-  index-next : step.decision ≡ Nothing → next.columns.index ≡ (take n cs.index ++ (step.index ∷ [])) ++ drop (suc n) cs.index
+  index-next : step.decision ≡ None → next.columns.index ≡ (take n cs.index ++ (step.index ∷ [])) ++ drop (suc n) cs.index
   unfolding taken
-  index-next e = ap (λ (b : Result). b.columns.index) t.did ∙ ap (λ (u : Decision). (add_as u (held_by r cs) (station_row (station_of r) a)).index ++ drop (suc n) cs.index) e
+  index-next e = ap (λ (b : Result). b.columns.index) t.did ∙ ap (λ (u : Option With). (add_as u (held_by r cs) (station_row (station_of r) a)).index ++ drop (suc n) cs.index) e
 
-  mark-next : step.decision ≡ Nothing → next.columns.mark ≡ (take n cs.mark ++ (1 ∷ [])) ++ drop (suc n) cs.mark
+  mark-next : step.decision ≡ None → next.columns.mark ≡ (take n cs.mark ++ (1 ∷ [])) ++ drop (suc n) cs.mark
   unfolding taken
-  mark-next e = ap (λ (b : Result). b.columns.mark) t.did ∙ ap (λ (u : Decision). (add_as u (held_by r cs) (station_row (station_of r) a)).mark ++ drop (suc n) cs.mark) e
+  mark-next e = ap (λ (b : Result). b.columns.mark) t.did ∙ ap (λ (u : Option With). (add_as u (held_by r cs) (station_row (station_of r) a)).mark ++ drop (suc n) cs.mark) e
 
 -- a place of a list that had one number more put behind its first n
 pub put-before : {A : Type 0} (l rest : List A) (x d : A) (n j : ℕ) → n ≤ length l → j < n → get_or ((take n l ++ (x ∷ [])) ++ rest) j d ≡ get_or l j d
@@ -108,27 +108,27 @@ below_or (suc j) zero h = absurd (omega arith)
 below_or (suc j) (suc n) h = ⊎_elim (λ l. inl (omega arith)) (λ e. inr (ap suc e)) (below_or j n (omega arith))
 
 module _ (r : Run) (a : Ask) (cs : Book) (t : Took r a cs) (b : Backed (standing r cs)) where
-  opens_back : (d : Decision) → (step r a cs t).decision ≡ d → opens_before (next r a cs t).columns (suc r.months) ≡ (add_as d (held_by r cs) (station_row (station_of r) a)).opens
+  opens_back : (d : Option With) → (step r a cs t).decision ≡ d → opens_before (next r a cs t).columns (suc r.months) ≡ (add_as d (held_by r cs) (station_row (station_of r) a)).opens
   unfolding opens_before
-  opens_back Nothing e =
+  opens_back None e =
       let no : decided (step r a cs t).after ≡ false = go (decided (step r a cs t).after) refl in
       rw (own_row r a cs t, no, opens-same cs (next r a cs t).columns r.months (rows_before r a cs t)) (ap suc b.opens)
     where
       go : (u : Bool) → decided (step r a cs t).after ≡ u → u ≡ false
       go true p = absurd (step-decides r.values (z_for (station_of r) a) p e)
       go false p = refl
-  opens_back (Decides w) e =
+  opens_back (Some w) e =
       let yes : decided (step r a cs t).after ≡ true = go (decided (step r a cs t).after) refl in
       rw (own_row r a cs t, yes)
     where
       go : (u : Bool) → decided (step r a cs t).after ≡ u → u ≡ true
       go true p = refl
-      go false p = absurd (let q : Decides w ≡ Nothing = sym e ∙ step-open r.values (z_for (station_of r) a) p in let k : ◌≡◌ {A = ℕ} 0 1 = cc in omega arith)
+      go false p = absurd (let q : Some w ≡ None = sym e ∙ step-open r.values (z_for (station_of r) a) p in let k : ◌≡◌ {A = ℕ} 0 1 = cc in omega arith)
 
-  shows-back : (d : Decision) → (step r a cs t).decision ≡ d → (j : ℕ) → suc r.months - (add_as d (held_by r cs) (station_row (station_of r) a)).opens ≤ j → j < suc r.months
+  shows-back : (d : Option With) → (step r a cs t).decision ≡ d → (j : ℕ) → suc r.months - (add_as d (held_by r cs) (station_row (station_of r) a)).opens ≤ j → j < suc r.months
       → (get_or (next r a cs t).columns.index j (pos 0) ≡ provisional (values_at (next r a cs t).columns j)) × (get_or (next r a cs t).columns.mark j 0 ≡ 1)
-  shows-back (Decides w) e j l h = absurd (omega arith)
-  shows-back Nothing e j l h =
+  shows-back (Some w) e j l h = absurd (omega arith)
+  shows-back None e j l h =
       let c = columns_are cs t.good.fit in
       let i : r.months ≤ length cs.index = omega (arith, c.index_is, t.room) in
       let m : r.months ≤ length cs.mark = omega (arith, c.mark_is, t.room) in

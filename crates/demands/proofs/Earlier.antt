@@ -14,8 +14,6 @@ use Rattle.door.proofs.Bounds.{reading-most}
 use Rattle.water.specs.Layers.{SoilFits}
 use Rattle.water.specs.declared.Soil.{Soil}
 use Rattle.spells.specs.Spells.{step_of}
-use Rattle.spells.specs.declared.Decision.{Decision}
-use Rattle.spells.specs.declared.Decision.TheVariants.{Nothing, Decides}
 use Rattle.hindsight.specs.Adding.{add_as}
 use Rattle.hindsight.specs.Columns.{x_at}
 use Rattle.hindsight.specs.Months.{row_for}
@@ -45,6 +43,8 @@ use Rattle.demands.proofs.Reopened.{spliced-before}
 use Rattle.demands.proofs.RepairGiven.{done, is-repaired, repairs-exactly}
 use Rattle.repair.proofs.ReadingKinds.{kind-most}
 use Rattle.demands.proofs.Corrected.{watery}
+use Rattle.std.specs.Prelude.{Option, None, Some}
+use Rattle.spells.specs.declared.With.{With}
 
 -- ---- one month more
 -- what it leaves of the months before it
@@ -69,43 +69,43 @@ module _ (r : Run) (cs : Book) (c : AllLong cs) (few : r.opens ≤ r.months) (ro
   abbrev month : Result
   month = taken r soil w z kept cs
 
-  abbrev d : Decision
+  abbrev d : Option With
   d = (step_of r.values z).decision
 
   past-long : length (held_by r cs).past ≡ r.months
   past-long = length-xs (x_at cs.x1 cs.x2 cs.x3) 0 r.months
 
-  index-by : (u : Decision) → d ≡ u → month.columns.index ≡ (add_as u (held_by r cs) (row_for (step_of r.values z))).index ++ drop (suc r.months) cs.index
+  index-by : (u : Option With) → d ≡ u → month.columns.index ≡ (add_as u (held_by r cs) (row_for (step_of r.values z))).index ++ drop (suc r.months) cs.index
   unfolding taken
-  index-by u e = ap (λ (x : Decision). (add_as x (held_by r cs) (row_for (step_of r.values z))).index ++ drop (suc r.months) cs.index) e
+  index-by u e = ap (λ (x : Option With). (add_as x (held_by r cs) (row_for (step_of r.values z))).index ++ drop (suc r.months) cs.index) e
 
-  mark-by : (u : Decision) → d ≡ u → month.columns.mark ≡ (add_as u (held_by r cs) (row_for (step_of r.values z))).mark ++ drop (suc r.months) cs.mark
+  mark-by : (u : Option With) → d ≡ u → month.columns.mark ≡ (add_as u (held_by r cs) (row_for (step_of r.values z))).mark ++ drop (suc r.months) cs.mark
   unfolding taken
-  mark-by u e = ap (λ (x : Decision). (add_as x (held_by r cs) (row_for (step_of r.values z))).mark ++ drop (suc r.months) cs.mark) e
+  mark-by u e = ap (λ (x : Option With). (add_as x (held_by r cs) (row_for (step_of r.values z))).mark ++ drop (suc r.months) cs.mark) e
 
-  opens_by : (u : Decision) → d ≡ u → month.answer.run.opens ≡ (add_as u (held_by r cs) (row_for (step_of r.values z))).opens
+  opens_by : (u : Option With) → d ≡ u → month.answer.run.opens ≡ (add_as u (held_by r cs) (row_for (step_of r.values z))).opens
   unfolding taken
-  opens_by u e = ap (λ (x : Decision). (add_as x (held_by r cs) (row_for (step_of r.values z))).opens) e
+  opens_by u e = ap (λ (x : Option With). (add_as x (held_by r cs) (row_for (step_of r.values z))).opens) e
 
   months-is : month.answer.run.months ≡ suc r.months
   unfolding taken
   months-is = refl
 
-  index-front : (u : Decision) → d ≡ u → (j : ℕ) → j < r.months - r.opens → get_or month.columns.index j (pos 0) ≡ get_or cs.index j (pos 0)
-  index-front Nothing e j h = ap (λ (l : List ℤ). get_or l j (pos 0)) (index-by Nothing e) ∙ put-before cs.index _ _ (pos 0) r.months j (omega (arith, c.index_is)) (omega arith)
-  index-front (Decides v) e j h =
-      ap (λ (l : List ℤ). get_or l j (pos 0)) (index-by (Decides v) e)
+  index-front : (u : Option With) → d ≡ u → (j : ℕ) → j < r.months - r.opens → get_or month.columns.index j (pos 0) ≡ get_or cs.index j (pos 0)
+  index-front None e j h = ap (λ (l : List ℤ). get_or l j (pos 0)) (index-by None e) ∙ put-before cs.index _ _ (pos 0) r.months j (omega (arith, c.index_is)) (omega arith)
+  index-front (Some v) e j h =
+      ap (λ (l : List ℤ). get_or l j (pos 0)) (index-by (Some v) e)
       ∙ first-at cs.index _ _ (pos 0) (length (held_by r cs).past - r.opens) r.months j (omega (arith, past-long)) (omega (arith, c.index_is)) (omega (arith, past-long))
 
-  mark-front : (u : Decision) → d ≡ u → (j : ℕ) → j < r.months - r.opens → get_or month.columns.mark j 0 ≡ get_or cs.mark j 0
-  mark-front Nothing e j h = ap (λ (l : List ℕ). get_or l j 0) (mark-by Nothing e) ∙ put-before cs.mark _ _ 0 r.months j (omega (arith, c.mark_is)) (omega arith)
-  mark-front (Decides v) e j h =
-      ap (λ (l : List ℕ). get_or l j 0) (mark-by (Decides v) e)
+  mark-front : (u : Option With) → d ≡ u → (j : ℕ) → j < r.months - r.opens → get_or month.columns.mark j 0 ≡ get_or cs.mark j 0
+  mark-front None e j h = ap (λ (l : List ℕ). get_or l j 0) (mark-by None e) ∙ put-before cs.mark _ _ 0 r.months j (omega (arith, c.mark_is)) (omega arith)
+  mark-front (Some v) e j h =
+      ap (λ (l : List ℕ). get_or l j 0) (mark-by (Some v) e)
       ∙ first-at cs.mark _ _ 0 (length (held_by r cs).past - r.opens) r.months j (omega (arith, past-long)) (omega (arith, c.mark_is)) (omega (arith, past-long))
 
-  floor-by : (u : Decision) → d ≡ u → r.months - r.opens ≤ month.answer.run.months - month.answer.run.opens
-  floor-by Nothing e = let o = opens_by Nothing e in omega (arith, months-is)
-  floor-by (Decides v) e = let o = opens_by (Decides v) e in omega (arith, months-is)
+  floor-by : (u : Option With) → d ≡ u → r.months - r.opens ≤ month.answer.run.months - month.answer.run.opens
+  floor-by None e = let o = opens_by None e in omega (arith, months-is)
+  floor-by (Some v) e = let o = opens_by (Some v) e in omega (arith, months-is)
 
   leaves-taken : Leaves r cs month
   unfolding taken

@@ -26,7 +26,6 @@ use Rattle.door.specs.declared.MonthInches.{MonthInches}
 use Rattle.ending.specs.Ending.{turn, u_of, v_of, e_of, ending_of}
 use Rattle.spells.specs.Spells.{step_of}
 use Rattle.spells.specs.declared.With.{With}
-use Rattle.spells.specs.declared.Decision.TheVariants.{Decides}
 use Rattle.modified.specs.Modified.{modified_of}
 use Rattle.hindsight.specs.Rule.{X, Row, Shown}
 use Rattle.hindsight.specs.Coded.{state_of}
@@ -51,6 +50,7 @@ use Rattle.demands.specs.Recorded.{RecordBalances, water_mark, ZOnly, record_by,
 use Rattle.demands.specs.Modified.{modified_of_months, AbatesIn, Kept}
 use Rattle.demands.specs.Traces.{Little, plain_figures, plain_numbers, OneWater}
 use Rattle.demands.specs.Pinned.{ending_in, soil}
+use Rattle.std.specs.Prelude.{Some}
 
 -- two numbers of which the first is above the second
 pub apart : {a b : ℤ} → le_z a b ≡ false → a ≡ b → ⊥
@@ -230,7 +230,7 @@ unfolding surface_holds underlying_holds
 soils-pass = ((λ f. omega arith), (λ f. omega arith), (λ f. omega arith), (λ f. omega arith), (λ f. omega arith), (λ f. omega arith))
 
 -- ---- `NoneFrom`: no month from there on that decides; `count`: so often, and no other number
-pub one-decides : (rows : List Row) (i j : ℕ) (w : With) → i ≤ j → j < length rows → (get_or rows j no_row).decision ≡ Decides w → NoneFrom rows i → ⊥
+pub one-decides : (rows : List Row) (i j : ℕ) (w : With) → i ≤ j → j < length rows → (get_or rows j no_row).decision ≡ Some w → NoneFrom rows i → ⊥
 one-decides rows i j w p q e h = let n = h j no_row p q in let k : ◌≡◌ {A = ℕ} 0 1 = cc in omega arith
 
 pub counts : (count 2 (2 ∷ 1 ∷ 2 ∷ 0 ∷ []) ≡ 2) × (count 1 (2 ∷ 1 ∷ 2 ∷ 0 ∷ []) ≡ 1) × (count 3 (2 ∷ 1 ∷ 2 ∷ 0 ∷ []) ≡ 0)

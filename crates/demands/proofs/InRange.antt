@@ -23,10 +23,10 @@ use Rattle.spells.specs.Spells.{raised, lowered, is_zero, larger_in_size, provis
 use Rattle.spells.specs.declared.Running.{Running}
 use Rattle.spells.specs.declared.With.{With}
 use Rattle.spells.specs.declared.With.TheVariants.{X1, X2, X3}
-use Rattle.spells.specs.declared.Decision.{Decision}
-use Rattle.spells.specs.declared.Decision.TheVariants.{Nothing, Decides}
 use Rattle.spells.specs.declared.SpellMonth.{SpellMonth}
-use Rattle.hindsight.specs.Rule.{X, Row, Side, first as first-side, second as second-side, value_on, side_from, settled_index, Deciding, nobody, after as decided-after, one_earlier, deciding_for, deciding, shown_by, forward}
+use Rattle.hindsight.specs.declared.Side.{Side}
+use Rattle.hindsight.specs.declared.Side.TheVariants.{First, Second}
+use Rattle.hindsight.specs.Rule.{X, Row, value_on, side_from, settled_index, Deciding, nobody, after as decided-after, one_earlier, deciding_for, deciding, shown_by, forward}
 use Rattle.hindsight.specs.Columns.{rows_of}
 use Rattle.hindsight.specs.Coded.{state_of as stateAfter}
 use Rattle.hindsight_laws.proofs.Steps.{rows_long}
@@ -55,6 +55,7 @@ use Rattle.repair.proofs.ReadingKinds.{kind-most, inches-kind}
 use Rattle.demands.proofs.Backed.{own_row}
 use Rattle.demands.proofs.Reopened.{record-there, capacity-then}
 use Rattle.demands.proofs.Corrected.{accepted-parts}
+use Rattle.std.specs.Prelude.{Option, None, Some}
 
 -- ---- an index is one of its month's X1, X2 and X3
 module _ (P : ℤ → Type 0) where
@@ -70,11 +71,11 @@ module _ (P : ℤ → Type 0) where
   unfolding larger_in_size
   larger-shown x1 x2 p q = one_of (leb (nat_abs x1) (nat_abs x2)) x2 x1 q p
 
-  found-shows : (x : ℤ) (d : Decision) (percent : ℕ) → Shows (founded x d percent)
+  found-shows : (x : ℤ) (d : Option With) (percent : ℕ) → Shows (founded x d percent)
   unfolding founded
   found-shows x d percent = record { shows = λ a b c. c }
 
-  left-shows : (x1 x2 : ℤ) (d : Decision) (i : ℤ) (percent : ℕ) → (P x1 → P x2 → P i) → Shows (unfounded x1 x2 d i percent)
+  left-shows : (x1 x2 : ℤ) (d : Option With) (i : ℤ) (percent : ℕ) → (P x1 → P x2 → P i) → Shows (unfounded x1 x2 d i percent)
   unfolding unfounded
   left-shows x1 x2 d i percent f = record { shows = λ a b c. f a b }
 
@@ -82,12 +83,12 @@ module _ (P : ℤ → Type 0) where
   unfolding tried
   tried-shows x1 x2 percent = go (le_z (pos founds_from) x1) (le_z x2 (neg_ℤ (pos founds_from))) (is_zero x1) (is_zero x2)
     where
-      go : (a b c d : Bool) → Shows (cond a (founded x1 (Decides X1) percent) (cond b (founded x2 (Decides X2) percent) (cond c (unfounded x1 x2 (Decides X2) x2 percent) (cond d (unfounded x1 x2 (Decides X1) x1 percent) (unfounded x1 x2 Nothing (larger_in_size x1 x2) percent)))))
-      go true b c d = found-shows x1 (Decides X1) percent
-      go false true c d = found-shows x2 (Decides X2) percent
-      go false false true d = left-shows x1 x2 (Decides X2) x2 percent (λ a b. b)
-      go false false false true = left-shows x1 x2 (Decides X1) x1 percent (λ a b. a)
-      go false false false false = left-shows x1 x2 Nothing (larger_in_size x1 x2) percent (larger-shown x1 x2)
+      go : (a b c d : Bool) → Shows (cond a (founded x1 (Some X1) percent) (cond b (founded x2 (Some X2) percent) (cond c (unfounded x1 x2 (Some X2) x2 percent) (cond d (unfounded x1 x2 (Some X1) x1 percent) (unfounded x1 x2 None (larger_in_size x1 x2) percent)))))
+      go true b c d = found-shows x1 (Some X1) percent
+      go false true c d = found-shows x2 (Some X2) percent
+      go false false true d = left-shows x1 x2 (Some X2) x2 percent (λ a b. b)
+      go false false false true = left-shows x1 x2 (Some X1) x1 percent (λ a b. a)
+      go false false false false = left-shows x1 x2 None (larger_in_size x1 x2) percent (larger-shown x1 x2)
 
   ending-shows : (e : Ending) (wet : Bool) (s : Running) (z : ℤ) → Shows (ending_month e wet s z)
   unfolding ending_month steady_month abating_month provisional no_spell
@@ -108,12 +109,12 @@ module _ (P : ℤ → Type 0) where
 
   -- and so of what the forward rule makes of it
   on-side : (s : Side) (m : X) → P m.x1 → P m.x2 → P (value_on s m)
-  on-side first-side m p q = p
-  on-side second-side m p q = q
+  on-side First m p q = p
+  on-side Second m p q = q
 
   settled-one : (w : With) (m : X) (later : List X) → P m.x1 → P m.x2 → P m.x3 → P (settled_index w m later)
-  settled-one X1 m later a b c = on-side (side_from (m ∷ later) first-side) m a b
-  settled-one X2 m later a b c = on-side (side_from (m ∷ later) second-side) m a b
+  settled-one X1 m later a b c = on-side (side_from (m ∷ later) First) m a b
+  settled-one X2 m later a b c = on-side (side_from (m ∷ later) Second) m a b
   settled-one X3 m later a b c = c
 
   module _ (r : Row) (a : P r.x.x1) (b : P r.x.x2) (c : P r.x.x3) (s : P r.shown) where
@@ -121,9 +122,9 @@ module _ (P : ℤ → Type 0) where
     earlier-one nobody = s
     earlier-one (decided-after before w i) = settled-one w r.x before a b c
 
-    decided-one : (d : Decision) (e : Deciding) → P (shown_by r.shown (deciding_for d r e)).index
-    decided-one Nothing e = earlier-one e
-    decided-one (Decides w) e = s
+    decided-one : (d : Option With) (e : Deciding) → P (shown_by r.shown (deciding_for d r e)).index
+    decided-one None e = earlier-one e
+    decided-one (Some w) e = s
 
   forward-one : (rows : List Row) (i : ℕ) → i < length rows → let r = get_or rows i no_row in P r.x.x1 → P r.x.x2 → P r.x.x3 → P r.shown → P (forward rows i).index
   forward-one [] i h a b c s = absurd (omega arith)
@@ -136,10 +137,10 @@ unfolding mark_fits
 mark-earlier p m nobody = refl
 mark-earlier p m (decided-after before w i) = refl
 
-mark-decided : (r : Row) (d : Decision) (e : Deciding) → mark_fits (shown_by r.shown (deciding_for d r e)).mark ≡ true
+mark-decided : (r : Row) (d : Option With) (e : Deciding) → mark_fits (shown_by r.shown (deciding_for d r e)).mark ≡ true
 unfolding mark_fits
-mark-decided r Nothing e = mark-earlier r.shown r.x e
-mark-decided r (Decides w) e = refl
+mark-decided r None e = mark-earlier r.shown r.x e
+mark-decided r (Some w) e = refl
 
 forward-mark : (rows : List Row) (i : ℕ) → i < length rows → mark_fits (forward rows i).mark ≡ true
 forward-mark [] i h = absurd (omega arith)

@@ -15,7 +15,6 @@ use Rattle.exact.proofs.Z.{zs, is-Z}
 use Rattle.water.specs.Layers.{least_capacity, surface_holds, underlying_holds}
 use Rattle.spells.specs.declared.Running.{Running}
 use Rattle.spells.specs.declared.With.TheVariants.{X1, X2}
-use Rattle.spells.specs.declared.Decision.TheVariants.{Decides}
 use Rattle.spells.specs.Values.{fresh}
 use Rattle.spells.specs.Spells.{raised, lowered, larger_in_size, provisional, steady_month, abating_values, abating_month, founded, unfounded, tried, no_spell, ending_month, in_force, step_of}
 use Rattle.ending.specs.Ending.{turn, u_of, v_of, e_of, q_of, ending_of, percent_of}
@@ -38,6 +37,7 @@ use Rattle.drought.specs.Calls.{add_z}
 use Rattle.demands.specs.Mirror.{turned, mirror_run, Given, shown_at}
 use Rattle.demands.specs.Demands.{Fresh}
 use Rattle.demands.proofs.Rejected.{blank}
+use Rattle.std.specs.Prelude.{Some}
 
 -- the running values after a list of Z from a fresh run
 abbrev values_after : List ℤ → Running
@@ -92,7 +92,7 @@ record Worked : Type 0 where
   tied_mark : (second tie).mark ≡ 1
   tied_index : (second tie).index ≡ minus 224
   tied_turned : (second (turned tie)).index ≡ minus 224
-  level_decides : (step_of fresh (pos 0)).decision ≡ Decides X2
+  level_decides : (step_of fresh (pos 0)).decision ≡ Some X2
   lapsed_values : values_after lapsing ≡ lapsed
   lapsed_x2 : x2_of lapsed (minus 3001) ≡ minus 1000
 
@@ -162,12 +162,12 @@ every-provisional-fails law =
 
 -- ---- "a month that decides with X2 decides with X1 when turned"
 abbrev pub DecidesAlike : Type 0
-DecidesAlike = (zs : List ℤ) (z : ℤ) → (step_of (values_after zs) z).decision ≡ Decides X2 → (step_of (values_after (turned zs)) (neg_ℤ z)).decision ≡ Decides X1
+DecidesAlike = (zs : List ℤ) (z : ℤ) → (step_of (values_after zs) z).decision ≡ Some X2 → (step_of (values_after (turned zs)) (neg_ℤ z)).decision ≡ Some X1
 
 pub decides-alike-fails : DecidesAlike → ⊥
 decides-alike-fails law = apart (sym worked.level_decides ∙ law [] (pos 0) worked.level_decides)
   where
-    apart : Decides X2 ≡ Decides X1 → ⊥
+    apart : Some X2 ≡ Some X1 → ⊥
     apart e = let k : ◌≡◌ {A = ℕ} 0 1 = cc in omega arith
 
 -- ---- a drought that is over, however it went, leaves X2 above -1,000: X3 was below 0, and there is no spell, or one just ended

@@ -14,8 +14,6 @@ use Rattle.exact.proofs.Z.{zs-abs, is-Z}
 use Rattle.spells.specs.declared.Running.{Running}
 use Rattle.spells.specs.declared.With.{With}
 use Rattle.spells.specs.declared.With.TheVariants.{X2}
-use Rattle.spells.specs.declared.Decision.{Decision}
-use Rattle.spells.specs.declared.Decision.TheVariants.{Nothing, Decides}
 use Rattle.spells.specs.declared.SpellMonth.{SpellMonth}
 use Rattle.spells.specs.Spells.{larger_in_size, provisional, step_of}
 use Rattle.spells.proofs.Choices.{zero_is}
@@ -33,6 +31,7 @@ use Rattle.hindsight.specs.Months.{mark_for, row_for, next_values, row_of_z}
 use Rattle.demands.specs.Months.{no_row}
 use Rattle.demands.specs.Mirror.{turned, mirror_x, Excepted, TurnsAbout}
 use Rattle.demands.proofs.Sides.{nothing, some, NotBoth, Told, settled-turned, settled-level}
+use Rattle.std.specs.Prelude.{Option, None, Some}
 
 -- ---- one month of a list, and of the list turned
 provisional-none : (r : Running) → r.x3 ≡ pos 0 → provisional r ≡ larger_in_size r.x1 r.x2
@@ -56,20 +55,20 @@ module _ (s : Running) (z : ℤ) (k : Reached s) where
   abbrev Decisions : Type 0
   Decisions =
       (mirrored.decision ≡ mirror_decision month.decision)
-      ⊎ ((month.decision ≡ Decides X2) × (mirrored.decision ≡ Decides X2) × NotBoth s)
+      ⊎ ((month.decision ≡ Some X2) × (mirrored.decision ≡ Some X2) × NotBoth s)
 
   step-decides : Decisions
   step-decides = go (mirror-decides s z (never_both s z k))
     where
-      go : (mirrored.decision ≡ mirror_decision month.decision) ⊎ ((month.decision ≡ Decides X2) × (mirrored.decision ≡ Decides X2) × BothZero s z) → Decisions
+      go : (mirrored.decision ≡ mirror_decision month.decision) ⊎ ((month.decision ≡ Some X2) × (mirrored.decision ≡ Some X2) × BothZero s z) → Decisions
       go (inl e) = inl e
       go (inr (p, q, b)) = inr (p, q, λ f g. not-both-zero s z k f g b.zero_x1 b.zero_x2)
 
   -- an open month of the one is an open month of the other
-  step-open : month.decision ≡ Nothing → mirrored.decision ≡ Nothing
+  step-open : month.decision ≡ None → mirrored.decision ≡ None
   step-open e = go step-decides
     where
-      go : Decisions → mirrored.decision ≡ Nothing
+      go : Decisions → mirrored.decision ≡ None
       go (inl q) = q ∙ ap mirror_decision e
       go (inr (p, q, f)) = absurd (decides-some X2 (sym p ∙ e))
 
@@ -77,26 +76,26 @@ module _ (s : Running) (z : ℤ) (k : Reached s) where
   pub step-settled : (n : ℕ) → settled_as mirrored.decision n ≡ settled_as month.decision n
   step-settled n = go step-decides month.decision refl
     where
-      go : Decisions → (d : Decision) → month.decision ≡ d → settled_as mirrored.decision n ≡ settled_as month.decision n
-      go (inl e) Nothing d = rw (e, d)
-      go (inl e) (Decides w) d = rw (e, d)
+      go : Decisions → (d : Option With) → month.decision ≡ d → settled_as mirrored.decision n ≡ settled_as month.decision n
+      go (inl e) None d = rw (e, d)
+      go (inl e) (Some w) d = rw (e, d)
       go (inr (p, q, f)) d e = rw (p, q)
 
   -- and leaves as many open
   pub step-opens : (held held' : History) → held'.opens ≡ held.opens → (add_as mirrored.decision held' (row_for mirrored)).opens ≡ (add_as month.decision held (row_for month)).opens
   step-opens held held' o = go step-decides month.decision refl
     where
-      go : Decisions → (d : Decision) → month.decision ≡ d → (add_as mirrored.decision held' (row_for mirrored)).opens ≡ (add_as month.decision held (row_for month)).opens
-      go (inl e) Nothing d = rw (e, d) (ap suc o)
-      go (inl e) (Decides w) d = rw (e, d)
+      go : Decisions → (d : Option With) → month.decision ≡ d → (add_as mirrored.decision held' (row_for mirrored)).opens ≡ (add_as month.decision held (row_for month)).opens
+      go (inl e) None d = rw (e, d) (ap suc o)
+      go (inl e) (Some w) d = rw (e, d)
       go (inr (p, q, f)) d e = rw (p, q)
 
   -- the index turns about, unless the month is open and ties
-  step-index : (month.decision ≡ Nothing → TiedValues month.after → ⊥) → mirrored.index ≡ neg_ℤ month.index
+  step-index : (month.decision ≡ None → TiedValues month.after → ⊥) → mirrored.index ≡ neg_ℤ month.index
   step-index f = mirror-index s z (never_both s z k) (λ t. let o = tied-open s z t in f o.0 o.1)
 
   -- and then it is X2 in both
-  step-tie : month.decision ≡ Nothing → TiedValues month.after → (month.index ≡ month.after.x2) × (mirrored.index ≡ month.after.x2)
+  step-tie : month.decision ≡ None → TiedValues month.after → (month.index ≡ month.after.x2) × (mirrored.index ≡ month.after.x2)
   step-tie e t =
       let after-reached = step-reached s z k in (
         (decides-nothing s z e).0 ∙ shows month.after t.values_x3 t.values_size,
@@ -113,7 +112,7 @@ module _ (s : Running) (z : ℤ) (k : Reached s) where
       opposite a b = rw (is-Z a, is-Z b) (simp zs-abs (omega arith))
 
   -- one open month more before the one that decides
-  told_more : month.decision ≡ Nothing → (l : List X) → Told month.after l → Told s ((row_for month).x ∷ l)
+  told_more : month.decision ≡ None → (l : List X) → Told month.after l → Told s ((row_for month).x ∷ l)
   told_more d l t = go (nonzero month.after.x1) (nonzero month.after.x2) refl refl t
     where
       go : (a b : Bool) → nonzero month.after.x1 ≡ a → nonzero month.after.x2 ≡ b → Told month.after l → Told s ((row_for month).x ∷ l)
@@ -147,7 +146,7 @@ abbrev rows : Running → List ℤ → List Row
 rows s zs = rows_of next_values row_of_z s zs
 
 module _ (s : Running) (z : ℤ) (k : Reached s) where
-  earlier : (d : (month s z k).decision ≡ Nothing) (b b' : Deciding) → Opposite (month s z k).after b b' → Opposite s (one_earlier (row_for (month s z k)).x b) (one_earlier (row_for (mirrored s z k)).x b')
+  earlier : (d : (month s z k).decision ≡ None) (b b' : Deciding) → Opposite (month s z k).after b b' → Opposite s (one_earlier (row_for (month s z k)).x b) (one_earlier (row_for (mirrored s z k)).x b')
   unfolding Opposite
   earlier d nobody nobody o = tt
   earlier d nobody (after l w i) o = absurd o
@@ -159,7 +158,7 @@ module _ (s : Running) (z : ℤ) (k : Reached s) where
   )
 
   -- a month that decides, by what it decides with
-  decides-now : (w w' : With) → (month s z k).decision ≡ Decides w → WithTurned w w' (NotBoth s) → Opposite s (after [] w (month s z k).index) (after [] w' (mirrored s z k).index)
+  decides-now : (w w' : With) → (month s z k).decision ≡ Some w → WithTurned w w' (NotBoth s) → Opposite s (after [] w (month s z k).index) (after [] w' (mirrored s z k).index)
   unfolding Opposite
   decides-now w w' d o = (refl, step-index s z k (λ e t. absurd (decides-some w (sym d ∙ e))), with-more w w' (NotBoth s) (Told s []) (λ n. inr (tt, n)) o)
 
@@ -168,12 +167,12 @@ module _ (s : Running) (z : ℤ) (k : Reached s) where
       → Opposite s (deciding_for (month s z k).decision (row_for (month s z k)) b) (deciding_for (mirrored s z k).decision (row_for (mirrored s z k)) b')
   head-turned b b' o = go (step-decides s z k) (month s z k).decision refl
     where
-      Goal : Decision → Decision → Type 0
+      Goal : Option With → Option With → Type 0
       Goal d d' = Opposite s (deciding_for d (row_for (month s z k)) b) (deciding_for d' (row_for (mirrored s z k)) b')
 
-      go : Decisions s z k → (d : Decision) → (month s z k).decision ≡ d → Goal (month s z k).decision (mirrored s z k).decision
-      go (inl e) Nothing d = subst₂ Goal (sym d) (sym (e ∙ ap mirror_decision d)) (earlier d b b' o)
-      go (inl e) (Decides w) d = subst₂ Goal (sym d) (sym (e ∙ ap mirror_decision d)) (decides-now w (mirror_with w) d (inl refl))
+      go : Decisions s z k → (d : Option With) → (month s z k).decision ≡ d → Goal (month s z k).decision (mirrored s z k).decision
+      go (inl e) None d = subst₂ Goal (sym d) (sym (e ∙ ap mirror_decision d)) (earlier d b b' o)
+      go (inl e) (Some w) d = subst₂ Goal (sym d) (sym (e ∙ ap mirror_decision d)) (decides-now w (mirror_with w) d (inl refl))
       go (inr (p, q, n)) x d = subst₂ Goal (sym p) (sym q) (decides-now X2 X2 p (inr (refl, refl, n)))
 
 -- the months after a month, from the values that it leaves
@@ -229,14 +228,14 @@ module _ (s : Running) (z : ℤ) (k : Reached s) where
   abbrev Goal : Deciding → Deciding → Type 0
   Goal b b' = TurnsAbout (row_for (month s z k)).x (shown_by (month s z k).index b) (shown_by (mirrored s z k).index b')
 
-  abbrev from : Decision → Deciding → Deciding
+  abbrev from : Option With → Deciding → Deciding
   from d b = deciding_for d (row_for (month s z k)) b
 
-  abbrev from' : Decision → Deciding → Deciding
+  abbrev from' : Option With → Deciding → Deciding
   from' d b = deciding_for d (row_for (mirrored s z k)) b
 
   -- it does not decide
-  open-turns : (month s z k).decision ≡ Nothing → (b b' : Deciding) → Opposite (month s z k).after b b' → Goal (from Nothing b) (from' Nothing b')
+  open-turns : (month s z k).decision ≡ None → (b b' : Deciding) → Opposite (month s z k).after b b' → Goal (from None b) (from' None b')
   unfolding Opposite
   open-turns d nobody nobody o =
       turns-of (row_for (month s z k)).x (shown_by (month s z k).index nobody) (shown_by (mirrored s z k).index nobody) refl
@@ -244,21 +243,21 @@ module _ (s : Running) (z : ℤ) (k : Reached s) where
       (λ t. step-tie s z k d (record { values_x3 = t.no_x3; values_size = t.one_size; values_some = t.not_zero }))
   open-turns d nobody (after l w i) o = absurd o
   open-turns d (after l w i) nobody o = absurd o
-  open-turns d (after l w i) (after l' w' i') o = settled_turns s (row_for (month s z k)).x ((row_for (month s z k)).x ∷ l) w i (month s z k).index (mirrored s z k).index (from' Nothing (after l' w' i')) (earlier s z k d (after l w i) (after l' w' i') o)
+  open-turns d (after l w i) (after l' w' i') o = settled_turns s (row_for (month s z k)).x ((row_for (month s z k)).x ∷ l) w i (month s z k).index (mirrored s z k).index (from' None (after l' w' i')) (earlier s z k d (after l w i) (after l' w' i') o)
 
   month-turns : (b b' : Deciding) → Opposite (month s z k).after b b' → Goal (from (month s z k).decision b) (from' (mirrored s z k).decision b')
   month-turns b b' o = go (month s z k).decision refl
     where
-      go : (d : Decision) → (month s z k).decision ≡ d → Goal (from (month s z k).decision b) (from' (mirrored s z k).decision b')
-      go Nothing d = subst₂ (λ (e e' : Decision). Goal (from e b) (from' e' b')) (sym d) (sym (step-open s z k d)) (open-turns d b b' o)
-      go (Decides w) d =
-          subst (λ (e : Decision). Goal (from e b) (from' (mirrored s z k).decision b')) (sym d)
-          (settled_turns s (row_for (month s z k)).x [] w (month s z k).index (month s z k).index (mirrored s z k).index (from' (mirrored s z k).decision b') (subst (λ (e : Decision). Opposite s (from e b) (from' (mirrored s z k).decision b')) d (head-turned s z k b b' o)))
+      go : (d : Option With) → (month s z k).decision ≡ d → Goal (from (month s z k).decision b) (from' (mirrored s z k).decision b')
+      go None d = subst₂ (λ (e e' : Option With). Goal (from e b) (from' e' b')) (sym d) (sym (step-open s z k d)) (open-turns d b b' o)
+      go (Some w) d =
+          subst (λ (e : Option With). Goal (from e b) (from' (mirrored s z k).decision b')) (sym d)
+          (settled_turns s (row_for (month s z k)).x [] w (month s z k).index (month s z k).index (mirrored s z k).index (from' (mirrored s z k).decision b') (subst (λ (e : Option With). Opposite s (from e b) (from' (mirrored s z k).decision b')) d (head-turned s z k b b' o)))
 
   -- the month as it is added, before any other
-  added : (d : Decision) (m : SpellMonth) → shown_by m.index (deciding_for d (row_for m) nobody) ≡ record { mark = mark_for d; index = m.index }
-  added Nothing m = refl
-  added (Decides w) m = refl
+  added : (d : Option With) (m : SpellMonth) → shown_by m.index (deciding_for d (row_for m) nobody) ≡ record { mark = mark_for d; index = m.index }
+  added None m = refl
+  added (Some w) m = refl
 
   pub step-shown : TurnsAbout (row_for (month s z k)).x (record { mark = mark_for (month s z k).decision; index = (month s z k).index }) (record { mark = mark_for (mirrored s z k).decision; index = (mirrored s z k).index })
   unfolding Opposite

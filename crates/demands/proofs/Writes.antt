@@ -8,8 +8,6 @@ use lib.IntN.{ℤ, pos}
 use lib.ListN.{length, get_or, take, drop, set, replicate, length-append, length-drop}
 use lib.Seq.{take-set-le, take-suc-set, take-take, take_at, drop_at, get_or_at, length-take-le}
 use Rattle.spells.specs.declared.With.{With}
-use Rattle.spells.specs.declared.Decision.{Decision}
-use Rattle.spells.specs.declared.Decision.TheVariants.{Nothing, Decides}
 use Rattle.hindsight.specs.Rule.{X, Row}
 use Rattle.hindsight.specs.Adding.{History, settled_all, add_as, settled_as}
 use Rattle.hindsight.specs.Columns.{x_at, xs_from}
@@ -24,6 +22,7 @@ use Rattle.adding.proofs.Readiness.{run_is}
 use Rattle.demands.specs.Months.{Ask, asked, station_of, station_row}
 use Rattle.demands.specs.Demands.{marks_with, Writes}
 use Rattle.demands.proofs.Took.{took}
+use Rattle.std.specs.Prelude.{Option, None, Some}
 
 whole : (n : ℕ) → suc n - 0 ≡ suc n
 whole n = omega arith
@@ -37,15 +36,15 @@ snoc-same zero = refl
 snoc-same (suc n) = ap (λ (l : List ℕ). 2 ∷ l) (snoc-same n)
 
 module _ (held : History) (at : ℕ) (p : length held.past ≡ at) (o : held.opens ≤ at) (r : Row) where
-  marks-as : (mark : List ℕ) → at < length mark → held.mark ≡ take at mark → (d : Decision) → (add_as d held r).mark ++ drop (suc at) mark ≡ marks_with (settled_as d held.opens) at mark
-  marks-as mark l m Nothing = rw (m, whole at) (ap (λ (k : List ℕ). k ++ drop (suc at) mark) (sym (take-suc-set mark at 1 l)))
-  marks-as mark l m (Decides w) =
+  marks-as : (mark : List ℕ) → at < length mark → held.mark ≡ take at mark → (d : Option With) → (add_as d held r).mark ++ drop (suc at) mark ≡ marks_with (settled_as d held.opens) at mark
+  marks-as mark l m None = rw (m, whole at) (ap (λ (k : List ℕ). k ++ drop (suc at) mark) (sym (take-suc-set mark at 1 l)))
+  marks-as mark l m (Some w) =
       rw (m, p, take-take (at - held.opens) at mark (omega arith), less at held.opens, take-set-le (at - held.opens) mark at 1 (omega arith), snoc-same held.opens)
       (append_assoc (take (at - held.opens) mark) (replicate (suc held.opens) 2) (drop (suc at) mark))
 
   -- ---- the indexes: those before the settled ones, the settled ones, the month's own, and those behind it
   module _ (index : List ℤ) (l : at < length index) where
-    abbrev Kept : Decision → List ℤ → Type 0
+    abbrev Kept : Option With → List ℤ → Type 0
     Kept d new =
         let n = suc at - settled_as d held.opens in
         (take n new ≡ take n (set index at r.shown)) × (get_or new at (pos 0) ≡ r.shown) × (drop (suc at) new ≡ drop (suc at) index)
@@ -68,17 +67,17 @@ module _ (held : History) (at : ℕ) (p : length held.past ≡ at) (o : held.ope
               ∙ take_at settled _ (length settled) refl,
         )
 
-    index-as : held.index ≡ take at index → (d : Decision) → Kept d ((add_as d held r).index ++ drop (suc at) index)
-    index-as i Nothing =
+    index-as : held.index ≡ take at index → (d : Option With) → Kept d ((add_as d held r).index ++ drop (suc at) index)
+    index-as i None =
         let q = parts at [] (omega arith) in
         let long : length (take at index ++ (r.shown ∷ [])) ≡ suc at = simp length-append (omega (arith, length-take-le at index (omega arith))) in
         rw (i, whole at) (take_at (take at index ++ (r.shown ∷ [])) (drop (suc at) index) (suc at) long ∙ sym (take-suc-set index at r.shown l), q.1, q.2)
-    index-as i (Decides w) =
+    index-as i (Some w) =
         let n = at - held.opens in
         let q = parts n (settled_all w (drop n held.past)) (omega (arith, settled-long w (drop n held.past), length-drop n held.past)) in
         rw (i, p, take-take n at index (omega arith), less at held.opens, take-set-le n index at r.shown (omega arith)) (q.0, q.1, q.2)
 
-    settled-as : held.index ≡ take at index → (d : Decision) (w : With) → d ≡ Decides w
+    settled-as : held.index ≡ take at index → (d : Option With) (w : With) → d ≡ Some w
         → take held.opens (drop (at - held.opens) ((add_as d held r).index ++ drop (suc at) index)) ≡ settled_all w (drop (at - held.opens) held.past)
     settled-as i d w e =
         let n = at - held.opens in
@@ -87,9 +86,9 @@ module _ (held : History) (at : ℕ) (p : length held.past ≡ at) (o : held.ope
         rw (e, i, p, take-take n at index (omega arith)) (ap (λ (k : ℕ). take k (drop n ((take n index ++ (s ++ (r.shown ∷ []))) ++ drop (suc at) index))) (sym long) ∙ (parts n s (omega (arith, long))).3)
 
 -- ---- the count: "the open months before it plus one if it decides, else 0"
-count-as : (d : Decision) (opens : ℕ) → (mark_for d ≡ 2 → settled_as d opens ≡ suc opens) × (mark_for d ≡ 1 → settled_as d opens ≡ 0)
-count-as Nothing opens = (λ e. absurd (omega arith), λ e. refl)
-count-as (Decides w) opens = (λ e. refl, λ e. absurd (omega arith))
+count-as : (d : Option With) (opens : ℕ) → (mark_for d ≡ 2 → settled_as d opens ≡ suc opens) × (mark_for d ≡ 1 → settled_as d opens ≡ 0)
+count-as None opens = (λ e. absurd (omega arith), λ e. refl)
+count-as (Some w) opens = (λ e. refl, λ e. absurd (omega arith))
 
 -- the last k of n months
 last_of : (f : ℕ → X) (n k : ℕ) → k ≤ n → xs_from f (0 + (n - k)) (n - (n - k)) ≡ xs_from f (n - k) k

@@ -5,7 +5,7 @@
 -- gives a number (`AddGives` and the others) in Given.antt, and number by number (`Table`) in Table.antt; `forward`, the rule that looks
 -- forward from a month, in the crate `hindsight`, specs/Rule.antt. Document 02 has its own words of a season, in Seasons.antt, of
 -- the months' records, in Recorded.antt, and of a repair, since which demand 3's last sentence then holds, in Repairs.antt. Assumes nothing.
-use Rattle.std.specs.Prelude.{◌≡◌, true, cond, ◌↔◌, ◌⊎◌, List, ◌++◌, map, ℕ, suc, ◌+◌, ◌-◌, ◌%◌, ◌≤◌, ◌<◌, ℤ, pos, nat_abs, length, get_or, take, drop, set, replicate}
+use Rattle.std.specs.Prelude.{◌≡◌, true, cond, ◌↔◌, ◌⊎◌, List, ◌++◌, map, ℕ, suc, ◌+◌, ◌-◌, ◌%◌, ◌≤◌, ◌<◌, ℤ, pos, nat_abs, length, get_or, take, drop, set, replicate, Some}
 use Rattle.outline.specs.Numbers.{most_z, last_month}
 use Rattle.outline.specs.Refusals.{bad_lists, bad_capacity, bad_storage, not_a_run}
 use Rattle.door.specs.Outcome.{refused}
@@ -18,7 +18,6 @@ use Rattle.water.specs.declared.Soil.{Soil}
 use Rattle.water.specs.declared.Constants.{Constants}
 use Rattle.spells.specs.Spells.{step_of}
 use Rattle.spells.specs.declared.With.{With}
-use Rattle.spells.specs.declared.Decision.TheVariants.{Decides}
 use Rattle.hindsight.specs.Rule.{X, Row, forward}
 use Rattle.hindsight.specs.Adding.{settled_all}
 use Rattle.hindsight.specs.Columns.{x_at, xs_from}
@@ -226,7 +225,7 @@ pub record Writes (r : Run) (a : Ask) (cs : Book) (b : Result) : Type 0 where
   pub index_beyond : drop (suc r.months) b.columns.index ≡ drop (suc r.months) cs.index
   -- "An add settles the run's last open months by the rule above from whatever the columns hold"
   pub index-settled :
-      (w : With) → (step_of r.values b.answer.figures.z).decision ≡ Decides w
+      (w : With) → (step_of r.values b.answer.figures.z).decision ≡ Some w
       → take r.opens (drop (r.months - r.opens) b.columns.index) ≡ settled_all w (open_months r cs)
   -- the settled count "equals the marks the call writes as 2"
   pub marks : b.columns.mark ≡ marks_with b.answer.settled r.months cs.mark

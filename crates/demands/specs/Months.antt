@@ -1,6 +1,6 @@
 -- Months added one by one: what may be added, the state that the calls carry from one to the next, and the figures, rows and records that the
 -- rules of a month give, which know nothing of runs or columns. The statements of this crate speak in these words. Assumes nothing.
-use Rattle.std.specs.Prelude.{ℕ, ◌≡◌, List, [], ◌∷◌, map, ℤ, pos}
+use Rattle.std.specs.Prelude.{ℕ, ◌≡◌, List, [], ◌∷◌, map, ℤ, pos, None}
 use Rattle.door.specs.Outcome.{kinds_of, no_kinds}
 use Rattle.door.specs.Readings.{reading, month}
 use Rattle.door.specs.declared.MonthKinds.{MonthKinds}
@@ -11,7 +11,6 @@ use Rattle.water.specs.declared.Soil.{Soil}
 use Rattle.water.specs.declared.Month.{Month}
 use Rattle.spells.specs.Spells.{step_of}
 use Rattle.spells.specs.declared.Running.{Running}
-use Rattle.spells.specs.declared.Decision.TheVariants.{Nothing}
 use Rattle.modified.specs.Modified.{modified_of}
 use Rattle.hindsight.specs.Rule.{Row}
 use Rattle.hindsight.specs.Columns.{rows_of}
@@ -164,7 +163,7 @@ station_row s a = row_for (step_of s.values (z_for s a))
 
 -- where there is no month
 abbrev pub no_row : Row
-no_row = record { x = record { x1 = pos 0; x2 = pos 0; x3 = pos 0 }; decision = Nothing; shown = pos 0 }
+no_row = record { x = record { x1 = pos 0; x2 = pos 0; x3 = pos 0 }; decision = None; shown = pos 0 }
 
 -- the rows of all months so far
 abbrev pub rows_of_months : Run → List Ask → List Row

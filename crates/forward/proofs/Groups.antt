@@ -7,19 +7,21 @@ use lib.IntN.{ℤ, pos}
 use Rattle.spells.specs.declared.Running.{Running}
 use Rattle.spells.specs.declared.With.{With}
 use Rattle.spells.specs.declared.With.TheVariants.{X1, X2, X3}
-use Rattle.spells.specs.declared.Decision.TheVariants.{Decides}
 use Rattle.spells.specs.Spells.{step_of}
 use Rattle.spells.proofs.Choices.{provisional-x3}
 use Rattle.spell_laws.proofs.Theorems.{decides-nothing}
 use Rattle.spell_laws.proofs.Reached.{open-values, none_stays}
-use Rattle.hindsight.specs.Rule.{X, Row, Side, first, second, side_from, nonzero, one_of, value_on}
+use Rattle.hindsight.specs.declared.Side.{Side}
+use Rattle.hindsight.specs.declared.Side.TheVariants.{First, Second}
+use Rattle.hindsight.specs.Rule.{X, Row, side_from, nonzero, one_of, value_on}
 use Rattle.hindsight.specs.Adding.{settled_all}
 use Rattle.hindsight.specs.Columns.{rows_of}
 use Rattle.hindsight.specs.Months.{next_values, row_of_z}
-use Rattle.hindsight.specs.Coded.{with_of, decision_of, state_of}
+use Rattle.hindsight.specs.Coded.{state_of}
 use Rattle.hindsight_laws.proofs.Hindsight.{x_of, shown_of, Wait}
-use Rattle.sides.specs.Sides.{sides_of, code, codes}
+use Rattle.sides.specs.Sides.{sides_of, code, codes, with_side}
 use Rattle.forward.specs.Groups.{group_indexes}
+use Rattle.std.specs.Prelude.{Some}
 
 -- the rows of months from running values on, and the values after them
 abbrev pub rows : Running → List ℤ → List Row
@@ -28,19 +30,11 @@ rows v zs = rows_of next_values row_of_z v zs
 abbrev pub values_after : Running → List ℤ → Running
 values_after v zs = state_of next_values v zs
 
--- ---- what the numbers of decisions leave of a group
+-- ---- what X1 and X2 leave of a group
 
-pub by-sides : (by : ℕ) (shown : List ℤ) (sides : List X) → (by ≡ 0 → ⊥) → by < 3 → group_indexes (decision_of by) shown sides ≡ settled_all (with_of by) sides
-by-sides zero shown sides h k = absurd (h refl)
-by-sides (suc zero) shown sides h k = refl
-by-sides (suc (suc zero)) shown sides h k = refl
-by-sides (suc (suc (suc n))) shown sides h k = absurd (omega arith)
-
-pub by-x3 : (by : ℕ) (shown : List ℤ) (sides : List X) → 3 ≤ by → group_indexes (decision_of by) shown sides ≡ shown
-by-x3 zero shown sides h = absurd (omega arith)
-by-x3 (suc zero) shown sides h = absurd (omega arith)
-by-x3 (suc (suc zero)) shown sides h = absurd (omega arith)
-by-x3 (suc (suc (suc n))) shown sides h = refl
+pub by-sides : (s : Side) (shown : List ℤ) (sides : List X) → group_indexes (Some (with_side s)) shown sides ≡ settled_all (with_side s) sides
+by-sides First shown sides = refl
+by-sides Second shown sides = refl
 
 -- ---- the sides: of months that decide nothing X1 and X2 are those of `sides_of`, and X3 has no part in it
 
@@ -60,20 +54,20 @@ side-without [] s = refl
 side-without (m ∷ l) s = ap (one_of (nonzero m.x1) (nonzero m.x2)) (side-without l s)
 
 value-without : (s : Side) (m : X) → value_on s (without m) ≡ value_on s m
-value-without first m = refl
-value-without second m = refl
+value-without First m = refl
+value-without Second m = refl
 
 settled-x1 : (l : List X) → settled_all X1 (map without l) ≡ settled_all X1 l
 settled-x1 [] = refl
-settled-x1 (m ∷ l) = rw (side-without (m ∷ l) first, value-without (side_from (m ∷ l) first) m, settled-x1 l) refl
+settled-x1 (m ∷ l) = rw (side-without (m ∷ l) First, value-without (side_from (m ∷ l) First) m, settled-x1 l) refl
 
 settled-x2 : (l : List X) → settled_all X2 (map without l) ≡ settled_all X2 l
 settled-x2 [] = refl
-settled-x2 (m ∷ l) = rw (side-without (m ∷ l) second, value-without (side_from (m ∷ l) second) m, settled-x2 l) refl
+settled-x2 (m ∷ l) = rw (side-without (m ∷ l) Second, value-without (side_from (m ∷ l) Second) m, settled-x2 l) refl
 
 -- ---- X3: what a month that decides with X3 comes from has X3 nonzero, and so on back, so each of the months before it shows its X3
 
-x3-stands : (v : Running) (zs : List ℤ) (z : ℤ) → Wait (rows v zs) → (step_of (values_after v zs) z).decision ≡ Decides X3
+x3-stands : (v : Running) (zs : List ℤ) (z : ℤ) → Wait (rows v zs) → (step_of (values_after v zs) z).decision ≡ Some X3
     → (v.x3 ≡ pos 0 → ⊥) × (settled_all X3 (map x_of (rows v zs)) ≡ map shown_of (rows v zs))
 x3-stands v [] z w d = (λ e. (none_stays v z e).0 d, refl)
 x3-stands v (y ∷ zs) z w d =
@@ -87,8 +81,8 @@ module _ (v : Running) (zs : List ℤ) (wait : Wait (rows v zs)) where
   pub group-codes : codes (map x_of (rows v zs)) ≡ codes (sides_of v.x1 v.x2 zs)
   group-codes = sym (codes-without (map x_of (rows v zs))) ∙ ap codes (open-sides v zs wait)
 
-  pub group-indexes : (z : ℤ) (w : With) → (step_of (values_after v zs) z).decision ≡ Decides w
-      → group_indexes (Decides w) (map shown_of (rows v zs)) (sides_of v.x1 v.x2 zs) ≡ settled_all w (map x_of (rows v zs))
+  pub group-indexes : (z : ℤ) (w : With) → (step_of (values_after v zs) z).decision ≡ Some w
+      → group_indexes (Some w) (map shown_of (rows v zs)) (sides_of v.x1 v.x2 zs) ≡ settled_all w (map x_of (rows v zs))
   group-indexes z X1 d = rw (← open-sides v zs wait) (settled-x1 (map x_of (rows v zs)))
   group-indexes z X2 d = rw (← open-sides v zs wait) (settled-x2 (map x_of (rows v zs)))
   group-indexes z X3 d = sym (x3-stands v zs z wait d).1

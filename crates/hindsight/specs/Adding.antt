@@ -1,9 +1,7 @@
 -- Document 01, "What can be asked": an add writes the new month's place, and index and mark of the open months that it settles. The rule
 -- that adds months one by one, on the history of a run: what its columns hold of the months added so far. Assumes nothing.
-use Rattle.std.specs.Prelude.{List, [], ◌∷◌, ◌++◌, ℕ, suc, ◌-◌, ℤ, length, take, drop, replicate}
+use Rattle.std.specs.Prelude.{List, [], ◌∷◌, ◌++◌, ℕ, suc, ◌-◌, ℤ, length, take, drop, replicate, Option, None, Some}
 use Rattle.spells.specs.declared.With.{With}
-use Rattle.spells.specs.declared.Decision.{Decision}
-use Rattle.spells.specs.declared.Decision.TheVariants.{Nothing, Decides}
 use Rattle.hindsight.specs.Rule.{X, Row, settled_index}
 
 -- of the months so far: X1, X2 and X3 of each (`past`), its index, its mark, and how many of them, the last, are open
@@ -27,15 +25,15 @@ abbrev pub kept : History → ℕ
 kept held = length held.past - held.opens
 
 -- a month that does not decide is one more open month. One that decides rewrites index and mark of the last open months, and writes its own
-abbrev pub add_as : Decision → History → Row → History
-add_as Nothing held r =
+abbrev pub add_as : Option With → History → Row → History
+add_as None held r =
     record {
       past = held.past ++ (r.x ∷ []);
       index = held.index ++ (r.shown ∷ []);
       mark = held.mark ++ (1 ∷ []);
       opens = suc held.opens;
     }
-add_as (Decides w) held r =
+add_as (Some w) held r =
     record {
       past = held.past ++ (r.x ∷ []);
       index = take (kept held) held.index ++ (settled_all w (drop (kept held) held.past) ++ (r.shown ∷ []));
@@ -48,9 +46,9 @@ abbrev pub add_month : History → Row → History
 add_month held r = add_as r.decision held r
 
 -- what the add answers: "the open months before it plus one if it decides, else 0"
-abbrev pub settled_as : Decision → ℕ → ℕ
-settled_as Nothing opens = 0
-settled_as (Decides w) opens = suc opens
+abbrev pub settled_as : Option With → ℕ → ℕ
+settled_as None opens = 0
+settled_as (Some w) opens = suc opens
 
 abbrev pub settled_count : History → Row → ℕ
 settled_count held r = settled_as r.decision held.opens

@@ -1,51 +1,33 @@
--- A proof's vocabulary, which contracts cite: decisions and sides stand in the code as numbers; what an add leaves and answers, fact by
--- fact; and the state after a list of Z. Assumes nothing.
-use Rattle.std.specs.Prelude.{List, [], ◌∷◌, ◌++◌, Bool, true, false, ◌≡◌, ℕ, zero, suc, ℤ, drop}
+-- A proof's vocabulary, which contracts cite: the sides as the code tells them; what an add leaves and answers, fact by fact; and the state
+-- after a list of Z. Assumes nothing.
+use Rattle.std.specs.Prelude.{List, [], ◌∷◌, ◌++◌, Bool, true, false, ◌≡◌, ℕ, suc, ℤ, drop, Option, None, Some}
 use Rattle.hindsight.specs.Adding.{History, add_month, settled_count}
 use Rattle.spells.specs.declared.With.{With}
 use Rattle.spells.specs.declared.With.TheVariants.{X1, X2, X3}
-use Rattle.spells.specs.declared.Decision.{Decision}
-use Rattle.spells.specs.declared.Decision.TheVariants.{Nothing, Decides}
-use Rattle.hindsight.specs.Rule.{X, Row, Side, first, second, value_on}
+use Rattle.hindsight.specs.declared.Side.{Side}
+use Rattle.hindsight.specs.declared.Side.TheVariants.{First, Second}
+use Rattle.hindsight.specs.Rule.{X, Row, value_on}
 
--- ---- the numbers of decisions and of sides
+-- ---- the sides
 
--- a decision from its number, as `decision_number` of the crate `spells` gives it: 0 decides nothing, 1 with X1, 2 with X2, 3 with X3.
--- Any number is a decision's, so that nothing is asked of a caller: those above 3 decide with X3
-abbrev pub with_of : ℕ → With
-with_of zero = X3
-with_of (suc zero) = X1
-with_of (suc (suc zero)) = X2
-with_of (suc (suc (suc n))) = X3
+-- "exactly one of X1, X2 nonzero gives the side": the side that a month gives alone, from whether X1 and whether X2 is nonzero
+abbrev pub told : Bool → Bool → Option Side
+told true true = None
+told true false = Some First
+told false true = Some Second
+told false false = None
 
-abbrev pub decision_of : ℕ → Decision
-decision_of zero = Nothing
-decision_of (suc n) = Decides (with_of (suc n))
-
--- a side from its number: 1 is X1's, any other X2's
-abbrev pub side_of : ℕ → Side
-side_of zero = second
-side_of (suc zero) = first
-side_of (suc (suc n)) = second
-
--- "exactly one of X1, X2 nonzero gives the side": the side's number, from whether X1 and whether X2 is nonzero; otherwise the number s
-abbrev pub side_number : Bool → Bool → ℕ → ℕ
-side_number true true s = s
-side_number true false s = 1
-side_number false true s = 2
-side_number false false s = s
+-- the side that the deciding month gives; by X3 none is asked for
+abbrev pub side_by : With → Side
+side_by X1 = First
+side_by X2 = Second
+side_by X3 = Second
 
 -- "If it decides with X3, the month's index is its own X3. Otherwise .. the month's own value on that side."
 abbrev pub value_by : With → Side → X → ℤ
 value_by X1 s m = value_on s m
 value_by X2 s m = value_on s m
 value_by X3 s m = m.x3
-
--- ---- a row as the code has it
-
--- a month's row from its three values, its decision's number and the index that it shows when it is added
-abbrev pub row_of : ℤ → ℤ → ℤ → ℕ → ℤ → Row
-row_of a b c by shown = record { x = record { x1 = a; x2 = b; x3 = c }; decision = decision_of by; shown = shown }
 
 -- ---- what an add leaves and answers
 

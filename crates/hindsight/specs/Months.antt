@@ -1,18 +1,17 @@
 -- A month of spells as hindsight has it, and the rows of a list of Z from a fresh run. Assumes nothing.
-use Rattle.std.specs.Prelude.{ℕ, List, ℤ}
+use Rattle.std.specs.Prelude.{ℕ, List, ℤ, Option, None, Some}
 use Rattle.spells.specs.Spells.{step_of}
 use Rattle.spells.specs.Values.{fresh}
 use Rattle.spells.specs.declared.Running.{Running}
 use Rattle.spells.specs.declared.SpellMonth.{SpellMonth}
-use Rattle.spells.specs.declared.Decision.{Decision}
-use Rattle.spells.specs.declared.Decision.TheVariants.{Nothing, Decides}
 use Rattle.hindsight.specs.Rule.{Row}
 use Rattle.hindsight.specs.Columns.{rows_of}
+use Rattle.spells.specs.declared.With.{With}
 
 -- "mark (1 open, 2 settled)", of the month that decides so
-abbrev pub mark_for : Decision → ℕ
-mark_for Nothing = 1
-mark_for (Decides w) = 2
+abbrev pub mark_for : Option With → ℕ
+mark_for None = 1
+mark_for (Some w) = 2
 
 -- a month of spells as a row
 abbrev pub row_for : SpellMonth → Row

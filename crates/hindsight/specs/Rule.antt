@@ -1,10 +1,11 @@
 -- Document 01, "Hindsight": the rule that looks forward from a month. It knows nothing of runs. The document's sentences stand above the
 -- definitions that say them. Assumes nothing.
-use Rattle.std.specs.Prelude.{List, [], ◌∷◌, map, Bool, true, false, ℕ, zero, suc, ℤ, pos, negsuc}
+use Rattle.std.specs.Prelude.{List, [], ◌∷◌, map, Bool, true, false, ℕ, zero, suc, ℤ, pos, negsuc, Option, None, Some}
 use Rattle.spells.specs.declared.With.{With}
 use Rattle.spells.specs.declared.With.TheVariants.{X1, X2, X3}
-use Rattle.spells.specs.declared.Decision.{Decision}
-use Rattle.spells.specs.declared.Decision.TheVariants.{Nothing, Decides}
+-- the two sides, X1's and X2's
+use Rattle.hindsight.specs.declared.Side.{Side}
+use Rattle.hindsight.specs.declared.Side.TheVariants.{First, Second}
 
 -- a month's running values, as its three columns hold them
 pub record X : Type 0 where
@@ -16,12 +17,8 @@ pub record X : Type 0 where
 -- (the provisional index of a month that does not decide; of one that does the new X3 if one was established, else its value on the deciding side)
 pub record Row : Type 0 where
   pub x : X
-  pub decision : Decision
+  pub decision : Option With
   pub shown : ℤ
-
--- the two sides, X1's and X2's
-pub data Side : Type 0 where
-  first second : Side
 
 abbrev pub nonzero : ℤ → Bool
 nonzero (pos zero) = false
@@ -31,8 +28,8 @@ nonzero (negsuc n) = true
 -- "exactly one of X1, X2 nonzero gives the side"; otherwise it is s
 abbrev pub one_of : Bool → Bool → Side → Side
 one_of true true s = s
-one_of true false s = first
-one_of false true s = second
+one_of true false s = First
+one_of false true s = Second
 one_of false false s = s
 
 -- "the first month before the deciding one with exactly one of X1, X2 nonzero gives the side; with none, the deciding month gives it":
@@ -43,14 +40,14 @@ side_from (m ∷ later) s = one_of (nonzero m.x1) (nonzero m.x2) (side_from late
 
 -- the month's own value on a side
 abbrev pub value_on : Side → X → ℤ
-value_on first m = m.x1
-value_on second m = m.x2
+value_on First m = m.x1
+value_on Second m = m.x2
 
 -- the index of the month m, which a later month settles; `later` are the months after m and before the deciding one.
 -- "If it decides with X3, the month's index is its own X3. Otherwise .. The index is the month's own value on that side."
 abbrev pub settled_index : With → X → List X → ℤ
-settled_index X1 m later = value_on (side_from (m ∷ later) first) m
-settled_index X2 m later = value_on (side_from (m ∷ later) second) m
+settled_index X1 m later = value_on (side_from (m ∷ later) First) m
+settled_index X2 m later = value_on (side_from (m ∷ later) Second) m
 settled_index X3 m later = m.x3
 
 -- "A month's deciding month is the first from it onward that decides." Nobody, or, after the months before it, one that decides with w and shows the index i
@@ -62,9 +59,9 @@ abbrev pub one_earlier : X → Deciding → Deciding
 one_earlier m nobody = nobody
 one_earlier m (after before w i) = after (m ∷ before) w i
 
-abbrev pub deciding_for : Decision → Row → Deciding → Deciding
-deciding_for Nothing r d = one_earlier r.x d
-deciding_for (Decides w) r d = after [] w r.shown
+abbrev pub deciding_for : Option With → Row → Deciding → Deciding
+deciding_for None r d = one_earlier r.x d
+deciding_for (Some w) r d = after [] w r.shown
 
 abbrev pub deciding : List Row → Deciding
 deciding [] = nobody

@@ -1,38 +1,54 @@
 // Hindsight: the open months before a month that decides, settled.
 //
-// For the crates above, which hold the lengths that `settle` requires. A decision comes as its number: 0 nothing, 1
-// with X1, 2 with X2, 3 with X3. A side is 1 for X1's and 2 for X2's.
+// For the crates above, which hold the lengths that `settle` requires.
 #![tactic(auto)]
 
 ghost use Rattle.std.specs.Prelude.{◌≡◌, ◌++◌, ◌-◌, ◌≤◌, length, take, drop, replicate};
 ghost use Rattle.hindsight.specs.Rule.{nonzero};
 ghost use Rattle.hindsight.specs.Adding.{settled_all};
 ghost use Rattle.hindsight.specs.Columns.{x_at, xs_from};
-ghost use Rattle.hindsight.specs.Coded.{with_of, side_of, side_number, value_by};
+ghost use Rattle.hindsight.specs.Coded.{told, side_by, value_by};
 
-// The side that a month gives, if exactly one of its X1 and X2 is not 0, else the side that is passed.
-pub fn told(a: i32, b: i32, side: u8) -> u8
-    ensures { result ≡ side_number (nonzero a) (nonzero b) side }
+use spells::With;
+
+// The side of X1 or of X2.
+#[derive(Clone, Copy, PartialEq, Eq)]
+pub enum Side {
+    First,
+    Second,
+}
+
+// The side that a month gives alone: that of the one of its X1 and X2 that is not 0, if exactly one is.
+pub fn told(x1: i32, x2: i32) -> Option<Side>
+    ensures { result ≡ told (nonzero x1) (nonzero x2) }
 {
-    if a == 0 {
-        if b == 0 { side } else { 2 }
+    if x1 == 0 {
+        if x2 == 0 { None } else { Some(Side::Second) }
     } else {
-        if b == 0 { 1 } else { side }
+        if x2 == 0 { Some(Side::First) } else { None }
+    }
+}
+
+// The side that a month gives that decides so; by X3 none is asked for.
+pub fn side_by(by: With) -> Side
+    ensures { result ≡ side_by by }
+{
+    match by {
+        With::X1 => Side::First,
+        With::X2 | With::X3 => Side::Second,
     }
 }
 
 // A month's X3, or its value on the side.
-fn value(a: i32, b: i32, c: i32, by: u8, side: u8) -> i32
-    ensures { result ≡ value_by (with_of by) (side_of side) (record { x1 = a; x2 = b; x3 = c }) }
+fn value(x1: i32, x2: i32, x3: i32, by: With, side: Side) -> i32
+    ensures { result ≡ value_by by side (record { x1 = x1; x2 = x2; x3 = x3 }) }
 {
-    if by == 1 {
-        if side == 1 { a } else { b }
-    } else {
-        if by == 2 {
-            if side == 1 { a } else { b }
-        } else {
-            c
-        }
+    match by {
+        With::X3 => x3,
+        With::X1 | With::X2 => match side {
+            Side::First => x1,
+            Side::Second => x2,
+        },
     }
 }
 
@@ -47,23 +63,16 @@ pub fn settle(
     mark: &mut [u8],
     from: usize,
     at: usize,
-    by: u8,
+    by: With,
 )
     requires { (from ≤ at) × (at ≤ length x1.now) × (at ≤ length x2.now) × (at ≤ length x3.now) × (at ≤ length index.old) × (at ≤ length mark.old) }
-    ensures indexes { index.new ≡ take from index.old ++ (settled_all (with_of by) (xs_from (x_at x1.now x2.now x3.now) from (at - from)) ++ drop at index.old) }
+    ensures indexes { index.new ≡ take from index.old ++ (settled_all by (xs_from (x_at x1.now x2.now x3.now) from (at - from)) ++ drop at index.old) }
     ensures marks { mark.new ≡ take from mark.old ++ (replicate (at - from) 2 ++ drop at mark.old) }
 {
-    let mut side = by;
-    let mut j = at;
-    while from < j {
-        let i = j - 1;
-        let a = x1[i];
-        let b = x2[i];
-        let c = x3[i];
-        side = told(a, b, side);
-        let v = value(a, b, c, by, side);
-        index[i] = v;
+    let mut side = side_by(by);
+    for i in (from..at).rev() {
+        side = told(x1[i], x2[i]).unwrap_or(side);
+        index[i] = value(x1[i], x2[i], x3[i], by, side);
         mark[i] = 2;
-        j = i;
     }
 }

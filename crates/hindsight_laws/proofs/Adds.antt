@@ -7,14 +7,14 @@ use native.Mathlib.Omega.{arith}
 use lib.IntN.{ℤ, pos}
 use lib.ListN.{length, take, drop, set, length-append, length-drop}
 use lib.Seq.{take_at, get_or-set_same}
-use Rattle.spells.specs.declared.Decision.{Decision}
-use Rattle.spells.specs.declared.Decision.TheVariants.{Nothing, Decides}
 use Rattle.hindsight.specs.Rule.{X, Row, forward_indexes, forward_marks}
 use Rattle.hindsight.specs.Adding.{History, fresh, add_all, add_as, add_month, add_to}
 use Rattle.hindsight.specs.Columns.{x_at, xs_from, history_in}
-use Rattle.hindsight.specs.Coded.{decision_of, row_of, Adds}
+use Rattle.hindsight.specs.Coded.{Adds}
 use Rattle.history.proofs.Adding.{xs-same, earlier-same}
 use Rattle.hindsight_laws.proofs.Hindsight.{x_of, inv, index-columns, mark-columns, add-append}
+use Rattle.std.specs.Prelude.{Option, None, Some}
+use Rattle.spells.specs.declared.With.{With}
 
 -- one place more
 xs-long : (x : ℕ → X) (i k : ℕ) → xs_from x i (suc k) ≡ xs_from x i k ++ (x (i + k) ∷ [])
@@ -28,9 +28,9 @@ xs-long x i (suc k) = rw (add i k) (ap (λ (l : List X). x i ∷ l) (xs-long x (
     add i k = omega arith
 
 -- the months that are held, whatever is decided
-past_of : (d : Decision) (run : History) (r : Row) → (add_as d run r).past ≡ run.past ++ (r.x ∷ [])
-past_of Nothing run r = refl
-past_of (Decides w) run r = refl
+past_of : (d : Option With) (run : History) (r : Row) → (add_as d run r).past ≡ run.past ++ (r.x ∷ [])
+past_of None run r = refl
+past_of (Some w) run r = refl
 
 -- so after any months those held are the months added, in their order
 pub past_all : (run : History) (rows : List Row) → (add_to run rows).past ≡ run.past ++ map x_of rows
@@ -46,32 +46,32 @@ front l l₀ p n h k e =
     rw e
     (take_at p (drop (suc n) l₀) (suc n) (omega (arith, k, ap length e, length-append p (drop (suc n) l₀), length-drop (suc n) l₀)))
 
-pub adds_run : (x1 x2 x3 index₀ : List ℤ) (mark₀ : List ℕ) (n opens : ℕ) (a b c : ℤ) (by : ℕ) (shown : ℤ) (index : List ℤ) (mark : List ℕ) (o settled : ℕ)
+pub adds_run : (x1 x2 x3 index₀ : List ℤ) (mark₀ : List ℕ) (n opens : ℕ) (r : Row) (index : List ℤ) (mark : List ℕ) (o settled : ℕ)
     → n < length x1 → n < length x2 → n < length x3 → n < length index₀ → n < length mark₀ → length index ≡ length index₀ → length mark ≡ length mark₀
-    → Adds (history_in x1 x2 x3 index₀ mark₀ n opens) (row_of a b c by shown) n index₀ index mark₀ mark o settled
-    → history_in (set x1 n a) (set x2 n b) (set x3 n c) index mark (suc n) o ≡ add_month (history_in x1 x2 x3 index₀ mark₀ n opens) (row_of a b c by shown)
-adds_run x1 x2 x3 index₀ mark₀ n opens a b c by shown index mark o settled h1 h2 h3 hi hm ki km g =
+    → Adds (history_in x1 x2 x3 index₀ mark₀ n opens) r n index₀ index mark₀ mark o settled
+    → history_in (set x1 n r.x.x1) (set x2 n r.x.x2) (set x3 n r.x.x3) index mark (suc n) o ≡ add_month (history_in x1 x2 x3 index₀ mark₀ n opens) r
+adds_run x1 x2 x3 index₀ mark₀ n opens r index mark o settled h1 h2 h3 hi hm ki km g =
     λ i. record { past = p i; index = q i; mark = m i; opens = g.opens_is i }
   where
     run : History
     run = history_in x1 x2 x3 index₀ mark₀ n opens
 
-    new : x_at (set x1 n a) (set x2 n b) (set x3 n c) (0 + n) ≡ record { x1 = a; x2 = b; x3 = c }
+    new : x_at (set x1 n r.x.x1) (set x2 n r.x.x2) (set x3 n r.x.x3) (0 + n) ≡ r.x
     new =
         let e : 0 + n ≡ n = omega arith in
-        rw (e, get_or-set_same x1 n a (pos 0) h1, get_or-set_same x2 n b (pos 0) h2, get_or-set_same x3 n c (pos 0) h3) refl
+        rw (e, get_or-set_same x1 n r.x.x1 (pos 0) h1, get_or-set_same x2 n r.x.x2 (pos 0) h2, get_or-set_same x3 n r.x.x3 (pos 0) h3) refl
 
-    p : xs_from (x_at (set x1 n a) (set x2 n b) (set x3 n c)) 0 (suc n) ≡ (add_month run (row_of a b c by shown)).past
+    p : xs_from (x_at (set x1 n r.x.x1) (set x2 n r.x.x2) (set x3 n r.x.x3)) 0 (suc n) ≡ (add_month run r).past
     p =
-        xs-long (x_at (set x1 n a) (set x2 n b) (set x3 n c)) 0 n
-        ∙ rw (new, xs-same (x_at (set x1 n a) (set x2 n b) (set x3 n c)) (x_at x1 x2 x3) 0 n (λ j h. earlier-same x1 x2 x3 n a b c j (omega arith)))
-        (sym (past_of (decision_of by) run (row_of a b c by shown)))
+        xs-long (x_at (set x1 n r.x.x1) (set x2 n r.x.x2) (set x3 n r.x.x3)) 0 n
+        ∙ rw (new, xs-same (x_at (set x1 n r.x.x1) (set x2 n r.x.x2) (set x3 n r.x.x3)) (x_at x1 x2 x3) 0 n (λ j h. earlier-same x1 x2 x3 n r.x.x1 r.x.x2 r.x.x3 j (omega arith)))
+        (sym (past_of r.decision run r))
 
-    q : take (suc n) index ≡ (add_month run (row_of a b c by shown)).index
-    q = front index index₀ (add_month run (row_of a b c by shown)).index n hi ki g.index_is
+    q : take (suc n) index ≡ (add_month run r).index
+    q = front index index₀ (add_month run r).index n hi ki g.index_is
 
-    m : take (suc n) mark ≡ (add_month run (row_of a b c by shown)).mark
-    m = front mark mark₀ (add_month run (row_of a b c by shown)).mark n hm km g.mark_is
+    m : take (suc n) mark ≡ (add_month run r).mark
+    m = front mark mark₀ (add_month run r).mark n hm km g.mark_is
 
 -- one add more, from a fresh run on
 pub adds-all : (rows : List Row) (r : Row) (run run' : History) → run ≡ add_all rows → run' ≡ add_month run r → run' ≡ add_all (rows ++ (r ∷ []))

@@ -10,12 +10,11 @@ use lib.IntN.{ℤ, pos}
 use lib.ListN.{length, take, drop, replicate, get_or, length-append, length-map, length-replicate}
 use lib.Seq.{take_at, drop_at}
 use Rattle.spells.specs.declared.With.{With}
-use Rattle.spells.specs.declared.Decision.{Decision}
-use Rattle.spells.specs.declared.Decision.TheVariants.{Nothing, Decides}
 use Rattle.hindsight.specs.Rule.{X, Row, Deciding, nobody, after, one_earlier, deciding_for, deciding, Shown, shown_by, settled_index, forward, forward_all, forward_indexes, forward_marks, index_of, mark_of}
 use Rattle.hindsight.proofs.Forward.{length-forward_all, get_d-forward_all, get_d_map}
 use Rattle.hindsight_laws.specs.Counts.{NoneFrom, count}
 use Rattle.hindsight.specs.Adding.{History, fresh, settled_all, kept, add_as, add_month, settled_count, settled_as, add_to, add_all}
+use Rattle.std.specs.Prelude.{Option, None, Some}
 
 abbrev pub x_of : Row → X
 x_of r = r.x
@@ -26,7 +25,7 @@ shown_of r = r.shown
 -- nobody of these months decides
 abbrev pub Wait : List Row → Type 0
 Wait [] = Unit {0}
-Wait (r ∷ later) = (r.decision ≡ Nothing) × Wait later
+Wait (r ∷ later) = (r.decision ≡ None) × Wait later
 
 -- the forward rule at s is done, and what comes later starts afresh
 abbrev pub Closed : List Row → Type 0
@@ -52,7 +51,7 @@ replicate-append [] m n = refl
 replicate-append (x ∷ l) m n = ap (λ (r : List ℕ). n ∷ r) (replicate-append l m n)
 
 -- the deciding month of t followed by a month that decides is that month
-settles : (t : List Row) (r : Row) (w : With) (rest : List Row) → Wait t → r.decision ≡ Decides w → deciding (t ++ (r ∷ rest)) ≡ after (map x_of t) w r.shown
+settles : (t : List Row) (r : Row) (w : With) (rest : List Row) → Wait t → r.decision ≡ Some w → deciding (t ++ (r ∷ rest)) ≡ after (map x_of t) w r.shown
 settles [] r w rest h e = rw e
 settles (m ∷ t) r w rest h e = rw (h.0, settles t r w rest h.1 e)
 
@@ -65,7 +64,7 @@ shows : With → List X → List Shown
 shows w [] = []
 shows w (m ∷ later) = record { mark = 2; index = settled_index w m later } ∷ shows w later
 
-forward-settles : (t : List Row) (r : Row) (w : With) (rest : List Row) → Wait t → r.decision ≡ Decides w
+forward-settles : (t : List Row) (r : Row) (w : With) (rest : List Row) → Wait t → r.decision ≡ Some w
     → forward_all (t ++ (r ∷ rest)) ≡ shows w (map x_of t) ++ (record { mark = 2; index = r.shown } ∷ forward_all rest)
 unfolding shows
 forward-settles [] r w rest h e = rw e
@@ -87,7 +86,7 @@ shows-indexes w [] = refl
 shows-indexes w (m ∷ l) = ap (λ (r : List ℤ). settled_index w m l ∷ r) (shows-indexes w l)
 
 -- so the columns begin with the group's, and then with the month's own
-module _ (t : List Row) (r : Row) (w : With) (rest : List Row) (h : Wait t) (e : r.decision ≡ Decides w) where
+module _ (t : List Row) (r : Row) (w : With) (rest : List Row) (h : Wait t) (e : r.decision ≡ Some w) where
   pub indexes-settle : forward_indexes (t ++ (r ∷ rest)) ≡ settled_all w (map x_of t) ++ (r.shown ∷ forward_indexes rest)
   indexes-settle = rw (forward-settles t r w rest h e) (simp (map-append, shows-indexes))
 
@@ -98,7 +97,7 @@ module _ (t : List Row) (r : Row) (w : With) (rest : List Row) (h : Wait t) (e :
 closed-nil : Closed []
 closed-nil rest = refl
 
-closed-more : (s t : List Row) (r : Row) (w : With) → Closed s → Wait t → r.decision ≡ Decides w → Closed (s ++ (t ++ (r ∷ [])))
+closed-more : (s t : List Row) (r : Row) (w : With) → Closed s → Wait t → r.decision ≡ Some w → Closed (s ++ (t ++ (r ∷ [])))
 closed-more s t r w c h e rest =
     rw (
       append_assoc s (t ++ (r ∷ [])) rest,
@@ -111,7 +110,7 @@ closed-more s t r w c h e rest =
       append_assoc (shows w (map x_of t)) (record { mark = 2; index = r.shown } ∷ []) (forward_all rest),
     )
 
-pub wait-more : (t : List Row) (r : Row) → Wait t → r.decision ≡ Nothing → Wait (t ++ (r ∷ []))
+pub wait-more : (t : List Row) (r : Row) → Wait t → r.decision ≡ None → Wait (t ++ (r ∷ []))
 wait-more [] r h e = (e, tt)
 wait-more (m ∷ t) r h e = (h.0, wait-more t r h.1 e)
 
@@ -128,17 +127,17 @@ replicate-snoc zero a = refl
 replicate-snoc (suc n) a = ap (λ (r : List ℕ). a ∷ r) (replicate-snoc n a)
 
 -- one month more, which does not decide
-add-waits : (s t : List Row) (r : Row) → add_as Nothing (run_of s t) r ≡ run_of s (t ++ (r ∷ []))
+add-waits : (s t : List Row) (r : Row) → add_as None (run_of s t) r ≡ run_of s (t ++ (r ∷ []))
 add-waits s t r = simp (map-append, append_assoc, length-snoc, replicate-snoc)
 
 -- one month more, which decides: the three columns
-module _ (s t : List Row) (r : Row) (w : With) (c : Closed s) (h : Wait t) (e : r.decision ≡ Decides w) where
-  past-Decides : map x_of s ++ map x_of t ++ (r.x ∷ []) ≡ map x_of (s ++ (t ++ (r ∷ []))) ++ []
-  past-Decides = simp (map-append, append_assoc, append-nil)
+module _ (s t : List Row) (r : Row) (w : With) (c : Closed s) (h : Wait t) (e : r.decision ≡ Some w) where
+  past-decides : map x_of s ++ map x_of t ++ (r.x ∷ []) ≡ map x_of (s ++ (t ++ (r ∷ []))) ++ []
+  past-decides = simp (map-append, append_assoc, append-nil)
 
-  index-Decides : take (kept (run_of s t)) (map index_of (forward_all s) ++ map shown_of t) ++ (settled_all w (drop (kept (run_of s t)) (map x_of s ++ map x_of t)) ++ (r.shown ∷ []))
+  index-decides : take (kept (run_of s t)) (map index_of (forward_all s) ++ map shown_of t) ++ (settled_all w (drop (kept (run_of s t)) (map x_of s ++ map x_of t)) ++ (r.shown ∷ []))
       ≡ map index_of (forward_all (s ++ (t ++ (r ∷ [])))) ++ []
-  index-Decides =
+  index-decides =
       rw (
         take_at (map index_of (forward_all s)) (map shown_of t) (kept (run_of s t)) (length-map (forward_all s) index_of ∙ length-forward_all s ∙ sym (kept-is s t)),
         drop_at (map x_of s) (map x_of t) (kept (run_of s t)) (length-map s x_of ∙ sym (kept-is s t)),
@@ -146,14 +145,14 @@ module _ (s t : List Row) (r : Row) (w : With) (c : Closed s) (h : Wait t) (e : 
       )
       (simp (map-append, indexes-settle t r w [] h e, append-nil))
 
-  mark-Decides : take (kept (run_of s t)) (replicate {A = ℕ} (length s) 2 ++ replicate {A = ℕ} (length t) 1) ++ (replicate {A = ℕ} (length t) 2 ++ (2 ∷ []))
+  mark-decides : take (kept (run_of s t)) (replicate {A = ℕ} (length s) 2 ++ replicate {A = ℕ} (length t) 1) ++ (replicate {A = ℕ} (length t) 2 ++ (2 ∷ []))
       ≡ replicate {A = ℕ} (length (s ++ (t ++ (r ∷ [])))) 2 ++ []
-  mark-Decides =
+  mark-decides =
       rw (take_at (replicate {A = ℕ} (length s) 2) (replicate {A = ℕ} (length t) 1) (kept (run_of s t)) (length-replicate (length s) 2 ∙ sym (kept-is s t)))
       (simp (replicate-append, append-nil))
 
-  add-Decides : add_as (Decides w) (run_of s t) r ≡ run_of (s ++ (t ++ (r ∷ []))) []
-  add-Decides = λ i. record { past = past-Decides i; index = index-Decides i; mark = mark-Decides i; opens = 0 }
+  add-decides : add_as (Some w) (run_of s t) r ≡ run_of (s ++ (t ++ (r ∷ []))) []
+  add-decides = λ i. record { past = past-decides i; index = index-decides i; mark = mark-decides i; opens = 0 }
 
   twos-more : map mark_of (forward_all s) ≡ replicate {A = ℕ} (length s) 2 → map mark_of (forward_all (s ++ (t ++ (r ∷ [])))) ≡ replicate {A = ℕ} (length (s ++ (t ++ (r ∷ [])))) 2
   twos-more p = rw (c (t ++ (r ∷ []))) (simp (map-append, marks-settle t r w [] h e, replicate-append, p))
@@ -174,8 +173,8 @@ inv-fresh = record { s = []; t = []; split = refl; closed = closed-nil; wait = t
 inv-add : (rows : List Row) (run : History) (r : Row) → Inv rows run → Inv (rows ++ (r ∷ [])) (add_month run r)
 inv-add rows run r v = go r.decision refl
   where
-    go : (d : Decision) → r.decision ≡ d → Inv (rows ++ (r ∷ [])) (add_as d run r)
-    go Nothing e =
+    go : (d : Option With) → r.decision ≡ d → Inv (rows ++ (r ∷ [])) (add_as d run r)
+    go None e =
         record {
           s = v.s;
           t = v.t ++ (r ∷ []);
@@ -183,9 +182,9 @@ inv-add rows run r v = go r.decision refl
           closed = v.closed;
           wait = wait-more v.t r v.wait e;
           twos = v.twos;
-          is = ap (λ (u : History). add_as Nothing u r) v.is ∙ add-waits v.s v.t r;
+          is = ap (λ (u : History). add_as None u r) v.is ∙ add-waits v.s v.t r;
         }
-    go (Decides w) e =
+    go (Some w) e =
         record {
           s = v.s ++ (v.t ++ (r ∷ []));
           t = [];
@@ -193,7 +192,7 @@ inv-add rows run r v = go r.decision refl
           closed = closed-more v.s v.t r w v.closed v.wait e;
           wait = tt;
           twos = twos-more v.s v.t r w v.closed v.wait e v.twos;
-          is = ap (λ (u : History). add_as (Decides w) u r) v.is ∙ add-Decides v.s v.t r w v.closed v.wait e;
+          is = ap (λ (u : History). add_as (Some w) u r) v.is ∙ add-decides v.s v.t r w v.closed v.wait e;
         }
 
 inv-all : (rows : List Row) (run : History) (more : List Row) → Inv rows run → Inv (rows ++ more) (add_to run more)
@@ -257,10 +256,10 @@ nobody-waits : (rows : List Row) → deciding rows ≡ nobody → Wait rows
 nobody-waits [] e = tt
 nobody-waits (m ∷ rows) e = go m.decision (deciding rows) refl (nobody-waits rows) e
   where
-    go : (d : Decision) (b : Deciding) → m.decision ≡ d → (b ≡ nobody → Wait rows) → deciding_for d m b ≡ nobody → Wait (m ∷ rows)
-    go Nothing nobody p f q = (p, f refl)
-    go Nothing (after before w i) p f q = absurd (not-nobody (m.x ∷ before) w i q)
-    go (Decides w) b p f q = absurd (not-nobody [] w m.shown q)
+    go : (d : Option With) (b : Deciding) → m.decision ≡ d → (b ≡ nobody → Wait rows) → deciding_for d m b ≡ nobody → Wait (m ∷ rows)
+    go None nobody p f q = (p, f refl)
+    go None (after before w i) p f q = absurd (not-nobody (m.x ∷ before) w i q)
+    go (Some w) b p f q = absurd (not-nobody [] w m.shown q)
 
 one-nobody : (p : ℤ) (d : Deciding) → (shown_by p d).mark ≡ 1 → d ≡ nobody
 one-nobody p nobody e = refl
@@ -303,10 +302,10 @@ unfolding Found
 found-stays [] more f = absurd f
 found-stays (m ∷ rows) more f = go m.decision (deciding rows) (found-stays rows more) f
   where
-    go : (d : Decision) (b : Deciding) → (Found b → deciding (rows ++ more) ≡ b) → Found (deciding_for d m b) → deciding_for d m (deciding (rows ++ more)) ≡ deciding_for d m b
-    go Nothing nobody g h = absurd h
-    go Nothing (after before w i) g h = ap (one_earlier m.x) (g tt)
-    go (Decides w) b g h = refl
+    go : (d : Option With) (b : Deciding) → (Found b → deciding (rows ++ more) ≡ b) → Found (deciding_for d m b) → deciding_for d m (deciding (rows ++ more)) ≡ deciding_for d m b
+    go None nobody g h = absurd h
+    go None (after before w i) g h = ap (one_earlier m.x) (g tt)
+    go (Some w) b g h = refl
 
 two-found : (p : ℤ) (d : Deciding) → (shown_by p d).mark ≡ 2 → Found d
 unfolding Found
@@ -378,12 +377,12 @@ opens-counts rows =
 
 -- THEOREM 5: what an add answers is the number of marks that it writes as 2.
 -- Of any run at all: after a month that decides, the marks before the open months stand as they were, and as many marks as it answers follow, each 2 ..
-pub writes-settled : (run : History) (r : Row) (w : With) → r.decision ≡ Decides w
+pub writes-settled : (run : History) (r : Row) (w : With) → r.decision ≡ Some w
     → (add_month run r).mark ≡ take (kept run) run.mark ++ replicate (settled_count run r) 2
 writes-settled run r w e = rw e (rw replicate-snoc refl)
 
 -- .. and after one that does not, it answers 0, and one mark, 1, follows
-pub writes-open : (run : History) (r : Row) → r.decision ≡ Nothing → ((add_month run r).mark ≡ run.mark ++ (1 ∷ [])) × (settled_count run r ≡ 0)
+pub writes-open : (run : History) (r : Row) → r.decision ≡ None → ((add_month run r).mark ≡ run.mark ++ (1 ∷ [])) × (settled_count run r ≡ 0)
 writes-open run r e = rw e (refl, refl)
 
 -- Of a run that was made by adding: the answer is by how many the marks 2 grow
@@ -399,9 +398,9 @@ count-settled a b =
       no-two b,
     ))
 
-grows-as : (s t : List Row) (r : Row) (d : Decision) → count 2 (add_as d (run_of s t) r).mark ≡ count 2 (run_of s t).mark + settled_as d (length t)
-grows-as s t r Nothing = count-append 2 (run_of s t).mark (1 ∷ [])
-grows-as s t r (Decides w) =
+grows-as : (s t : List Row) (r : Row) (d : Option With) → count 2 (add_as d (run_of s t) r).mark ≡ count 2 (run_of s t).mark + settled_as d (length t)
+grows-as s t r None = count-append 2 (run_of s t).mark (1 ∷ [])
+grows-as s t r (Some w) =
     rw (take_at (replicate {A = ℕ} (length s) 2) (replicate {A = ℕ} (length t) 1) (kept (run_of s t)) (length-replicate (length s) 2 ∙ sym (kept-is s t)))
     (count-settled (length s) (length t))
 

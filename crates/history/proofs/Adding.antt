@@ -7,11 +7,14 @@ use native.Mathlib.Omega.{arith}
 use lib.IntN.{ℤ, pos}
 use lib.ListN.{length, take, drop, set, replicate}
 use lib.Seq.{set_split, take-set-le, take-take, get_or-set_other}
+use Rattle.std.specs.Prelude.{None, Some}
+use Rattle.spells.specs.declared.With.{With}
+use Rattle.spells.specs.declared.SpellMonth.{SpellMonth}
 use Rattle.hindsight.specs.Rule.{X}
 use Rattle.hindsight.specs.Adding.{settled_all, kept}
 use Rattle.hindsight.specs.Columns.{x_at, xs_from, history_in}
-use Rattle.hindsight.specs.Coded.{with_of, row_of, Adds}
-use Rattle.hindsight.proofs.Numbers.{decision-zero, decision-some}
+use Rattle.hindsight.specs.Months.{row_for}
+use Rattle.hindsight.specs.Coded.{Adds}
 
 -- the months of places
 pub length-xs : (f : ℕ → X) (i n : ℕ) → length (xs_from f i n) ≡ n
@@ -48,37 +51,37 @@ earlier-same x1 x2 x3 n a b c j h =
     let ne : j ≡ n → ⊥ = λ e. omega arith in
     rw (get_or-set_other x1 n j a (pos 0) ne, get_or-set_other x2 n j b (pos 0) ne, get_or-set_other x3 n j c (pos 0) ne) refl
 
-module _ (x1 x2 x3 index : List ℤ) (mark : List ℕ) (n opens : ℕ) (a b c : ℤ) (by : ℕ) (shown : ℤ) (o : opens ≤ n) (hi : n < length index) (hm : n < length mark) where
+module _ (x1 x2 x3 index : List ℤ) (mark : List ℕ) (n opens : ℕ) (m : SpellMonth) (o : opens ≤ n) (hi : n < length index) (hm : n < length mark) where
   -- a month that does not decide
-  pub adds-open : by ≡ 0 → Adds (history_in x1 x2 x3 index mark n opens) (row_of a b c by shown) n index (set index n shown) mark (set mark n 1) (opens + 1) 0
+  pub adds-open : m.decision ≡ None → Adds (history_in x1 x2 x3 index mark n opens) (row_for m) n index (set index n m.index) mark (set mark n 1) (opens + 1) 0
   adds-open z =
-      rw (decision-zero by z)
-      (record { index_is = store-end index n shown hi; mark_is = store-end mark n 1 hm; opens_is = omega arith; settled_is = refl })
+      rw z
+      (record { index_is = store-end index n m.index hi; mark_is = store-end mark n 1 hm; opens_is = omega arith; settled_is = refl })
 
   -- a month that decides: what `settle` leaves
   kept_at : kept (history_in x1 x2 x3 index mark n opens) ≡ n - opens
   kept_at = ap (λ (k : ℕ). k - opens) (length-xs (x_at x1 x2 x3) 0 n)
 
-  settled-months : xs_from (x_at (set x1 n a) (set x2 n b) (set x3 n c)) (n - opens) (n - (n - opens)) ≡ drop (n - opens) (xs_from (x_at x1 x2 x3) 0 n)
+  settled-months : xs_from (x_at (set x1 n m.after.x1) (set x2 n m.after.x2) (set x3 n m.after.x3)) (n - opens) (n - (n - opens)) ≡ drop (n - opens) (xs_from (x_at x1 x2 x3) 0 n)
   settled-months =
       let e : 0 + (n - opens) ≡ n - opens = omega arith in
-      xs-same (x_at (set x1 n a) (set x2 n b) (set x3 n c)) (x_at x1 x2 x3) (n - opens) (n - (n - opens)) (λ j h. earlier-same x1 x2 x3 n a b c j (omega arith))
+      xs-same (x_at (set x1 n m.after.x1) (set x2 n m.after.x2) (set x3 n m.after.x3)) (x_at x1 x2 x3) (n - opens) (n - (n - opens)) (λ j h. earlier-same x1 x2 x3 n m.after.x1 m.after.x2 m.after.x3 j (omega arith))
       ∙ sym (rw e at (drop-xs (x_at x1 x2 x3) 0 n (n - opens) (omega arith)))
 
-  pub adds-settled : (by ≡ 0 → ⊥) → (index' : List ℤ) (mark' : List ℕ)
-      → index' ≡ take (n - opens) (set index n shown) ++ (settled_all (with_of by) (xs_from (x_at (set x1 n a) (set x2 n b) (set x3 n c)) (n - opens) (n - (n - opens))) ++ drop n (set index n shown))
+  pub adds-settled : (w : With) → m.decision ≡ Some w → (index' : List ℤ) (mark' : List ℕ)
+      → index' ≡ take (n - opens) (set index n m.index) ++ (settled_all w (xs_from (x_at (set x1 n m.after.x1) (set x2 n m.after.x2) (set x3 n m.after.x3)) (n - opens) (n - (n - opens))) ++ drop n (set index n m.index))
       → mark' ≡ take (n - opens) (set mark n 2) ++ (replicate (n - (n - opens)) 2 ++ drop n (set mark n 2))
-      → Adds (history_in x1 x2 x3 index mark n opens) (row_of a b c by shown) n index index' mark mark' 0 (opens + 1)
-  adds-settled z index' mark' p q =
+      → Adds (history_in x1 x2 x3 index mark n opens) (row_for m) n index index' mark mark' 0 (opens + 1)
+  adds-settled w z index' mark' p q =
       let e : n - (n - opens) ≡ opens = omega arith in
-      rw (decision-some by z)
+      rw z
       (record {
         index_is =
             rw (
               p,
               settled-months,
-              take-set-le (n - opens) index n shown (omega arith),
-              drop-set index n shown hi,
+              take-set-le (n - opens) index n m.index (omega arith),
+              drop-set index n m.index hi,
               kept_at,
               take-take (n - opens) n index (omega arith),
             )

@@ -15,30 +15,30 @@ use Rattle.ending.specs.Ending.{steady, ended, abating, turn, u_of, v_of, e_of, 
 use Rattle.spells.specs.declared.Running.{Running}
 use Rattle.spells.specs.declared.With.{With}
 use Rattle.spells.specs.declared.With.TheVariants.{X1, X2, X3}
-use Rattle.spells.specs.declared.Decision.TheVariants.{Nothing, Decides}
 use Rattle.spells.specs.declared.SpellMonth.{SpellMonth}
 use Rattle.spells.specs.Spells.{is_zero, larger_in_size, provisional, steady_month, abating_values, abating_month, founded, unfounded, tried, no_spell, ending_month, in_force, step_of}
 use Rattle.ranges.specs.Ranges.{calendar_fits}
 use Rattle.refusals.specs.Book.{Book, values_at}
 use Rattle.reopening.specs.Before.{decided, opens_before, calendar_back, shown_from, reopened}
+use Rattle.std.specs.Prelude.{None, Some}
 
 -- ---- the values after a month tell whether it decided, and an open month's index
 
 -- a month whose values say that it decided, and it did; or that it did not, and it shows the provisional index
 data Told (m : SpellMonth) : Type 0 where
-  settled : (w : With) → decided m.after ≡ true → m.decision ≡ Decides w → Told m
-  shown : decided m.after ≡ false → m.decision ≡ Nothing → m.index ≡ provisional m.after → Told m
+  settled : (w : With) → decided m.after ≡ true → m.decision ≡ Some w → Told m
+  shown : decided m.after ≡ false → m.decision ≡ None → m.index ≡ provisional m.after → Told m
 
 module _ (x1 x2 : ℤ) (percent : ℕ) where
-  x1-none : is_zero x1 ≡ true → Told (unfounded x1 x2 (Decides X2) x2 percent)
+  x1-none : is_zero x1 ≡ true → Told (unfounded x1 x2 (Some X2) x2 percent)
   unfolding unfounded decided
   x1-none r = settled X2 (rw r) refl
 
-  x2-none : is_zero x1 ≡ false → is_zero x2 ≡ true → Told (unfounded x1 x2 (Decides X1) x1 percent)
+  x2-none : is_zero x1 ≡ false → is_zero x2 ≡ true → Told (unfounded x1 x2 (Some X1) x1 percent)
   unfolding unfounded decided
   x2-none r t = settled X1 (rw (r, t)) refl
 
-  neither : is_zero x1 ≡ false → is_zero x2 ≡ false → Told (unfounded x1 x2 Nothing (larger_in_size x1 x2) percent)
+  neither : is_zero x1 ≡ false → is_zero x2 ≡ false → Told (unfounded x1 x2 None (larger_in_size x1 x2) percent)
   unfolding unfounded decided provisional
   neither r t = shown (rw (r, t)) refl refl
 
@@ -51,11 +51,11 @@ module _ (x1 x2 : ℤ) (percent : ℕ) where
           is_zero x1 ≡ c →
           is_zero x2 ≡ d →
           Told
-          (cond a (founded x1 (Decides X1) percent)
-          (cond b (founded x2 (Decides X2) percent)
-          (cond c (unfounded x1 x2 (Decides X2) x2 percent)
-          (cond d (unfounded x1 x2 (Decides X1) x1 percent)
-          (unfounded x1 x2 Nothing (larger_in_size x1 x2) percent)))))
+          (cond a (founded x1 (Some X1) percent)
+          (cond b (founded x2 (Some X2) percent)
+          (cond c (unfounded x1 x2 (Some X2) x2 percent)
+          (cond d (unfounded x1 x2 (Some X1) x1 percent)
+          (unfounded x1 x2 None (larger_in_size x1 x2) percent)))))
       go true b c d r t = settled X1 refl refl
       go false true c d r t = settled X2 refl refl
       go false false true d r t = x1-none r
@@ -93,23 +93,23 @@ step-told s z = go (lt_z s.x3 (neg_ℤ (pos in_force_beyond))) (lt_z (pos in_for
     go false false = tried-told _ _ 0
 
 -- a month decided where the values after it say so
-pub step-decides : (s : Running) (z : ℤ) → decided (step_of s z).after ≡ true → ((step_of s z).decision ≡ Nothing → ⊥)
+pub step-decides : (s : Running) (z : ℤ) → decided (step_of s z).after ≡ true → ((step_of s z).decision ≡ None → ⊥)
 step-decides s z h = go (step-told s z)
   where
-    go : Told (step_of s z) → (step_of s z).decision ≡ Nothing → ⊥
+    go : Told (step_of s z) → (step_of s z).decision ≡ None → ⊥
     go (settled w d e) n = let k : ◌≡◌ {A = ℕ} 0 1 = cc in omega arith
     go (shown d e i) n = false≢true (sym d ∙ h)
 
 -- and not where they do not
-pub step-open : (s : Running) (z : ℤ) → decided (step_of s z).after ≡ false → (step_of s z).decision ≡ Nothing
+pub step-open : (s : Running) (z : ℤ) → decided (step_of s z).after ≡ false → (step_of s z).decision ≡ None
 step-open s z h = go (step-told s z)
   where
-    go : Told (step_of s z) → (step_of s z).decision ≡ Nothing
+    go : Told (step_of s z) → (step_of s z).decision ≡ None
     go (settled w d e) = absurd (false≢true (sym h ∙ d))
     go (shown d e i) = e
 
 -- a month that decides nothing shows the provisional index of the values after it
-pub open-shows : (s : Running) (z : ℤ) → (step_of s z).decision ≡ Nothing → (step_of s z).index ≡ provisional (step_of s z).after
+pub open-shows : (s : Running) (z : ℤ) → (step_of s z).decision ≡ None → (step_of s z).index ≡ provisional (step_of s z).after
 open-shows s z h = go (step-told s z)
   where
     go : Told (step_of s z) → (step_of s z).index ≡ provisional (step_of s z).after

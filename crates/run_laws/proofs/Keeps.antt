@@ -14,8 +14,6 @@ use Rattle.water.specs.declared.Soil.{Soil}
 use Rattle.spells.specs.ValuesFit.{FitsWithin}
 use Rattle.spells.specs.Spells.{step_of}
 use Rattle.spells.specs.declared.With.{With}
-use Rattle.spells.specs.declared.Decision.{Decision}
-use Rattle.spells.specs.declared.Decision.TheVariants.{Nothing, Decides}
 use Rattle.spell_laws.proofs.Theorems.{values-kept}
 use Rattle.hindsight.specs.Rule.{X, Row}
 use Rattle.hindsight.specs.Adding.{settled_all, add_as, add_month, History}
@@ -39,6 +37,7 @@ use Rattle.adding.proofs.Taken.{opens-most}
 use Rattle.refusals.specs.Good.{Good}
 use Rattle.refusals.proofs.Refused.{AllLong, columns_are, parts-run}
 use Rattle.adding.proofs.Readiness.{run_is}
+use Rattle.std.specs.Prelude.{Option, None, Some}
 
 -- ---- the columns keep their length
 pub settled-long : (w : With) (l : List X) → length (settled_all w l) ≡ length l
@@ -46,14 +45,14 @@ settled-long w [] = refl
 settled-long w (m ∷ l) = ap suc (settled-long w l)
 
 module _ (run : History) (r : Row) (n : ℕ) (past : length run.past ≡ n) (opens : run.opens ≤ n) where
-  index_long : (d : Decision) → length run.index ≡ n → length (add_as d run r).index ≡ suc n
-  index_long Nothing i = omega (arith, length-append run.index (r.shown ∷ []))
-  index_long (Decides w) i =
+  index_long : (d : Option With) → length run.index ≡ n → length (add_as d run r).index ≡ suc n
+  index_long None i = omega (arith, length-append run.index (r.shown ∷ []))
+  index_long (Some w) i =
       simp (length-append, settled-long, length-drop, length-take) (omega arith)
 
-  mark_long : (d : Decision) → length run.mark ≡ n → length (add_as d run r).mark ≡ suc n
-  mark_long Nothing i = omega (arith, length-append run.mark (1 ∷ []))
-  mark_long (Decides w) i = simp (length-append, length-replicate, length-take) (omega arith)
+  mark_long : (d : Option With) → length run.mark ≡ n → length (add_as d run r).mark ≡ suc n
+  mark_long None i = omega (arith, length-append run.mark (1 ∷ []))
+  mark_long (Some w) i = simp (length-append, length-replicate, length-take) (omega arith)
 
 -- ---- a month that is added to a run on columns that fit; where the last record ends is not asked
 module _ (r : Run) (cs : Book) (fit : columns_fit cs ≡ true) (fits : RunFits (long cs) r) (room : r.months < long cs) where

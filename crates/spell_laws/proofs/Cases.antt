@@ -10,12 +10,12 @@ use Rattle.exact.proofs.Z.{zs, is-Z, le_yes, le-no}
 use Rattle.spells.specs.declared.Running.{Running}
 use Rattle.spells.specs.declared.With.{With}
 use Rattle.spells.specs.declared.With.TheVariants.{X1, X2}
-use Rattle.spells.specs.declared.Decision.TheVariants.{Nothing, Decides}
 use Rattle.spells.specs.declared.SpellMonth.{SpellMonth}
 use Rattle.spells.specs.Spells.{larger_in_size, founded, unfounded, tried, no_spell, ending_month, in_force, step_of}
 use Rattle.ending.specs.Ending.{Ending, turn}
 use Rattle.spell_laws.specs.Cases.{InForce, NoneInForce, ending_in}
 use Rattle.spells.proofs.Choices.{tried-first, tried-second, tried-x1, tried-x2, tried_open, step-drought, step-wet, step-none}
+use Rattle.std.specs.Prelude.{None, Some}
 
 -- a number is 0, or it is not
 pub by_zero : (x : ℤ) (P : Type 0) → (x ≡ pos 0 → P) → ((x ≡ pos 0 → ⊥) → P) → P
@@ -30,7 +30,7 @@ by_zero (negsuc n) P f g = g (λ e. no n e)
     no n = simp zs (omega arith)
 
 -- a month that decides is not one that does not
-pub decides-some : (w : With) → Decides w ≡ Nothing → ⊥
+pub decides-some : (w : With) → Some w ≡ None → ⊥
 decides-some w e = let k : ◌≡◌ {A = ℕ} 0 1 = cc in omega arith
 
 -- a number is at most another, or above it
@@ -44,11 +44,11 @@ by_order a b P f g = go (le_z a b) refl
 -- X1 is tried, and then X2
 module _ (x1 x2 : ℤ) (percent : ℕ) (P : SpellMonth → Type 0) where
   pub by-tried :
-      (pos 1000 ≤ℤ x1 → P (founded x1 (Decides X1) percent)) →
-      (x1 <ℤ pos 1000 → x2 ≤ℤ neg_ℤ (pos 1000) → P (founded x2 (Decides X2) percent)) →
-      (x1 <ℤ pos 1000 → neg_ℤ (pos 1000) <ℤ x2 → x1 ≡ pos 0 → P (unfounded x1 x2 (Decides X2) x2 percent)) →
-      (x1 <ℤ pos 1000 → neg_ℤ (pos 1000) <ℤ x2 → (x1 ≡ pos 0 → ⊥) → x2 ≡ pos 0 → P (unfounded x1 x2 (Decides X1) x1 percent)) →
-      (x1 <ℤ pos 1000 → neg_ℤ (pos 1000) <ℤ x2 → (x1 ≡ pos 0 → ⊥) → (x2 ≡ pos 0 → ⊥) → P (unfounded x1 x2 Nothing (larger_in_size x1 x2) percent)) →
+      (pos 1000 ≤ℤ x1 → P (founded x1 (Some X1) percent)) →
+      (x1 <ℤ pos 1000 → x2 ≤ℤ neg_ℤ (pos 1000) → P (founded x2 (Some X2) percent)) →
+      (x1 <ℤ pos 1000 → neg_ℤ (pos 1000) <ℤ x2 → x1 ≡ pos 0 → P (unfounded x1 x2 (Some X2) x2 percent)) →
+      (x1 <ℤ pos 1000 → neg_ℤ (pos 1000) <ℤ x2 → (x1 ≡ pos 0 → ⊥) → x2 ≡ pos 0 → P (unfounded x1 x2 (Some X1) x1 percent)) →
+      (x1 <ℤ pos 1000 → neg_ℤ (pos 1000) <ℤ x2 → (x1 ≡ pos 0 → ⊥) → (x2 ≡ pos 0 → ⊥) → P (unfounded x1 x2 None (larger_in_size x1 x2) percent)) →
       P (tried x1 x2 percent)
   by-tried f g h k l =
       by_order (pos 1000) x1 (P (tried x1 x2 percent)) (λ p. subst P (sym (tried-first x1 x2 percent p)) (f p)) (λ p.

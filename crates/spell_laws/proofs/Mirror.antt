@@ -17,8 +17,6 @@ use Rattle.exact.proofs.NextLaws.{next-odd}
 use Rattle.exact.proofs.Z.{Z, zs, zs-abs, is-Z, Z-pos, Z-minus}
 use Rattle.spells.specs.declared.Running.{Running}
 use Rattle.spells.specs.declared.With.TheVariants.{X1, X2}
-use Rattle.spells.specs.declared.Decision.{Decision}
-use Rattle.spells.specs.declared.Decision.TheVariants.{Nothing, Decides}
 use Rattle.spells.specs.declared.SpellMonth.{SpellMonth}
 use Rattle.spells.specs.Values.{fresh}
 use Rattle.spells.specs.ValuesFit.{FitsWithin, ValuesFit}
@@ -32,6 +30,8 @@ use Rattle.spells.proofs.Choices.{same-values, raised-fits, lowered-fits, tried-
 use Rattle.spell_laws.proofs.Cases.{by_zero, by_order, by-tried, by-month, step-ending}
 use Rattle.spell_laws.proofs.Abates.{abating-some}
 use Rattle.spell_laws.proofs.Parts.{tried-percent}
+use Rattle.std.specs.Prelude.{Option, None, Some}
+use Rattle.spells.specs.declared.With.{With}
 
 -- ---- signs
 turn-not : (wet : Bool) (n : ℤ) → turn (not wet) (neg_ℤ n) ≡ turn wet n
@@ -114,30 +114,30 @@ module _ (a b : ℤ) (percent : ℕ) (Q : SpellMonth → SpellMonth → Type 0) 
   other = tried (neg_ℤ b) (neg_ℤ a) percent
 
   by-tried2 :
-      Q (founded a (Decides X1) percent) (founded (neg_ℤ a) (Decides X2) percent) →
-      Q (founded b (Decides X2) percent) (founded (neg_ℤ b) (Decides X1) percent) →
-      (a ≡ pos 0 → b ≡ pos 0 → Q (unfounded a b (Decides X2) b percent) (unfounded (neg_ℤ b) (neg_ℤ a) (Decides X2) (neg_ℤ a) percent)) →
-      (a ≡ pos 0 → (b ≡ pos 0 → ⊥) → Q (unfounded a b (Decides X2) b percent) (unfounded (neg_ℤ b) (neg_ℤ a) (Decides X1) (neg_ℤ b) percent)) →
-      ((a ≡ pos 0 → ⊥) → b ≡ pos 0 → Q (unfounded a b (Decides X1) a percent) (unfounded (neg_ℤ b) (neg_ℤ a) (Decides X2) (neg_ℤ a) percent)) →
-      (a <ℤ pos 1000 → (a ≡ pos 0 → ⊥) → (b ≡ pos 0 → ⊥) → Q (unfounded a b Nothing (larger_in_size a b) percent) (unfounded (neg_ℤ b) (neg_ℤ a) Nothing (larger_in_size (neg_ℤ b) (neg_ℤ a)) percent)) →
+      Q (founded a (Some X1) percent) (founded (neg_ℤ a) (Some X2) percent) →
+      Q (founded b (Some X2) percent) (founded (neg_ℤ b) (Some X1) percent) →
+      (a ≡ pos 0 → b ≡ pos 0 → Q (unfounded a b (Some X2) b percent) (unfounded (neg_ℤ b) (neg_ℤ a) (Some X2) (neg_ℤ a) percent)) →
+      (a ≡ pos 0 → (b ≡ pos 0 → ⊥) → Q (unfounded a b (Some X2) b percent) (unfounded (neg_ℤ b) (neg_ℤ a) (Some X1) (neg_ℤ b) percent)) →
+      ((a ≡ pos 0 → ⊥) → b ≡ pos 0 → Q (unfounded a b (Some X1) a percent) (unfounded (neg_ℤ b) (neg_ℤ a) (Some X2) (neg_ℤ a) percent)) →
+      (a <ℤ pos 1000 → (a ≡ pos 0 → ⊥) → (b ≡ pos 0 → ⊥) → Q (unfounded a b None (larger_in_size a b) percent) (unfounded (neg_ℤ b) (neg_ℤ a) None (larger_in_size (neg_ℤ b) (neg_ℤ a)) percent)) →
       Q (tried a b percent) (tried (neg_ℤ b) (neg_ℤ a) percent)
   by-tried2 f g h k l o =
       by-tried a b percent (λ m. Q m other)
       (λ p.
-      by_order b (neg_ℤ (pos 1000)) (Q (founded a (Decides X1) percent) other) (λ q. absurd (not-both p q)) (λ q.
-      subst (Q (founded a (Decides X1) percent)) (sym (tried-second (neg_ℤ b) (neg_ℤ a) percent (neg_low b q) (neg-founds-x2 a p))) f))
-      (λ p q. subst (Q (founded b (Decides X2) percent)) (sym (tried-first (neg_ℤ b) (neg_ℤ a) percent (neg-founds-x1 b q))) g)
+      by_order b (neg_ℤ (pos 1000)) (Q (founded a (Some X1) percent) other) (λ q. absurd (not-both p q)) (λ q.
+      subst (Q (founded a (Some X1) percent)) (sym (tried-second (neg_ℤ b) (neg_ℤ a) percent (neg_low b q) (neg-founds-x2 a p))) f))
+      (λ p q. subst (Q (founded b (Some X2) percent)) (sym (tried-first (neg_ℤ b) (neg_ℤ a) percent (neg-founds-x1 b q))) g)
       (λ p q r.
-      by_zero b (Q (unfounded a b (Decides X2) b percent) other)
-      (λ t. subst (Q (unfounded a b (Decides X2) b percent)) (sym (tried-x2 (neg_ℤ b) (neg_ℤ a) percent (neg_low b q) (neg-high a p) (neg-zero b t))) (h r t))
-      (λ t. subst (Q (unfounded a b (Decides X2) b percent)) (sym (tried-x1 (neg_ℤ b) (neg_ℤ a) percent (neg_low b q) (neg-high a p) (neg-some b t) (neg-zero a r))) (k r t)))
-      (λ p q r t. subst (Q (unfounded a b (Decides X1) a percent)) (sym (tried-x2 (neg_ℤ b) (neg_ℤ a) percent (neg_low b q) (neg-high a p) (neg-zero b t))) (l r t))
-      (λ p q r t. subst (Q (unfounded a b Nothing (larger_in_size a b) percent)) (sym (tried_open (neg_ℤ b) (neg_ℤ a) percent (neg_low b q) (neg-high a p) (neg-some b t) (neg-some a r))) (o p r t))
+      by_zero b (Q (unfounded a b (Some X2) b percent) other)
+      (λ t. subst (Q (unfounded a b (Some X2) b percent)) (sym (tried-x2 (neg_ℤ b) (neg_ℤ a) percent (neg_low b q) (neg-high a p) (neg-zero b t))) (h r t))
+      (λ t. subst (Q (unfounded a b (Some X2) b percent)) (sym (tried-x1 (neg_ℤ b) (neg_ℤ a) percent (neg_low b q) (neg-high a p) (neg-some b t) (neg-zero a r))) (k r t)))
+      (λ p q r t. subst (Q (unfounded a b (Some X1) a percent)) (sym (tried-x2 (neg_ℤ b) (neg_ℤ a) percent (neg_low b q) (neg-high a p) (neg-zero b t))) (l r t))
+      (λ p q r t. subst (Q (unfounded a b None (larger_in_size a b) percent)) (sym (tried_open (neg_ℤ b) (neg_ℤ a) percent (neg_low b q) (neg-high a p) (neg-some b t) (neg-some a r))) (o p r t))
 
 same-month : {m n : SpellMonth} → m.after ≡ n.after → m.percent ≡ n.percent → m.decision ≡ n.decision → m.index ≡ n.index → m ≡ n
 same-month p q r t = same p q r t
   where
-    same : {a b : Running} {p q : ℕ} {d e : Decision} {i j : ℤ} → a ≡ b → p ≡ q → d ≡ e → i ≡ j → ◌≡◌ {A = SpellMonth} (record { after = a; percent = p; decision = d; index = i }) (record { after = b; percent = q; decision = e; index = j })
+    same : {a b : Running} {p q : ℕ} {d e : Option With} {i j : ℤ} → a ≡ b → p ≡ q → d ≡ e → i ≡ j → ◌≡◌ {A = SpellMonth} (record { after = a; percent = p; decision = d; index = i }) (record { after = b; percent = q; decision = e; index = j })
     same h k l o = cc
 
 -- ---- a month and its mirror
@@ -222,14 +222,14 @@ module _ (s : Running) (z : ℤ) where
     -- in (b) both decide with X2
     pub mirror-decides :
         ((step_of (mirror s) (neg_ℤ z)).decision ≡ mirror_decision (step_of s z).decision)
-        ⊎ (((step_of s z).decision ≡ Decides X2) × ((step_of (mirror s) (neg_ℤ z)).decision ≡ Decides X2) × BothZero s z)
+        ⊎ (((step_of s z).decision ≡ Some X2) × ((step_of (mirror s) (neg_ℤ z)).decision ≡ Some X2) × BothZero s z)
     unfolding steady_month abating_month ending_month founded unfounded
     mirror-decides =
         by-mirror Turns (inl refl) (λ wet i. inl refl)
         (λ percent n. by-tried2 (x1_of s z) (x2_of s z) percent Turns (apart n) (inl refl) (inl refl) (λ p q. inr (refl, refl, record { zero_none = n; zero_x1 = p; zero_x2 = q })) (λ p q. inl refl) (λ p q. inl refl) (λ p q r. inl refl))
       where
         Turns : SpellMonth → SpellMonth → Type 0
-        Turns m n = (n.decision ≡ mirror_decision m.decision) ⊎ ((m.decision ≡ Decides X2) × (n.decision ≡ Decides X2) × BothZero s z)
+        Turns m n = (n.decision ≡ mirror_decision m.decision) ⊎ ((m.decision ≡ Some X2) × (n.decision ≡ Some X2) × BothZero s z)
 
     -- the index mirrors, but in (a) and (c)
     pub mirror-index : (Tied s z → ⊥) → (step_of (mirror s) (neg_ℤ z)).index ≡ neg_ℤ (step_of s z).index
@@ -302,7 +302,7 @@ module _ (s : Running) (z : ℤ) where
   both-found-fails h =
       at-no-spell s z Differ h.found_none (λ percent.
       subst (λ (m : SpellMonth). Differ m (tries s z percent)) (sym (tried-first a-x1 b-x2 percent h.found_x1))
-      (subst (Differ (founded a-x1 (Decides X1) percent)) (sym (tried-first (neg_ℤ b-x2) (neg_ℤ a-x1) percent (neg-founds-x1 b-x2 h.found_x2))) (
+      (subst (Differ (founded a-x1 (Some X1) percent)) (sym (tried-first (neg_ℤ b-x2) (neg_ℤ a-x1) percent (neg-founds-x1 b-x2 h.found_x2))) (
         (λ e. apart a-x1 b-x2 h.found_x1 h.found_x2 (ap (λ (r : Running). r.x3) e)),
         (λ e. let k : ◌≡◌ {A = ℕ} 0 1 = cc in omega arith),
         apart a-x1 b-x2 h.found_x1 h.found_x2,
@@ -320,7 +320,7 @@ module _ (s : Running) (z : ℤ) where
   both-zero-fails h =
       at-no-spell s z (λ m n. n.decision ≡ mirror_decision m.decision → ⊥) h.zero_none (λ percent.
       subst (λ (m : SpellMonth). (tries s z percent).decision ≡ mirror_decision m.decision → ⊥) (sym (tried-x2 a-x1 b-x2 percent (low a-x1 h.zero_x1) (high b-x2 h.zero_x2) h.zero_x1))
-      (subst (λ (n : SpellMonth). n.decision ≡ Decides X1 → ⊥) (sym (tried-x2 (neg_ℤ b-x2) (neg_ℤ a-x1) percent (low (neg_ℤ b-x2) (neg-zero b-x2 h.zero_x2)) (high (neg_ℤ a-x1) (neg-zero a-x1 h.zero_x1)) (neg-zero b-x2 h.zero_x2)))
+      (subst (λ (n : SpellMonth). n.decision ≡ Some X1 → ⊥) (sym (tried-x2 (neg_ℤ b-x2) (neg_ℤ a-x1) percent (low (neg_ℤ b-x2) (neg-zero b-x2 h.zero_x2)) (high (neg_ℤ a-x1) (neg-zero a-x1 h.zero_x1)) (neg-zero b-x2 h.zero_x2)))
       (λ e. let k : ◌≡◌ {A = ℕ} 0 1 = cc in omega arith)))
     where
       low : (x : ℤ) → x ≡ pos 0 → x <ℤ pos 1000
@@ -351,12 +351,12 @@ module _ (s : Running) (z : ℤ) (h : Tied s z) where
 
   at-tie :
       (Q : SpellMonth → SpellMonth → Type 0) →
-      ((percent : ℕ) → Q (unfounded (a-x1 s z) (b-x2 s z) Nothing (larger_in_size (a-x1 s z) (b-x2 s z)) percent) (unfounded (neg_ℤ (b-x2 s z)) (neg_ℤ (a-x1 s z)) Nothing (larger_in_size (neg_ℤ (b-x2 s z)) (neg_ℤ (a-x1 s z))) percent)) →
+      ((percent : ℕ) → Q (unfounded (a-x1 s z) (b-x2 s z) None (larger_in_size (a-x1 s z) (b-x2 s z)) percent) (unfounded (neg_ℤ (b-x2 s z)) (neg_ℤ (a-x1 s z)) None (larger_in_size (neg_ℤ (b-x2 s z)) (neg_ℤ (a-x1 s z))) percent)) →
       Q (step_of s z) (step_of (mirror s) (neg_ℤ z))
   at-tie Q f =
       at-no-spell s z Q h.tied_none (λ percent.
       subst (λ (m : SpellMonth). Q m (tries s z percent)) (sym (tried_open (a-x1 s z) (b-x2 s z) percent h.tied_low b-high h.tied_some b-some))
-      (subst (Q (unfounded (a-x1 s z) (b-x2 s z) Nothing (larger_in_size (a-x1 s z) (b-x2 s z)) percent)) (sym (tried_open (neg_ℤ (b-x2 s z)) (neg_ℤ (a-x1 s z)) percent (neg_low (b-x2 s z) b-high) (neg-high (a-x1 s z) h.tied_low) (neg-some (b-x2 s z) b-some) (neg-some (a-x1 s z) h.tied_some)))
+      (subst (Q (unfounded (a-x1 s z) (b-x2 s z) None (larger_in_size (a-x1 s z) (b-x2 s z)) percent)) (sym (tried_open (neg_ℤ (b-x2 s z)) (neg_ℤ (a-x1 s z)) percent (neg_low (b-x2 s z) b-high) (neg-high (a-x1 s z) h.tied_low) (neg-some (b-x2 s z) b-some) (neg-some (a-x1 s z) h.tied_some)))
       (f percent)))
 
   -- so the index does not mirror
@@ -373,9 +373,9 @@ module _ (s : Running) (z : ℤ) (h : Tied s z) where
           both a b = rw (is-Z a, is-Z b) (simp zs (omega arith))
 
   -- and the tie is seen in the month's own values, under no X3
-  pub tied-open : ((step_of s z).decision ≡ Nothing) × TiedValues (step_of s z).after
+  pub tied-open : ((step_of s z).decision ≡ None) × TiedValues (step_of s z).after
   unfolding unfounded
-  tied-open = at-tie (λ m n. (m.decision ≡ Nothing) × TiedValues m.after) (λ percent. (refl, record { values_x3 = refl; values_size = h.tied_size; values_some = h.tied_some }))
+  tied-open = at-tie (λ m n. (m.decision ≡ None) × TiedValues m.after) (λ percent. (refl, record { values_x3 = refl; values_size = h.tied_size; values_some = h.tied_some }))
 
 -- ---- and each of them is met, at a state that a run could hold
 

@@ -13,7 +13,6 @@ use Rattle.exact.proofs.NextLaws.{sum, next-near, next-rises, next-odd}
 use Rattle.exact.proofs.Z.{zs, is-Z, le_yes, ≤ℤ-of-<}
 use Rattle.spells.specs.declared.Running.{Running}
 use Rattle.spells.specs.declared.With.TheVariants.{X1, X2, X3}
-use Rattle.spells.specs.declared.Decision.TheVariants.{Nothing, Decides}
 use Rattle.spells.specs.declared.SpellMonth.{SpellMonth}
 use Rattle.spells.specs.Values.{fresh}
 use Rattle.spells.specs.Spells.{raised, lowered, steady_month, abating_values, abating_month, founded, unfounded, tried, no_spell, ending_month, step_of}
@@ -28,6 +27,7 @@ use Rattle.spell_laws.proofs.Cases.{decides-some, by_order, by-tried, by-month, 
 use Rattle.spell_laws.proofs.Abates.{abating-x3}
 use Rattle.spell_laws.proofs.Mirror.{neg_low, neg-high, neg-up, neg-down, mirror-x1, mirror-x2, mirror-force, mirror-ending, mirror-values, mirror-percent}
 use Rattle.spell_laws.proofs.Theorems.{percent-ended}
+use Rattle.std.specs.Prelude.{None, Some}
 
 -- ---- X1 and X2 of a month
 
@@ -268,12 +268,12 @@ step-reached s z k = by-month s z (λ m. Reached m.after) spell (λ h. tried-rea
     spell wet abating h i = abates wet s z _ k h i
 
 -- ---- the values of an open month are those that were tried, or that an abating spell has
-pub open-values : (s : Running) (z : ℤ) → (step_of s z).decision ≡ Nothing → ((step_of s z).after.x1 ≡ x1_of s z) × ((step_of s z).after.x2 ≡ x2_of s z)
+pub open-values : (s : Running) (z : ℤ) → (step_of s z).decision ≡ None → ((step_of s z).after.x1 ≡ x1_of s z) × ((step_of s z).after.x2 ≡ x2_of s z)
 unfolding ending_month steady_month abating_month abating_values no_spell founded unfounded
 open-values s z = by-month s z Open spell (λ h. tries 0)
   where
     Open : SpellMonth → Type 0
-    Open m = m.decision ≡ Nothing → (m.after.x1 ≡ x1_of s z) × (m.after.x2 ≡ x2_of s z)
+    Open m = m.decision ≡ None → (m.after.x1 ≡ x1_of s z) × (m.after.x2 ≡ x2_of s z)
 
     tries : (percent : ℕ) → Open (tried (x1_of s z) (x2_of s z) percent)
     tries percent = by-tried (x1_of s z) (x2_of s z) percent Open (λ p e. absurd (decides-some X1 e)) (λ p q e. absurd (decides-some X2 e)) (λ p q r e. (refl, refl)) (λ p q r t e. (refl, refl)) (λ p q r t e. (refl, refl))
@@ -284,19 +284,19 @@ open-values s z = by-month s z Open spell (λ h. tries 0)
     spell wet abating h i e = (refl, refl)
 
 -- with X3 = 0 a month does not decide with X3, and one that decides nothing leaves X3 = 0
-pub none_stays : (s : Running) (z : ℤ) → s.x3 ≡ pos 0 → ((step_of s z).decision ≡ Decides X3 → ⊥) × ((step_of s z).decision ≡ Nothing → (step_of s z).after.x3 ≡ pos 0)
+pub none_stays : (s : Running) (z : ℤ) → s.x3 ≡ pos 0 → ((step_of s z).decision ≡ Some X3 → ⊥) × ((step_of s z).decision ≡ None → (step_of s z).after.x3 ≡ pos 0)
 unfolding no_spell founded unfounded
 none_stays s z e =
-    subst None (sym (step-none s z (low s.x3 e) (high s.x3 e)))
-    (by-tried (x1_of s z) (x2_of s z) 0 None (λ p. (not-x1, λ d. absurd (decides-some X1 d))) (λ p q. (not-x2, λ d. absurd (decides-some X2 d))) (λ p q r. (not-x2, λ d. refl)) (λ p q r t. (not-x1, λ d. refl)) (λ p q r t. (λ d. decides-some X3 (sym d), λ d. refl)))
+    subst NotByX3 (sym (step-none s z (low s.x3 e) (high s.x3 e)))
+    (by-tried (x1_of s z) (x2_of s z) 0 NotByX3 (λ p. (not-x1, λ d. absurd (decides-some X1 d))) (λ p q. (not-x2, λ d. absurd (decides-some X2 d))) (λ p q r. (not-x2, λ d. refl)) (λ p q r t. (not-x1, λ d. refl)) (λ p q r t. (λ d. decides-some X3 (sym d), λ d. refl)))
   where
-    None : SpellMonth → Type 0
-    None m = (m.decision ≡ Decides X3 → ⊥) × (m.decision ≡ Nothing → m.after.x3 ≡ pos 0)
+    NotByX3 : SpellMonth → Type 0
+    NotByX3 m = (m.decision ≡ Some X3 → ⊥) × (m.decision ≡ None → m.after.x3 ≡ pos 0)
 
-    not-x1 : Decides X1 ≡ Decides X3 → ⊥
+    not-x1 : Some X1 ≡ Some X3 → ⊥
     not-x1 d = let k : ◌≡◌ {A = ℕ} 0 1 = cc in omega arith
 
-    not-x2 : Decides X2 ≡ Decides X3 → ⊥
+    not-x2 : Some X2 ≡ Some X3 → ⊥
     not-x2 d = let k : ◌≡◌ {A = ℕ} 0 1 = cc in omega arith
 
     low : (x : ℤ) → x ≡ pos 0 → negsuc 499 ≤ℤ x

@@ -14,8 +14,6 @@ use Rattle.outline.specs.Numbers.{most_x, most_z, most_u}
 use Rattle.exact.proofs.Z.{zs, is-Z}
 use Rattle.spells.specs.declared.Running.{Running}
 use Rattle.spells.specs.declared.With.TheVariants.{X1, X2, X3}
-use Rattle.spells.specs.declared.Decision.{Decision}
-use Rattle.spells.specs.declared.Decision.TheVariants.{Nothing, Decides}
 use Rattle.spells.specs.declared.SpellMonth.{SpellMonth}
 use Rattle.spells.specs.ValuesFit.{FitsWithin, ValuesFit}
 use Rattle.ending.specs.Ending.{Ending, steady, ended, abating, turn, v_of, q_of}
@@ -26,6 +24,8 @@ use Rattle.spell_laws.specs.Cases.{InForce, ending_in, SpellIs, spell_is, Shows}
 use Rattle.spell_laws.proofs.Cases.{by-month, step-ending}
 use Rattle.spell_laws.proofs.Parts.{tried-kept, tried-index, month-sides, spell-kept, spell-index, percent-tells, spell-percent, tried-shows, spell-shows}
 use Rattle.spell_laws.proofs.Abates.{abating-x3, abating-v, q-above}
+use Rattle.std.specs.Prelude.{Option, None, Some}
+use Rattle.spells.specs.declared.With.{With}
 
 -- ---- the promise has one answer
 
@@ -123,12 +123,12 @@ pub never-founds :
     (s : Running) (z : ℤ) (wet : Bool) →
     InForce wet s →
     (SpellIs ended s z → ⊥) →
-    ((step_of s z).after.x3 ≡ next_of s.x3 z) × (((step_of s z).decision ≡ Decides X3) ⊎ ((step_of s z).decision ≡ Nothing))
+    ((step_of s z).after.x3 ≡ next_of s.x3 z) × (((step_of s z).decision ≡ Some X3) ⊎ ((step_of s z).decision ≡ None))
 unfolding ending_month steady_month abating_month abating_values
 never-founds s z wet h n = subst Stands (sym (step-ending wet s z (ending_in wet s z) h refl)) (go (ending_in wet s z) refl)
   where
     Stands : SpellMonth → Type 0
-    Stands m = (m.after.x3 ≡ next_of s.x3 z) × ((m.decision ≡ Decides X3) ⊎ (m.decision ≡ Nothing))
+    Stands m = (m.after.x3 ≡ next_of s.x3 z) × ((m.decision ≡ Some X3) ⊎ (m.decision ≡ None))
 
     go : (e : Ending) → ending_in wet s z ≡ e → Stands (ending_month e wet s z)
     go steady i = (refl, inl refl)
@@ -143,28 +143,28 @@ module _ (s : Running) (z : ℤ) where
   unfolding no_spell
   decides-own = by-month s z (λ m. Shows m.decision m) (spell-shows s z) (λ h. tried-shows (x1_of s z) (x2_of s z) 0)
 
-  decided : (d : Decision) → (step_of s z).decision ≡ d → Shows d (step_of s z)
-  decided d e = subst (λ (d : Decision). Shows d (step_of s z)) e decides-own
+  decided : (d : Option With) → (step_of s z).decision ≡ d → Shows d (step_of s z)
+  decided d e = subst (λ (d : Option With). Shows d (step_of s z)) e decides-own
 
   -- a month that decides with X3 has it for its index, and X1 = X2 = 0
-  pub decides-x3 : (step_of s z).decision ≡ Decides X3 → Shows (Decides X3) (step_of s z)
-  decides-x3 = decided (Decides X3)
+  pub decides-x3 : (step_of s z).decision ≡ Some X3 → Shows (Some X3) (step_of s z)
+  decides-x3 = decided (Some X3)
 
   -- with X1: a wet spell is founded, or the index is the month's own X1, not 0, and X2 = 0
-  pub decides-x1 : (step_of s z).decision ≡ Decides X1 → Shows (Decides X1) (step_of s z)
-  decides-x1 = decided (Decides X1)
+  pub decides-x1 : (step_of s z).decision ≡ Some X1 → Shows (Some X1) (step_of s z)
+  decides-x1 = decided (Some X1)
 
   -- with X2: a drought is founded, or the index is the month's own X2, and X1 = 0
-  pub decides-x2 : (step_of s z).decision ≡ Decides X2 → Shows (Decides X2) (step_of s z)
-  decides-x2 = decided (Decides X2)
+  pub decides-x2 : (step_of s z).decision ≡ Some X2 → Shows (Some X2) (step_of s z)
+  decides-x2 = decided (Some X2)
 
   -- with nothing: the index is the provisional one, and either X3 is not 0 or neither X1 nor X2 is
-  pub decides-nothing : (step_of s z).decision ≡ Nothing → Shows Nothing (step_of s z)
-  decides-nothing = decided Nothing
+  pub decides-nothing : (step_of s z).decision ≡ None → Shows None (step_of s z)
+  decides-nothing = decided None
 
   -- a month that decides with X1 and founds nothing has its own X1 for its index, which is not 0, and X2 = 0
   pub own-x1 :
-      (step_of s z).decision ≡ Decides X1 →
+      (step_of s z).decision ≡ Some X1 →
       (step_of s z).after.x3 ≡ pos 0 →
       ((step_of s z).index ≡ (step_of s z).after.x1) × ((step_of s z).after.x1 ≡ pos 0 → ⊥) × ((step_of s z).after.x2 ≡ pos 0)
   own-x1 d e = ⊎_elim (λ f. absurd (no (step_of s z).after.x3 f.1 e)) (λ r. (r.0, r.2, r.3)) (decides-x1 d)
@@ -174,7 +174,7 @@ module _ (s : Running) (z : ℤ) where
 
   -- one that decides with X2 and founds nothing has its own X2 for its index, and X1 = 0
   pub own-x2 :
-      (step_of s z).decision ≡ Decides X2 →
+      (step_of s z).decision ≡ Some X2 →
       (step_of s z).after.x3 ≡ pos 0 →
       ((step_of s z).index ≡ (step_of s z).after.x2) × ((step_of s z).after.x1 ≡ pos 0)
   own-x2 d e = ⊎_elim (λ f. absurd (no (step_of s z).after.x3 f.1 e)) (λ r. (r.0, r.2)) (decides-x2 d)

@@ -1,14 +1,13 @@
 -- The words of the theorems about a month: the spell in force and what it comes to, no spell, and what a month shows by its decision. Nothing here is
 -- cited by the code. Assumes nothing.
-use Rattle.std.specs.Prelude.{◌≡◌, Bool, ◌⊎◌, ℤ, pos, neg_ℤ, ◌≤ℤ◌, ◌<ℤ◌}
+use Rattle.std.specs.Prelude.{◌≡◌, Bool, ◌⊎◌, ℤ, pos, neg_ℤ, ◌≤ℤ◌, ◌<ℤ◌, Option, None, Some}
 use Rattle.outline.specs.Numbers.{founds_from, in_force_beyond}
 use Rattle.spells.specs.declared.Running.{Running}
 use Rattle.spells.specs.declared.With.TheVariants.{X1, X2, X3}
-use Rattle.spells.specs.declared.Decision.{Decision}
-use Rattle.spells.specs.declared.Decision.TheVariants.{Nothing, Decides}
 use Rattle.spells.specs.declared.SpellMonth.{SpellMonth}
 use Rattle.spells.specs.Spells.{provisional}
 use Rattle.ending.specs.Ending.{Ending, ended, turn, ending_of}
+use Rattle.spells.specs.declared.With.{With}
 
 -- "A drought is in force if last month's X3 is below -500, a wet spell if above 500"
 abbrev pub InForce : Bool → Running → Type 0
@@ -43,18 +42,18 @@ pub record Founds (m : SpellMonth) : Type 0 where
   pub founds_x2 : Zero m.after.x2
 
 -- the index and the running values of a month that decides so
-abbrev pub Shows : Decision → SpellMonth → Type 0
+abbrev pub Shows : Option With → SpellMonth → Type 0
 -- "decides with X3"
-Shows (Decides X3) m = (m.index ≡ m.after.x3) × Zero m.after.x1 × Zero m.after.x2
+Shows (Some X3) m = (m.index ≡ m.after.x3) × Zero m.after.x1 × Zero m.after.x2
 -- "X1 at least 1,000: ..", or "X2 = 0: decides with X1"
-Shows (Decides X1) m =
+Shows (Some X1) m =
     (Founds m × pos founds_from ≤ℤ m.after.x3)
     ⊎ ((m.index ≡ m.after.x1) × Zero m.after.x3 × (Zero m.after.x1 → ⊥) × Zero m.after.x2)
 -- "X2 at most -1,000: ..", or "X1 = 0: decides with X2"
-Shows (Decides X2) m =
+Shows (Some X2) m =
     (Founds m × m.after.x3 ≤ℤ neg_ℤ (pos founds_from))
     ⊎ ((m.index ≡ m.after.x2) × Zero m.after.x3 × Zero m.after.x1)
 -- "nothing is decided": a spell abates, or neither X1 nor X2 is 0
-Shows Nothing m =
+Shows None m =
     (m.index ≡ provisional m.after)
     × ((Zero m.after.x3 → ⊥) ⊎ (Zero m.after.x3 × (Zero m.after.x1 → ⊥) × (Zero m.after.x2 → ⊥)))

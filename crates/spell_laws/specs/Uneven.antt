@@ -1,12 +1,10 @@
 -- "Wet spell: the mirror": what changing every sign makes of a month, and the three places where the rules themselves are not even-handed. The law
 -- is in proofs/Mirror.antt. Assumes nothing.
-use Rattle.std.specs.Prelude.{◌≡◌, ℤ, pos, neg_ℤ, nat_abs, ◌≤ℤ◌, ◌<ℤ◌}
+use Rattle.std.specs.Prelude.{◌≡◌, ℤ, pos, neg_ℤ, nat_abs, ◌≤ℤ◌, ◌<ℤ◌, Option, None, Some}
 use Rattle.outline.specs.Numbers.{founds_from}
 use Rattle.spells.specs.declared.Running.{Running}
 use Rattle.spells.specs.declared.With.{With}
 use Rattle.spells.specs.declared.With.TheVariants.{X1, X2, X3}
-use Rattle.spells.specs.declared.Decision.{Decision}
-use Rattle.spells.specs.declared.Decision.TheVariants.{Nothing, Decides}
 use Rattle.spells.specs.declared.SpellMonth.{SpellMonth}
 use Rattle.spell_laws.specs.Months.{x1_of, x2_of}
 use Rattle.spell_laws.specs.Cases.{NoSpell}
@@ -18,9 +16,9 @@ mirror_with X1 = X2
 mirror_with X2 = X1
 mirror_with X3 = X3
 
-abbrev pub mirror_decision : Decision → Decision
-mirror_decision Nothing = Nothing
-mirror_decision (Decides w) = Decides (mirror_with w)
+abbrev pub mirror_decision : Option With → Option With
+mirror_decision None = None
+mirror_decision (Some w) = Some (mirror_with w)
 
 -- the percent is kept
 abbrev pub mirror_month : SpellMonth → SpellMonth

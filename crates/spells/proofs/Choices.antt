@@ -8,6 +8,7 @@ use borrow.Author.Tests.{le-leb, lt-leb}
 use lib.Dec.{leb}
 use lib.IntN.{ℤ, pos, negsuc, nat_abs, ◌-ℤ◌, ◌*ℤ◌}
 use lib.Signed.{◌≤ℤ◌, ◌<ℤ◌, le_z, lt_z}
+use Rattle.std.specs.Int.{int_min, int_max}
 use Rattle.exact.specs.Next.{next_of}
 use Rattle.outline.specs.Numbers.{most_x, most_z}
 use Rattle.outline.proofs.Tests.{if-so}
@@ -19,7 +20,7 @@ use Rattle.spells.specs.Spells.{raised, lowered, is_zero, larger_in_size, provis
 use Rattle.ending.specs.Ending.{Ending, steady, ended, abating, turn, u_of, v_of, e_of, ending_of}
 use Rattle.spells.specs.declared.Running.{Running}
 use Rattle.spells.specs.declared.With.TheVariants.{X1, X2}
-use Rattle.spells.specs.declared.Decision.TheVariants.{Nothing, Decides}
+use Rattle.std.specs.Prelude.{None, Some}
 
 -- ---- the outcome of a test, from the fact
 pub zero_is : (x : ℤ) → x ≡ pos 0 → is_zero x ≡ true
@@ -53,6 +54,18 @@ lowered-kept n m e h = e ∙ rw (ap (λ (t : ℤ). le_z t (pos 0)) (sym e) ∙ l
 pub lowered-off : (n m : ℤ) → n ≡ m → pos 0 <ℤ n → pos 0 ≡ lowered m
 unfolding lowered
 lowered-off n m e h = rw (ap (λ (t : ℤ). le_z t (pos 0)) (sym e) ∙ le_not n (pos 0) h)
+
+pub raised-max : (n : ℤ) → int_max n (pos 0) ≡ raised n
+unfolding raised
+raised-max (pos zero) = refl
+raised-max (pos (suc n)) = rw (le-leb 0 (suc n) (omega arith), le-leb 1 (suc n) (omega arith)) refl
+raised-max (negsuc n) = refl
+
+pub lowered-min : (n : ℤ) → int_min n (pos 0) ≡ lowered n
+unfolding lowered
+lowered-min (pos zero) = refl
+lowered-min (pos (suc n)) = rw (lt-leb (suc n) 0 (omega arith), le-leb 1 (suc n) (omega arith)) refl
+lowered-min (negsuc n) = refl
 
 -- they keep the size and have the sign
 pub raised-fits : (n : ℤ) (k : ℕ) → nat_abs n ≤ k → (nat_abs (raised n) ≤ k) × (pos 0 ≤ℤ raised n)
@@ -106,23 +119,23 @@ provisional-x3 s h = rw (zero-not s.x3 h)
 
 -- ---- no spell: which of X1 and X2 founds, and which decides
 module _ (x1 x2 : ℤ) (percent : ℕ) where
-  pub tried-first : pos 1000 ≤ℤ x1 → tried x1 x2 percent ≡ founded x1 (Decides X1) percent
+  pub tried-first : pos 1000 ≤ℤ x1 → tried x1 x2 percent ≡ founded x1 (Some X1) percent
   unfolding tried
   tried-first h = rw (le_is (pos 1000) x1 h)
 
-  pub tried-second : x1 <ℤ pos 1000 → x2 ≤ℤ negsuc 999 → tried x1 x2 percent ≡ founded x2 (Decides X2) percent
+  pub tried-second : x1 <ℤ pos 1000 → x2 ≤ℤ negsuc 999 → tried x1 x2 percent ≡ founded x2 (Some X2) percent
   unfolding tried
   tried-second h g = rw (le_not (pos 1000) x1 h, le_is x2 (negsuc 999) g)
 
-  pub tried-x2 : x1 <ℤ pos 1000 → negsuc 999 <ℤ x2 → x1 ≡ pos 0 → tried x1 x2 percent ≡ unfounded x1 x2 (Decides X2) x2 percent
+  pub tried-x2 : x1 <ℤ pos 1000 → negsuc 999 <ℤ x2 → x1 ≡ pos 0 → tried x1 x2 percent ≡ unfounded x1 x2 (Some X2) x2 percent
   unfolding tried
   tried-x2 h g e = rw (le_not (pos 1000) x1 h, le_not x2 (negsuc 999) g, zero_is x1 e)
 
-  pub tried-x1 : x1 <ℤ pos 1000 → negsuc 999 <ℤ x2 → (x1 ≡ pos 0 → ⊥) → x2 ≡ pos 0 → tried x1 x2 percent ≡ unfounded x1 x2 (Decides X1) x1 percent
+  pub tried-x1 : x1 <ℤ pos 1000 → negsuc 999 <ℤ x2 → (x1 ≡ pos 0 → ⊥) → x2 ≡ pos 0 → tried x1 x2 percent ≡ unfounded x1 x2 (Some X1) x1 percent
   unfolding tried
   tried-x1 h g n e = rw (le_not (pos 1000) x1 h, le_not x2 (negsuc 999) g, zero-not x1 n, zero_is x2 e)
 
-  pub tried_open : x1 <ℤ pos 1000 → negsuc 999 <ℤ x2 → (x1 ≡ pos 0 → ⊥) → (x2 ≡ pos 0 → ⊥) → tried x1 x2 percent ≡ unfounded x1 x2 Nothing (larger_in_size x1 x2) percent
+  pub tried_open : x1 <ℤ pos 1000 → negsuc 999 <ℤ x2 → (x1 ≡ pos 0 → ⊥) → (x2 ≡ pos 0 → ⊥) → tried x1 x2 percent ≡ unfounded x1 x2 None (larger_in_size x1 x2) percent
   unfolding tried
   tried_open h g n m = rw (le_not (pos 1000) x1 h, le_not x2 (negsuc 999) g, zero-not x1 n, zero-not x2 m)
 

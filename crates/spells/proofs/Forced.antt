@@ -1,4 +1,4 @@
--- A month with a spell in force, case by case, and a month with none: from what the calls of `step` and of `step_without_chance` tell, which is of
+-- A month with a spell in force, case by case, and a month with none: from what the calls of `step` tell, which is of
 -- the numbers as the machine reads them back. Assumes nothing.
 use mathlib.Core.Path.{◌≡◌, sym, ap₂, ◌∙◌}
 use mathlib.Core.Bool.{Bool, true, false, ◌||◌}
@@ -19,6 +19,10 @@ read32 n = to_z w32 (of_z w32 n)
 
 abbrev read64 : ℤ → ℤ
 read64 n = to_z w64 (of_z w64 n)
+
+-- the percent of an abating month
+abbrev pub percent_for : Running → ℤ → ℕ
+percent_for s z = percent_of (v_of (turn (is_wet s) s.v) (turn (is_wet s) z)) (q_of (turn (is_wet s) s.x3) (turn (is_wet s) s.v))
 
 module _ (s : Running) (z : ℤ) (wet dry : Bool) (fx : SFits w32 s.x3) (fv : SFits w64 s.v) (fz : SFits w32 z) (is_w : wet ≡ lt_z (pos 500) (read32 s.x3)) (is_d : dry ≡ lt_z (read32 s.x3) (negsuc 499)) where
   -- whether a wet spell is in force, and whether a drought is
@@ -44,7 +48,7 @@ module _ (s : Running) (z : ℤ) (wet dry : Bool) (fx : SFits w32 s.x3) (fv : SF
 
   pub percent-is : (p : ℕ)
       → p ≡ percent_of (v_of (turn wet (read64 s.v)) (turn wet (read32 z))) (q_of (turn wet (read32 s.x3)) (turn wet (read64 s.v)))
-      → p ≡ percent_of (v_of (turn (is_wet s) s.v) (turn (is_wet s) z)) (q_of (turn (is_wet s) s.x3) (turn (is_wet s) s.v))
+      → p ≡ percent_for s z
   percent-is p e = rw wet-is at (simp to_z-of_z at e)
 
   -- the spell is steady
@@ -62,7 +66,7 @@ module _ (s : Running) (z : ℤ) (wet dry : Bool) (fx : SFits w32 s.x3) (fv : SF
     pub is-abating : u ≡ false
         → step_of s z
         ≡ abating_month s (turn (is_wet s) (v_of (turn (is_wet s) s.v) (turn (is_wet s) z))) z
-        (percent_of (v_of (turn (is_wet s) s.v) (turn (is_wet s) z)) (q_of (turn (is_wet s) s.x3) (turn (is_wet s) s.v)))
+        (percent_for s z)
     unfolding ending_month
     is-abating j = step-ending s z abating (either_is ∙ h) (ending-abating _ _ _ (sym (steady-is t et) ∙ k) (sym (ended_is u eu) ∙ j))
 

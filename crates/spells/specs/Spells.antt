@@ -1,15 +1,14 @@
 -- Document 01, "One month of spells": the index that a month shows; a month that is steady, abating or without a spell; and the month that
 -- what is in force makes. What becomes of a spell in force is the crate `ending`'s. Assumes nothing.
-use Rattle.std.specs.Prelude.{ℕ, Bool, true, false, cond, ℤ, pos, neg_ℤ, nat_abs, leb}
+use Rattle.std.specs.Prelude.{ℕ, Bool, true, false, cond, ℤ, pos, neg_ℤ, nat_abs, leb, Option, None, Some}
 use Rattle.std.specs.Int.Signed.{le_z, lt_z}
 use Rattle.exact.specs.Next.{next_of}
 use Rattle.outline.specs.Numbers.{in_force_beyond, founds_from}
 use Rattle.ending.specs.Ending.{turn, v_of, q_of, Ending, steady, ended, abating, ending_of, percent_of}
 use Rattle.spells.specs.declared.Running.{Running}
 use Rattle.spells.specs.declared.With.TheVariants.{X1, X2, X3}
-use Rattle.spells.specs.declared.Decision.{Decision}
-use Rattle.spells.specs.declared.Decision.TheVariants.{Nothing, Decides}
 use Rattle.spells.specs.declared.SpellMonth.{SpellMonth}
+use Rattle.spells.specs.declared.With.{With}
 
 -- ---- the index that a month shows
 
@@ -39,7 +38,7 @@ steady_month x3 z =
     record {
       after = record { x1 = pos 0; x2 = pos 0; x3 = next_of x3 z; v = pos 0 };
       percent = 0;
-      decision = Decides X3;
+      decision = Some X3;
       index = next_of x3 z;
     }
 
@@ -53,17 +52,17 @@ abating_month s v z percent =
     record {
       after = abating_values s v z;
       percent = percent;
-      decision = Nothing;
+      decision = None;
       index = provisional (abating_values s v z);
     }
 
 -- "X3 = X1, then X1 = X2 = 0. Decides with X1; the index is the new X3." "likewise with X2"
-unfoldable pub founded : ℤ → Decision → ℕ → SpellMonth
+unfoldable pub founded : ℤ → Option With → ℕ → SpellMonth
 founded x d percent =
     record { after = record { x1 = pos 0; x2 = pos 0; x3 = x; v = pos 0 }; percent = percent; decision = d; index = x }
 
 -- neither is founded: X1 and X2 stay, with the decision and the index
-unfoldable pub unfounded : ℤ → ℤ → Decision → ℤ → ℕ → SpellMonth
+unfoldable pub unfounded : ℤ → ℤ → Option With → ℤ → ℕ → SpellMonth
 unfounded x1 x2 d index percent =
     record { after = record { x1 = x1; x2 = x2; x3 = pos 0; v = pos 0 }; percent = percent; decision = d; index = index }
 
@@ -72,11 +71,11 @@ unfounded x1 x2 d index percent =
 -- Else X1 = 0: decides with X2. Else X2 = 0: decides with X1. Else nothing is decided."
 unfoldable pub tried : ℤ → ℤ → ℕ → SpellMonth
 tried x1 x2 percent =
-    cond (le_z (pos founds_from) x1) (founded x1 (Decides X1) percent)
-    (cond (le_z x2 (neg_ℤ (pos founds_from))) (founded x2 (Decides X2) percent)
-    (cond (is_zero x1) (unfounded x1 x2 (Decides X2) x2 percent)
-    (cond (is_zero x2) (unfounded x1 x2 (Decides X1) x1 percent)
-    (unfounded x1 x2 Nothing (larger_in_size x1 x2) percent))))
+    cond (le_z (pos founds_from) x1) (founded x1 (Some X1) percent)
+    (cond (le_z x2 (neg_ℤ (pos founds_from))) (founded x2 (Some X2) percent)
+    (cond (is_zero x1) (unfounded x1 x2 (Some X2) x2 percent)
+    (cond (is_zero x2) (unfounded x1 x2 (Some X1) x1 percent)
+    (unfounded x1 x2 None (larger_in_size x1 x2) percent))))
 
 -- "No spell, or one just ended: X1 and X2 as in "abating"; percent 0 unless just ended."
 unfoldable pub no_spell : Running → ℤ → ℕ → SpellMonth

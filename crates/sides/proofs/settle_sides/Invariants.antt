@@ -3,8 +3,7 @@ use mathlib.Core.List.{◌++◌}
 use Prim.Native.Nat.{◌-◌, ◌≤◌}
 use lib.ListN.{take, drop, replicate}
 use Rattle.hindsight.specs.Adding.{settled_all}
-use Rattle.hindsight.specs.Coded.{with_of}
-use Rattle.sides.specs.Sides.{sides_of}
+use Rattle.sides.specs.Sides.{sides_of, with_side}
 use Rattle.sides.proofs.Rewriting.{part}
 use Rattle.sides.proofs.Settling.{Unsided, Settling}
 use Rattle.sides.proofs.settle_sides.Given as goal
@@ -17,8 +16,5 @@ decreases-side l = l.at - l.sided
 
 abbrev pub invariant-loop-i : goal.invariant-loop-i
 invariant-loop-i l =
-    Settling l.z l.initial.index (take l.from l.initial.index ++ (settled_all (with_of l.by) (sides_of l.x1 l.x2 (part l.from l.at l.z)) ++ drop l.at l.initial.index))
+    Settling l.z l.initial.index (take l.from l.initial.index ++ (settled_all (with_side l.by) (sides_of l.x1 l.x2 (part l.from l.at l.z)) ++ drop l.at l.initial.index))
     l.initial.mark (take l.from l.initial.mark ++ (replicate (l.at - l.from) 2 ++ drop l.at l.initial.mark)) l.at l.by l.index l.mark l.a l.b l.sided l.i
-
-abbrev pub decreases-loop-i : goal.decreases-loop-i
-decreases-loop-i l = l.at - l.i

@@ -2,7 +2,6 @@
 use Prim.Native.Nat.{◌≤◌}
 use native.Mathlib.Omega.{arith}
 use lib.IntN.{ℤ, pos, nat_abs, ◌-ℤ◌}
-use borrow.Author.Rules.{rules}
 use mir.Syntax.{w32}
 use mir.Val.{SFits}
 use mir.Facts.{to_z-of_z}
@@ -13,9 +12,6 @@ use Rattle.spells.proofs.larger_in_size.Goals as goal
 
 fit : (x : ℤ) → nat_abs x ≤ most_x → SFits w32 (pos 0 -ℤ x)
 fit x = rw (is-Z x) (simp zs (omega arith))
-
-pub overflow_sub-x2 : goal.overflow_sub-x2
-overflow_sub-x2 c = search (rules, fit)
 
 pub returns-then-x1-x2 : goal.returns-then-x1-x2
 returns-then-x1-x2 c =

@@ -11,9 +11,6 @@ use Rattle.spells.proofs.Choices.{provisional-none, provisional-x3}
 use Rattle.spells.proofs.provisional_of.Goals as goal
 use Rattle.spells.proofs.provisional_of.Goals.{Then-s-eq0}
 
-pub larger_in_size-requires : goal.larger_in_size-requires
-larger_in_size-requires c = search rules
-
 none : (c : Then-s-eq0) → c.args.s.x3 ≡ pos 0
 none c = let f : SFits w32 c.args.s.x3 = search rules in same_bits {y = pos 0} f (sfits_lit tt) c.if-s-eq0.true
 
@@ -25,8 +22,8 @@ returns-then-s-eq0 c =
     let f : SFits w32 c.larger_in_size.result = record { sfits = c.larger_in_size.type_inv } in
     to_z-of_z f ∙ larger c ∙ sym (provisional-none c.args.s (none (goal.at.returns-then-s-eq0 c).Then-s-eq0))
 
-pub returns : goal.returns
-returns c =
+pub returns-else-s-eq0 : goal.returns-else-s-eq0
+returns-else-s-eq0 c =
     let f : SFits w32 c.args.s.x3 = search rules in
     to_z-of_z f
     ∙ sym (provisional-x3 c.args.s (λ e. c.if-s-eq0.false (ap (of_z w32) e)))
