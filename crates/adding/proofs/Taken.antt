@@ -13,10 +13,8 @@ use Rattle.spells.specs.declared.SpellMonth.{SpellMonth}
 use Rattle.modified.specs.Modified.{modified_of}
 use Rattle.hindsight.specs.Rule.{Row}
 use Rattle.hindsight.specs.Adding.{add_as, add_month, settled_as, settled_count, History}
-use Rattle.hindsight.specs.Coded.{decision_of, row_of, Adds}
-use Rattle.spells.specs.Decisions.{decision_number}
+use Rattle.hindsight.specs.Coded.{Adds}
 use Rattle.hindsight.specs.Months.{row_for, mark_for}
-use Rattle.hindsight.proofs.Numbers.{number_is, mark_of}
 use Rattle.runs.specs.declared.Progress.{Progress}
 use Rattle.records.specs.Record.{numbers_of}
 use Rattle.records.specs.declared.Record.{Record}
@@ -29,10 +27,6 @@ use Rattle.adding.specs.declared.Spelled.{Spelled}
 use Rattle.adding.specs.declared.WaterFigures.{WaterFigures}
 use Rattle.std.specs.Prelude.{Option, None, Some}
 use Rattle.spells.specs.declared.With.{With}
-
--- the row that the code's numbers say
-pub row_is : (s : SpellMonth) (by : ℕ) → by ≡ decision_number s.decision → row_of s.after.x1 s.after.x2 s.after.x3 by s.index ≡ row_for s
-row_is s by e = rw (e, number_is s.decision)
 
 -- what an add settles and what it leaves open are together at most one more than were open
 counts-as : (d : Option With) (run : History) (r : Row) → settled_as d run.opens + (add_as d run r).opens ≤ suc run.opens
@@ -48,32 +42,30 @@ opens-most run r = omega (arith, counts-most run r)
 pub settled-most : (run : History) (r : Row) → settled_count run r ≤ suc run.opens
 settled-most run r = omega (arith, counts-most run r)
 
-module _ (months opens : ℕ) (cs : Columns) (s : SpellMonth) (by : ℕ) where
+module _ (months opens : ℕ) (cs : Columns) (s : SpellMonth) where
   -- what hindsight's add leaves in the columns, and its two counts
   abbrev pub Wrote : List ℤ → List ℤ → List ℤ → List ℤ → List ℕ → ℕ → ℕ → Type 0
   Wrote x1 x2 x3 index mark left settled =
       (x1 ≡ set cs.x1 months s.after.x1)
       × (x2 ≡ set cs.x2 months s.after.x2)
       × (x3 ≡ set cs.x3 months s.after.x3)
-      × Adds (held_in months opens cs) (row_of s.after.x1 s.after.x2 s.after.x3 by s.index) months cs.index index cs.mark mark left settled
+      × Adds (held_in months opens cs) (row_for s) months cs.index index cs.mark mark left settled
 
   pub spelled_is : (values : Running) (z : ℤ) (x1 x2 x3 index : List ℤ) (mark : List ℕ) (left settled m : ℕ) (x : ℤ)
       → s ≡ step_of values z
-      → by ≡ decision_number s.decision
       → Wrote x1 x2 x3 index mark left settled
-      → m ≡ mark_for (decision_of by)
+      → m ≡ mark_for s.decision
       → x ≡ modified_of values z
       → Spells months opens values z cs (record { settled = settled; opens = left; percent = s.percent; index = s.index; mark = m; modified = x; values = s.after }) (columns x1 x2 x3 index mark)
-  spelled_is values z x1 x2 x3 index mark left settled m x e d g h i =
-      let a : Adds (held_in months opens cs) (row_for s) months cs.index index cs.mark mark left settled =
-      subst (λ (row : Row). Adds (held_in months opens cs) row months cs.index index cs.mark mark left settled) (row_is s by d) g.3 in
+  spelled_is values z x1 x2 x3 index mark left settled m x e g h i =
+      let a = g.3 in
       record {
         values_are = ap (λ (m : SpellMonth). m.after) e;
         opens_are = rw (← e) a.opens_is;
         settled_are = rw (← e) a.settled_is;
         percent_is = ap (λ (m : SpellMonth). m.percent) e;
         index_is = ap (λ (m : SpellMonth). m.index) e;
-        mark_is = rw (← e) (h ∙ ap (λ (n : ℕ). mark_for (decision_of n)) d ∙ mark_of s.decision);
+        mark_is = rw (← e) h;
         modified_is = i;
         columns_are = rw (← e, g.0, g.1, g.2, a.index_is, a.mark_is);
       }

@@ -102,37 +102,17 @@ pub fn add_spells(
     requires z_bound { nat_abs z ≤ most_z }
     ensures { Spells months opens values z (columns x1.old x2.old x3.old index.old mark.old) result (columns x1.new x2.new x3.new index.new mark.new) }
 {
-    let s = spells::step(values, z);
-    let after = s.after;
-    let d = s.decision;
-    let by = spells::decision_number(d);
-    let a = after.x1;
-    let b = after.x2;
-    let c = after.x3;
-    let shown = s.index;
-    let modified = modified::modified(values, z, after, shown);
-    let t = history::add(
-        x1,
-        x2,
-        x3,
-        index,
-        mark,
-        months as usize,
-        opens as usize,
-        a,
-        b,
-        c,
-        by,
-        shown,
-    );
+    let month = spells::step::<true>(values, z);
+    let modified = modified::modified(values, z, month.after, month.index);
+    let added = history::add(x1, x2, x3, index, mark, months as usize, opens as usize, month);
     Spelled {
-        settled: t.settled as u32,
-        opens: t.opens as u32,
-        percent: s.percent,
-        index: shown,
-        mark: t.mark,
+        settled: added.settled as u32,
+        opens: added.opens as u32,
+        percent: month.percent,
+        index: month.index,
+        mark: added.mark,
         modified,
-        values: after,
+        values: month.after,
     }
 }
 

@@ -14,9 +14,8 @@ use Rattle.water.specs.Layers.{SoilFits}
 use Rattle.spells.specs.Spells.{step_of}
 use Rattle.hindsight.specs.Rule.{Row}
 use Rattle.hindsight.specs.Columns.{history_in}
-use Rattle.hindsight.specs.Coded.{row_of}
+use Rattle.hindsight.specs.Months.{row_for}
 use Rattle.hindsight.specs.Adding.{add_month, settled_count}
-use Rattle.spells.specs.Decisions.{decision_number}
 use Rattle.hindsight_laws.proofs.Adds.{adds_run}
 use Rattle.runs.specs.declared.Run.{Run}
 use Rattle.records.specs.Record.{numbers_of}
@@ -27,7 +26,6 @@ use Rattle.drought.specs.Calls.{add_outcomes, add_water, add_inches, add_z}
 use Rattle.adding.specs.Taken.{Result, held_by, taken, taken_z, taken_water, water_of}
 use Rattle.refusals.proofs.Refused.{z-passes, columns_are}
 use Rattle.adding.proofs.Readiness.{run_is}
-use Rattle.adding.proofs.Taken.{row_is}
 use Rattle.run_laws.proofs.Keeps.{wrote-index, wrote-mark, good-taken}
 use Rattle.run_laws.proofs.Accepts.{took-water as water-took}
 use Rattle.adding.proofs.Answered.{answered-zero}
@@ -122,13 +120,11 @@ module _ (r : Run) (a : Ask) (cs : Book) (t : Took r a cs) where
   held_next =
       let s = step_of r.values (z_for (station_of r) a) in
       let l = columns_are cs t.good.fit in
-      let q = row_is s (decision_number s.decision) refl in
-      let row = row_of s.after.x1 s.after.x2 s.after.x3 (decision_number s.decision) s.index in
+      let row = row_for s in
       let i = wrote-index r cs t.good t.room row in
       let m = wrote-mark r cs t.good t.room row in
       let h = t.room in
       ap (λ (b : Result). held_by b.answer.run b.columns) t.did
-      ∙ subst (λ (row : Row). history_in (set cs.x1 r.months s.after.x1) (set cs.x2 r.months s.after.x2) (set cs.x3 r.months s.after.x3) ((add_month (held_by r cs) row).index ++ drop (suc r.months) cs.index) ((add_month (held_by r cs) row).mark ++ drop (suc r.months) cs.mark) (suc r.months) (add_month (held_by r cs) row).opens ≡ add_month (held_by r cs) row) q
-      (adds_run cs.x1 cs.x2 cs.x3 cs.index cs.mark r.months r.opens s.after.x1 s.after.x2 s.after.x3 (decision_number s.decision) s.index _ _ _ _ h (omega (arith, l.x2_is)) (omega (arith, l.x3_is)) (omega (arith, l.index_is)) (omega (arith, l.mark_is))
+      ∙ adds_run cs.x1 cs.x2 cs.x3 cs.index cs.mark r.months r.opens row _ _ _ _ h (omega (arith, l.x2_is)) (omega (arith, l.x3_is)) (omega (arith, l.index_is)) (omega (arith, l.mark_is))
       (i ∙ sym l.index_is) (m ∙ sym l.mark_is)
-      (record { index_is = refl; mark_is = refl; opens_is = refl; settled_is = refl }))
+      (record { index_is = refl; mark_is = refl; opens_is = refl; settled_is = refl })

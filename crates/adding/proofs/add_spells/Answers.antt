@@ -15,8 +15,8 @@ use Rattle.refusals.specs.Columns.{columns}
 use Rattle.adding.proofs.Taken.{spelled_is, opens-most, settled-most}
 use Rattle.adding.proofs.add_spells.Goals as goal
 
-pub step-s-requires-clause-z_bound : goal.step-s-requires-clause-z_bound
-step-s-requires-clause-z_bound c = let f = c.ranges.z in simp to_z-of_z c.requires.z_bound
+pub step-month-requires-clause-z_bound : goal.step-month-requires-clause-z_bound
+step-month-requires-clause-z_bound c = let f = c.ranges.z in simp to_z-of_z c.requires.z_bound
 
 pub modified-modified-requires-clause-z_bound : goal.modified-modified-requires-clause-z_bound
 modified-modified-requires-clause-z_bound c = let f = c.ranges.z in simp to_z-of_z c.requires.z_bound
@@ -24,42 +24,38 @@ modified-modified-requires-clause-z_bound c = let f = c.ranges.z in simp to_z-of
 pub modified-modified-requires-clause-m_value : goal.modified-modified-requires-clause-m_value
 modified-modified-requires-clause-m_value c =
     let fz = c.ranges.z in
-    let e = rw (to_z-of_z fz) at c.step-s.ensures in
-    let f : SFits w32 c.step-s.result.index = rw e (fits-within w32 (step_of c.args.values c.args.z).index most_x (index-within c.args.values c.args.z most_v c.requires.ready.values_fit c.requires.z_bound) (omega arith)) in
+    let e = rw (to_z-of_z fz) at c.step-month.ensures in
+    let f : SFits w32 c.step-month.result.index = rw e (fits-within w32 (step_of c.args.values c.args.z).index most_x (index-within c.args.values c.args.z most_v c.requires.ready.values_fit c.requires.z_bound) (omega arith)) in
     (rw (to_z-of_z fz) (ap (λ (m : SpellMonth). m.after) e), rw (to_z-of_z fz, to_z-of_z f) (ap (λ (m : SpellMonth). m.index) e))
 
-pub add-t-requires : goal.add-t-requires
-add-t-requires c = let p = c.requires.ready in (p.opens_fit, p.room, p.x2, p.x3, p.index, p.mark)
+pub add-added-requires : goal.add-added-requires
+add-added-requires c = let p = c.requires.ready in (p.opens_fit, p.room, p.x2, p.x3, p.index, p.mark)
 
 -- what it settled and what it left open are at most one more than were open
 pub overflow_cast-result : goal.overflow_cast-result
 overflow_cast-result c =
     let p = c.requires.ready in
-    let a = c.add-t.ensures.adds in
+    let a = c.add-added.ensures.adds in
     record { fits = omega (arith, a.settled_is, settled-most) }
 
 pub overflow_cast-result-2 : goal.overflow_cast-result-2
 overflow_cast-result-2 c =
     let p = c.requires.ready in
-    let a = c.add-t.ensures.adds in
+    let a = c.add-added.ensures.adds in
     record { fits = omega (arith, a.opens_is, opens-most) }
 
 pub returns : goal.returns
 returns c =
     let a = c.args in
-    let s = c.step-s.result in
-    let e = c.add-t.ensures in
+    let s = c.step-month.result in
+    let e = c.add-added.ensures in
     let fz = c.ranges.z in
     let fm : SFits w32 c.modified-modified.result = record { sfits = c.modified-modified.type_inv } in
-    let f1 : SFits w32 s.after.x1 = search held in
-    let f2 : SFits w32 s.after.x2 = search held in
-    let f3 : SFits w32 s.after.x3 = search held in
     let f4 : SFits w32 s.index = search held in
     let cs = columns a.x1.now a.x2.now a.x3.now a.index.now a.mark.now in
     rw (to_z-of_z f4, to_z-of_z fm)
-    (spelled_is a.months a.opens cs s c.decision_number-by.result a.values a.z c.add-t.new.x1 c.add-t.new.x2 c.add-t.new.x3 c.add-t.new.index c.add-t.new.mark c.add-t.result.opens c.add-t.result.settled c.add-t.result.mark c.modified-modified.result
-    (rw (to_z-of_z fz) at c.step-s.ensures)
-    c.decision_number-by.ensures
-    (rw (to_z-of_z f1) at e.x1_after, rw (to_z-of_z f2) at e.x2_after, rw (to_z-of_z f3) at e.x3_after, rw (to_z-of_z f1, to_z-of_z f2, to_z-of_z f3, to_z-of_z f4) at e.adds)
-    c.add-t.ensures.mark_value
+    (spelled_is a.months a.opens cs s a.values a.z c.add-added.new.x1 c.add-added.new.x2 c.add-added.new.x3 c.add-added.new.index c.add-added.new.mark c.add-added.result.opens c.add-added.result.settled c.add-added.result.mark c.modified-modified.result
+    (rw (to_z-of_z fz) at c.step-month.ensures)
+    (e.x1_after, e.x2_after, e.x3_after, e.adds)
+    c.add-added.ensures.mark_value
     (rw (to_z-of_z fz) at c.modified-modified.ensures))
