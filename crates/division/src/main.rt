@@ -237,19 +237,19 @@ fn run_with(
 {
     let heard = read_all(stdin, session, buffer, line, out);
     if heard.failed {
-        stdio::say_unread(stderr, b"division");
+        stdio::say_unread(stderr, "division");
         return;
     }
     let read = heard.session;
     let s = division_input::finish(read, line, out);
     let number = s.refused;
     if number != 0 {
-        stdio::print_refusal(stdout, stderr, b"division", s.lines, refusal_of(number));
+        stdio::print_refusal(stdout, stderr, "division", s.lines, refusal_of(number));
         explain(stderr, s, line);
         return;
     }
     let end = s.end;
-    stdio::write_out(stdout, stderr, b"division", &out[..end]);
+    stdio::write_out(stdout, stderr, "division", &out[..end]);
 }
 
 // Whether the program was started with an argument of this number.

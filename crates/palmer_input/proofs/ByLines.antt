@@ -16,7 +16,7 @@ use Rattle.lines.specs.Reading.{opens, fed}
 use Rattle.lines.specs.declared.Line.{Line}
 use Rattle.lines.proofs.Lines.{streamed}
 use Rattle.refusals.specs.Book.{Book}
-use Rattle.palmer_input.specs.ByLines.{State, state, with_z, heard_with, heard_as, heard}
+use Rattle.palmer_input.specs.ByLines.{State, stands, with_z, heard_with, heard_as, heard}
 use Rattle.palmer_input.specs.Input.{is_blank, line_closed, byte_fed, input_ended}
 use Rattle.palmer_input.proofs.Steps.{byte-closes, byte-within, byte-refused, end-closes, end-blank, end_refused}
 
@@ -63,7 +63,7 @@ heard-begins t line k = rw k (begins (judged line) t.session.run t.columns t.per
 
 -- ---- what is held where a line began in t, and these bytes of it have come
 abbrev within : State → List ℕ → State
-within t come = state (record { line = foldl fed begun come; refused = t.session.refused; run = t.session.run }) t.columns t.percents
+within t come = stands (record { line = foldl fed begun come; refused = t.session.refused; run = t.session.run }) t.columns t.percents
 
 one_more : (t : State) (come : List ℕ) (b : ℕ) → t.session.refused ≡ 0 → (b ≡ line_feed → ⊥) → byte_fed (within t come) b ≡ within t (come ++ b ∷ [])
 one_more t come b k h = byte-within (within t come) b k h ∙ rw (foldl-append fed begun come (b ∷ []))

@@ -7,14 +7,14 @@ use Rattle.lines.specs.Reading.{fed, finished}
 use Rattle.lines.specs.declared.Line.{Line}
 use Rattle.runs.specs.declared.Run.{Run}
 use Rattle.refusals.specs.Book.{Book}
-use Rattle.palmer_input.specs.ByLines.{State, state, heard_as}
+use Rattle.palmer_input.specs.ByLines.{State, stands, heard_as}
 
 -- a line closed
 unfoldable pub line_closed : Line → Run → Book → List ℕ → State
 line_closed line run cs ps = heard_as (finished line) run cs ps
 
 abbrev pub with_byte : State → ℕ → State
-with_byte t b = state (record { line = fed t.session.line b; refused = t.session.refused; run = t.session.run }) t.columns t.percents
+with_byte t b = stands (record { line = fed t.session.line b; refused = t.session.refused; run = t.session.run }) t.columns t.percents
 
 -- one byte more; after a refusal nothing is looked at
 unfoldable pub byte_fed : State → ℕ → State

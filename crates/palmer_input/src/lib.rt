@@ -4,28 +4,40 @@
 // (10, 12, 13) ends it". Every call here serves that program alone.
 #![tactic(auto)]
 
-ghost use Rattle.std.specs.Prelude.{◌≡◌};
+ghost use Rattle.std.specs.Prelude.{◌≡◌, true};
 ghost use mathlib.Core.List.{foldl};
-ghost use Rattle.refusals.specs.Book.{book};
+ghost use Rattle.lines.specs.Line.{begun};
 ghost use Rattle.starts.specs.Start.{run_for_z};
-ghost use Rattle.palmer_input.specs.ByLines.{state, fresh, percent_kept, after_line, with_z};
+ghost use Rattle.palmer_input.specs.ByLines.{state_of, columns_of, fresh, number_of, of_added, percent_kept, with_z};
 ghost use Rattle.palmer_input.specs.Input.{is_blank, line_closed, byte_fed, input_ended};
 
-use lines::{Line, Read};
-use outline::{BAD_Z, MANY_CONSTANTS, NOT_A_NUMBER};
+use lines::Line;
+use outline::{MANY_CONSTANTS, Refusal};
 use ranges::LEAST_CAPACITY;
 use records::RecordNumbers;
 use runs::Run;
 
-// What has been read: the line so far, the refusal that ended the reading (0: none yet), and the run.
-#[derive(Drop)]
+// What has been read: the line so far, the refusal that ended the reading, and the run.
+#[derive(Clone, Copy)]
 pub struct Session {
     pub line: Line,
-    pub refused: u8,
+    pub refused: Option<Refusal>,
     pub run: Run,
 }
 
-const LINE_FEED: u8 = 10;
+// All that the program holds: what has been read, the lists that it lends to each call on the run, and each month's percent.
+#[derive(Drop)]
+pub struct Heard<const N: usize> {
+    pub session: Session,
+    pub x1: [i32; N],
+    pub x2: [i32; N],
+    pub x3: [i32; N],
+    pub index: [i32; N],
+    pub mark: [u8; N],
+    pub records: [RecordNumbers; N],
+    pub v: [i64; N],
+    pub percent: [u32; N],
+}
 
 // The least capacity and the first calendar month: a run to which only Z are added looks at neither.
 const CAPACITY: i32 = LEAST_CAPACITY as i32;
@@ -45,148 +57,107 @@ fn run_for_z() -> Run
 pub fn begin() -> Session
     ensures { result ≡ fresh }
 {
-    after_line(0, run_for_z())
+    after_line(None, run_for_z())
+}
+
+// The refusal of an added Z, by the number of its answer, which is C's.
+#[tactic(auto, unfolding(crate::specs::ByLines::of_added))]
+fn refusal_of(number: u8) -> Option<Refusal>
+    requires { of_added number ≡ true }
+    ensures { number_of result ≡ number }
+{
+    match number {
+        0 => None,
+        1 => Some(Refusal::BadLists),
+        7 => Some(Refusal::NotARun),
+        10 => Some(Refusal::Full),
+        12 => Some(Refusal::BadZ),
+        _ => unreachable!(),
+    }
 }
 
 // A month's percent, beside the columns; nothing where the month was refused.
-fn put_percent(number: u8, at: usize, value: u32, percent: &mut [u32])
-    ensures { percent.new ≡ percent_kept number at value percent.old }
+fn put_percent(refused: Option<Refusal>, at: usize, value: u32, percent: &mut [u32])
+    ensures { percent.new ≡ percent_kept (number_of refused) at value percent.old }
 {
-    if number != 0 {
-        return;
-    }
-    if at < percent.len() {
+    if refused.is_none() && at < percent.len() {
         percent[at] = value;
     }
 }
 
-// The reading goes on with a new line where the number is 0, and is refused otherwise.
-fn after_line(number: u8, run: Run) -> Session
-    ensures { result ≡ after_line number run }
+// The reading goes on with a new line, or is refused.
+fn after_line(refused: Option<Refusal>, run: Run) -> Session
+    ensures { result ≡ record { line = begun; refused = refused; run = run } }
 {
     Session {
         line: lines::begin(),
-        refused: number,
+        refused,
         run,
     }
 }
 
-// A line's Z added.
-fn add_line(
-    run: Run,
-    z: i32,
-    x1: &mut [i32],
-    x2: &mut [i32],
-    x3: &mut [i32],
-    index: &mut [i32],
-    mark: &mut [u8],
-    records: &mut [RecordNumbers],
-    v: &mut [i64],
-    percent: &mut [u32],
-) -> Session
-    ensures { state result (book x1.new x2.new x3.new index.new mark.new records.new v.new) percent.new ≡ with_z run z (book x1.old x2.old x3.old index.old mark.old records.old v.old) percent.old }
-{
-    let at = run.months as usize;
-    let a = drought::add_z(run, z, x1, x2, x3, index, mark, records, v);
-    let number = a.number;
-    let figures = a.figures;
-    put_percent(number, at, figures.percent, percent);
-    after_line(number, a.run)
-}
-
-// A line closed: its Z added, or its refusal.
-fn close_line(
-    line: Line,
-    run: Run,
-    x1: &mut [i32],
-    x2: &mut [i32],
-    x3: &mut [i32],
-    index: &mut [i32],
-    mark: &mut [u8],
-    records: &mut [RecordNumbers],
-    v: &mut [i64],
-    percent: &mut [u32],
-) -> Session
-    ensures { state result (book x1.new x2.new x3.new index.new mark.new records.new v.new) percent.new ≡ line_closed line run (book x1.old x2.old x3.old index.old mark.old records.old v.old) percent.old }
-{
-    let r = lines::finish(line);
-    match r {
-        Read::Z(z) => add_line(run, z, x1, x2, x3, index, mark, records, v, percent),
-        Read::OutOfRange => after_line(BAD_Z, run),
-        Read::NotANumber => after_line(NOT_A_NUMBER, run),
-    }
-}
-
-// Some bytes more. After a refusal nothing more is looked at.
-pub fn take(
-    s: Session,
-    bytes: &[u8],
-    x1: &mut [i32],
-    x2: &mut [i32],
-    x3: &mut [i32],
-    index: &mut [i32],
-    mark: &mut [u8],
-    records: &mut [RecordNumbers],
-    v: &mut [i64],
-    percent: &mut [u32],
-) -> Session
-    ensures { state result (book x1.new x2.new x3.new index.new mark.new records.new v.new) percent.new ≡ foldl byte_fed (state s (book x1.old x2.old x3.old index.old mark.old records.old v.old) percent.old) bytes.now }
-{
-    let mut line = s.line;
-    let mut refused = s.refused;
-    let mut run = s.run;
-    let mut i = 0;
-    while i < bytes.len() {
-        if refused == 0 {
-            let b = bytes[i];
-            if b == LINE_FEED {
-                let c = close_line(line, run, x1, x2, x3, index, mark, records, v, percent);
-                line = c.line;
-                refused = c.refused;
-                run = c.run;
-            } else {
-                line = lines::feed(line, b);
-            }
-        }
-        i += 1;
-    }
-    Session { line, refused, run }
-}
-
-// The end of the input: a line that has begun is closed by it.
-pub fn end(
-    s: Session,
-    x1: &mut [i32],
-    x2: &mut [i32],
-    x3: &mut [i32],
-    index: &mut [i32],
-    mark: &mut [u8],
-    records: &mut [RecordNumbers],
-    v: &mut [i64],
-    percent: &mut [u32],
-) -> Session
-    ensures { state result (book x1.new x2.new x3.new index.new mark.new records.new v.new) percent.new ≡ input_ended (state s (book x1.old x2.old x3.old index.old mark.old records.old v.old) percent.old) }
-{
-    let line = s.line;
-    let run = s.run;
-    if s.refused != 0 {
-        return s;
-    }
-    if is_blank(line) {
-        return s;
-    }
-    close_line(line, run, x1, x2, x3, index, mark, records, v, percent)
-}
-
 // Whether a line has not begun.
+#[tactic(auto, unfolding(crate::specs::Input::is_blank))]
 fn is_blank(line: Line) -> bool
     ensures { result ≡ is_blank line }
 {
-    if line.minus {
-        return false;
+    !(line.minus || line.digits || line.spoiled)
+}
+
+impl<const N: usize> Heard<N> {
+    // Some bytes more. After a refusal nothing more is looked at.
+    pub fn take(&mut self, bytes: &[u8])
+        ensures { state_of self.new ≡ foldl byte_fed (state_of self.old) bytes.now }
+    {
+        for b in bytes {
+            if self.session.refused.is_some() {
+                return;
+            }
+            if *b == b'\n' {
+                self.close_line();
+            } else {
+                self.session.line = lines::feed(self.session.line, *b);
+            }
+        }
     }
-    if line.digits {
-        return false;
+
+    // The end of the input: a line that has begun is closed by it.
+    pub fn end(&mut self)
+        ensures { state_of self.new ≡ input_ended (state_of self.old) }
+    {
+        if self.session.refused.is_none() && !is_blank(self.session.line) {
+            self.close_line();
+        }
     }
-    !line.spoiled
+
+    // A line closed: its Z added, or its refusal.
+    fn close_line(&mut self)
+        ensures { state_of self.new ≡ line_closed self.old.session.line self.old.session.run (columns_of self.old) self.old.percent }
+    {
+        match lines::finish(self.session.line) {
+            Ok(z) => self.add_line(z),
+            Err(refusal) => self.session = after_line(Some(refusal), self.session.run),
+        }
+    }
+
+    // A line's Z added.
+    fn add_line(&mut self, z: i32)
+        ensures { state_of self.new ≡ with_z self.old.session.run z (columns_of self.old) self.old.percent }
+    {
+        let at = self.session.run.months as usize;
+        let a = drought::add_z(
+            self.session.run,
+            z,
+            &mut self.x1,
+            &mut self.x2,
+            &mut self.x3,
+            &mut self.index,
+            &mut self.mark,
+            &mut self.records,
+            &mut self.v,
+        );
+        let refused = refusal_of(a.number);
+        put_percent(refused, at, a.figures.percent, &mut self.percent);
+        self.session = after_line(refused, a.run);
+    }
 }

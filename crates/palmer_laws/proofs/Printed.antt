@@ -10,15 +10,15 @@ use Rattle.outline.proofs.Refusals.{is-done}
 use Rattle.text.specs.Lines.{lines_of}
 use Rattle.rows.specs.Text.{refused_text}
 use Rattle.rows.specs.Room.{laid}
-use Rattle.palmer_input.specs.ByLines.{State, state, heard}
+use Rattle.palmer_input.specs.ByLines.{State, state, fresh, heard}
 use Rattle.palmer_input.specs.Input.{byte_fed, input_ended}
 use Rattle.palmer_input.specs.declared.Session.{Session}
 use Rattle.palmer_input.proofs.ByLines.{by_lines, in_parts, bytes-stay, lines_stay}
 use Rattle.palmer_output.specs.Printed.{most_lines}
-use Rattle.palmer_output.specs.Output.{shown_months, line_after, output_of}
+use Rattle.palmer_output.specs.Output.{shown_months, line_after, output_of, laid_out}
 use Rattle.palmer_laws.specs.Palmer.{start, printed_from, palmer_of}
 use Rattle.palmer_laws.specs.Refused.{line_refusal}
-use Rattle.palmer_laws.specs.Calls.{Takes, none, one_more, laid_out, Prints}
+use Rattle.palmer_laws.specs.Calls.{Takes, none, one_more, Prints}
 use Rattle.palmer_laws.proofs.Heard.{Sound, Heard, at_most, begins, hears}
 
 -- ---- what is laid out of what lines make is what is printed of them
@@ -94,7 +94,7 @@ pub some-prints : (pieces : List (List ℕ)) → let text = laid_out (input_ende
 some-prints pieces =
     let ended = input_ended (taken-by start pieces) in
     record {
-      begun = start.session;
+      begun = fresh;
       begins = refl;
       read = taken-by start pieces;
       takes = takes_all start pieces;

@@ -7,28 +7,24 @@ use Rattle.rows.specs.Room.{laid}
 use Rattle.palmer_input.specs.ByLines.{State, state, fresh}
 use Rattle.palmer_input.specs.Input.{byte_fed, input_ended}
 use Rattle.palmer_input.specs.declared.Session.{Session}
-use Rattle.palmer_output.specs.Output.{output_of}
+use Rattle.palmer_output.specs.Output.{laid_out}
 use Rattle.palmer_laws.specs.Palmer.{start}
 
--- `palmer_input::take`, for each piece in turn, on the session, the lent lists and the percents that the call before left
+-- `Heard::take`, for each piece in turn, on what the call before left
 pub data Takes : State → List (List ℕ) → State → Type 0 where
   none : {t : State} → Takes t [] t
   one_more : {t u v : State} {piece : List ℕ} {pieces : List (List ℕ)} → u ≡ foldl byte_fed t piece → Takes u pieces v → Takes t (piece ∷ pieces) v
 
--- what `palmer_output::put_output` lays out of a session that has ended
-abbrev pub laid_out : State → List ℕ
-laid_out t = output_of t.session.refused t.session.run t.columns t.percents
-
 -- the program, for an input that comes in these pieces, and of which the rest is not read
 pub record Prints (pieces : List (List ℕ)) (rest printed : List ℕ) : Type 0 where
-  -- `palmer_input::begin`, with the lent lists and the percents all zeros
+  -- `palmer_input::begin`, with the lists and the percents all zeros
   pub begun : Session
   pub begins : begun ≡ fresh
   pub read : State
   pub takes : Takes (state begun start.columns start.percents) pieces read
   -- the reading stops where the input ends, or where a line is refused
   pub stops : read.session.refused ≡ 0 → rest ≡ []
-  -- `palmer_input::end`
+  -- `Heard::end`
   pub ended : State
   pub ends : ended ≡ input_ended read
   -- `palmer_output::put_output`, on any list

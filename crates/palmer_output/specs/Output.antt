@@ -7,6 +7,7 @@ use Rattle.rows.specs.Room.{most_row}
 use Rattle.rows.specs.Text.{refused_text}
 use Rattle.runs.specs.declared.Run.{Run}
 use Rattle.refusals.specs.Book.{Book}
+use Rattle.palmer_input.specs.ByLines.{State}
 use Rattle.palmer_output.specs.Printed.{most_lines, rows_text}
 
 -- the months that have rows
@@ -24,6 +25,10 @@ line_after months = shown_months months + 1
 -- the rows, or where the number is a refusal's its line alone
 unfoldable pub output_of : ℕ → Run → Book → List ℕ → List ℕ
 output_of number run cs ps = unless_refused number (all_rows run cs ps) (refused_text (line_after run.months) number)
+
+-- what is laid out of a session that has ended
+abbrev pub laid_out : State → List ℕ
+laid_out t = output_of t.session.refused t.session.run t.columns t.percents
 
 -- what all rows need at most
 abbrev pub room : ℕ

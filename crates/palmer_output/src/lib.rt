@@ -3,15 +3,14 @@
 #![tactic(auto)]
 
 ghost use Rattle.std.specs.Prelude.{◌+◌, ◌≤◌, ◌<◌, ◌≡◌, length};
-ghost use Rattle.refusals.specs.Book.{book};
 ghost use Rattle.rows.specs.Text.{row_text};
 ghost use Rattle.rows.specs.Room.{laid, most_row};
+ghost use Rattle.palmer_input.specs.ByLines.{columns_of, state_of};
 ghost use Rattle.palmer_output.specs.Printed.{percent_at, row_at};
-ghost use Rattle.palmer_output.specs.Output.{all_rows, line_after, output_of, room};
+ghost use Rattle.palmer_output.specs.Output.{all_rows, line_after, laid_out, room};
 
-use records::RecordNumbers;
+use palmer_input::Heard;
 use rows::{MOST_ROW, Row};
-use runs::Run;
 
 // The most months that the program holds, one a line: its columns are so long.
 pub const MOST_LINES: usize = 2_400;
@@ -23,115 +22,73 @@ pub const ROOM: usize = MOST_LINES * MOST_ROW;
 pub fn line_after(months: u32) -> u32
     ensures { result ≡ line_after months }
 {
-    if months < MOST_LINES as u32 {
-        return months + 1;
-    }
-    MOST_LINES as u32 + 1
+    months.min(MOST_LINES as u32) + 1
 }
 
+#[tactic(auto, unfolding(crate::specs::Printed::percent_at))]
 fn percent_at(percent: &[u32], i: usize) -> u32
     ensures { result ≡ percent_at percent.now i }
 {
-    if i < percent.len() {
-        return percent[i];
-    }
-    0
+    percent.get(i).copied().unwrap_or(0)
 }
 
 // Puts the row of month i, counted from 0.
-fn put_row(
-    run: Run,
-    i: u32,
-    x1: &[i32],
-    x2: &[i32],
-    x3: &[i32],
-    index: &[i32],
-    mark: &[u8],
-    records: &[RecordNumbers],
-    v: &[i64],
-    percent: &[u32],
-    at: usize,
-    out: &mut [u8],
-) -> usize
+fn put_row<const N: usize>(heard: &Heard<N>, i: u32, at: usize, out: &mut [u8]) -> usize
     requires i_bound { i < 4294967295 }
     requires most_row_in_bounds { at + most_row ≤ length out.old }
     ensures upper_bound { result ≤ at + most_row }
-    ensures value { result ≡ at + length (row_text (row_at run i (book x1.now x2.now x3.now index.now mark.now records.now v.now) percent.now)) }
-    ensures out_after { out.new ≡ laid (row_text (row_at run i (book x1.now x2.now x3.now index.now mark.now records.now v.now) percent.now)) at out.old }
+    ensures value { result ≡ at + length (row_text (row_at heard.now.session.run i (columns_of heard.now) heard.now.percent)) }
+    ensures out_after { out.new ≡ laid (row_text (row_at heard.now.session.run i (columns_of heard.now) heard.now.percent)) at out.old }
 {
-    let chance = percent_at(percent, i as usize);
-    let shown = drought::row(run, i as usize, x1, x2, x3, index, mark, records, v);
+    let shown = drought::row(
+        heard.session.run,
+        i as usize,
+        &heard.x1,
+        &heard.x2,
+        &heard.x3,
+        &heard.index,
+        &heard.mark,
+        &heard.records,
+        &heard.v,
+    );
     let row = Row {
         month: i + 1,
         x1: shown.x1,
         x2: shown.x2,
         x3: shown.x3,
-        percent: chance,
+        percent: percent_at(&heard.percent, i as usize),
         index: shown.index,
         mark: shown.mark,
     };
     rows::lay_out(row, at, out)
 }
 
-// Room for all rows. Its `ensures` gives only the length, which lending it needs.
-pub fn make_room() -> [u8; ROOM]
-    ensures { room ≡ length result }
-{
-    [0; ROOM]
-}
-
 // Puts the row of each month, and answers where they end.
-fn put_rows(
-    out: &mut [u8],
-    run: Run,
-    x1: &[i32],
-    x2: &[i32],
-    x3: &[i32],
-    index: &[i32],
-    mark: &[u8],
-    records: &[RecordNumbers],
-    v: &[i64],
-    percent: &[u32],
-) -> usize
+fn put_rows<const N: usize>(heard: &Heard<N>, out: &mut [u8]) -> usize
     requires { length out.old ≡ room }
     ensures upper_bound { result ≤ room }
-    ensures value { result ≡ length (all_rows run (book x1.now x2.now x3.now index.now mark.now records.now v.now) percent.now) }
-    ensures out_after { out.new ≡ laid (all_rows run (book x1.now x2.now x3.now index.now mark.now records.now v.now) percent.now) 0 out.old }
+    ensures value { result ≡ length (all_rows heard.now.session.run (columns_of heard.now) heard.now.percent) }
+    ensures out_after { out.new ≡ laid (all_rows heard.now.session.run (columns_of heard.now) heard.now.percent) 0 out.old }
 {
-    let end = line_after(run.months) - 1;
-    let mut at: usize = 0;
-    let mut i: u32 = 0;
-    while i < end {
-        at = put_row(
-            run, i, x1, x2, x3, index, mark, records, v, percent, at, out,
-        );
-        i += 1;
+    let mut at = 0;
+    for i in 0..heard.session.run.months.min(MOST_LINES as u32) {
+        at = put_row(heard, i, at, out);
     }
     at
 }
 
-// Puts all that is printed where the input has ended, and answers where it ends: the rows, or where a line was refused, with
-// this number, that line alone.
-pub fn put_output(
-    out: &mut [u8],
-    number: u8,
-    run: Run,
-    x1: &[i32],
-    x2: &[i32],
-    x3: &[i32],
-    index: &[i32],
-    mark: &[u8],
-    records: &[RecordNumbers],
-    v: &[i64],
-    percent: &[u32],
-) -> usize
+// Puts all that is printed where the input has ended, and answers where it ends: the rows, or where a line was refused that line
+// alone.
+pub fn put_output<const N: usize>(heard: &Heard<N>, out: &mut [u8]) -> usize
     requires { length out.old ≡ room }
     ensures upper_bound { result ≤ room }
-    ensures value { result ≡ length (output_of number run (book x1.now x2.now x3.now index.now mark.now records.now v.now) percent.now) }
-    ensures out_after { out.new ≡ laid (output_of number run (book x1.now x2.now x3.now index.now mark.now records.now v.now) percent.now) 0 out.old }
+    ensures value { result ≡ length (laid_out (state_of heard.now)) }
+    ensures out_after { out.new ≡ laid (laid_out (state_of heard.now)) 0 out.old }
 {
-    if number == 0 {
-        return put_rows(out, run, x1, x2, x3, index, mark, records, v, percent);
+    match heard.session.refused {
+        None => put_rows(heard, out),
+        Some(refusal) => {
+            rows::lay_refusal(line_after(heard.session.run.months), refusal, 0, out)
+        }
     }
-    rows::lay_refusal(line_after(run.months), number, 0, out)
 }

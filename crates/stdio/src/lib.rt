@@ -88,16 +88,14 @@ pub fn say_number(stderr: &impl Print, n: u32) {
 }
 
 // Says that the program of this name cannot read its input.
-pub fn say_unread(stderr: &impl Print, program: &[u8]) {
-    say(stderr, program);
-    say(stderr, b": the input cannot be read\n");
+pub fn say_unread(stderr: &impl Print, program: &str) {
+    let _ = println!(stderr; "{program}: the input cannot be read");
 }
 
 // Writes a text to standard output, or says that the program of this name cannot.
-pub fn write_out(stdout: &impl Print, stderr: &impl Print, program: &[u8], text: &[u8]) {
+pub fn write_out(stdout: &impl Print, stderr: &impl Print, program: &str, text: &[u8]) {
     if stdout.write_all(text).is_err() {
-        say(stderr, program);
-        say(stderr, b": the output cannot be written\n");
+        let _ = println!(stderr; "{program}: the output cannot be written");
     }
 }
 
@@ -105,7 +103,7 @@ pub fn write_out(stdout: &impl Print, stderr: &impl Print, program: &[u8], text:
 pub fn print_refusal(
     stdout: &impl Print,
     stderr: &impl Print,
-    program: &[u8],
+    program: &str,
     line: u32,
     refusal: Refusal,
 ) {
