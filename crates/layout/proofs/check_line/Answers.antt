@@ -1,8 +1,7 @@
 -- `layout::check_line`: a line is refused with 14 where it is at fault, in its heading or after it, and else by its heading. Assumes nothing.
-use Rattle.std.proofs.Common.{◌≡◌, sym, ap, ◌∙◌, List, ℕ}
+use Rattle.std.proofs.Common.{◌≡◌, sym, ◌∙◌, List, ℕ}
 use Rattle.text.specs.Bytes.{natural}
 use Rattle.fields.specs.Columns.{state, division, element, year}
-use Rattle.layout.specs.Fault.{fault_of}
 use Rattle.layout_heading.specs.Heading.{precipitation}
 use Rattle.layout_heading.specs.Steps.{heading_refusal, element_refusal}
 use Rattle.layout_heading.specs.declared.Heading.{Heading}

@@ -1,5 +1,5 @@
 -- `layout::fault`: the line's length is looked at first, then its heading, then what follows it. Assumes nothing.
-use Rattle.std.proofs.Common.{sym, ap, ◌∙◌, add-one}
+use Rattle.std.proofs.Common.{sym, ap, ◌∙◌}
 use Rattle.fields.specs.Told.{unless_zero}
 use Rattle.fields.proofs.Told.{told_more, told_ne}
 use Rattle.layout.proofs.Faults.{at_length, at-heading, at_rest}

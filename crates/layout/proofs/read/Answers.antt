@@ -1,6 +1,6 @@
 -- `layout::read`: a line that is too short is refused, as is one with a refusal, and any other's figures are those of its months. Assumes
 -- nothing.
-use Rattle.std.proofs.Common.{◌≡◌, refl, sym, ap, ◌∙◌, List, map, ℕ, zero, suc, ◌≤◌, ◌<◌, arith, length, Ok, Err}
+use Rattle.std.proofs.Common.{◌≡◌, refl, sym, ap, ◌∙◌, List, map, ℕ, zero, suc, ◌≤◌, ◌<◌, arith, length, Err}
 use lib.Count.{ones}
 use lib.ListN.{length-map}
 use Rattle.std.specs.Prelude.{Result}

@@ -1,5 +1,5 @@
 -- `layout::rest_fault`: the months are looked at first, and then what follows them. Assumes nothing.
-use Rattle.std.proofs.Common.{◌≡◌, sym, ap, ◌∙◌, true, false, Some, None}
+use Rattle.std.proofs.Common.{sym, ap, ◌∙◌, true, false}
 use Rattle.text.specs.Bytes.{all_spaces}
 use Rattle.fields.specs.Columns.{last_column}
 use Rattle.fields.specs.Told.{unless_zero}

@@ -1,5 +1,5 @@
 -- `layout_months::amount`: a number in its range is no mark. Assumes nothing.
-use Rattle.std.proofs.Common.{◌≡◌, refl, sym, ◌∙◌, true, false, Bool, ℕ, ◌*◌, arith, nat_le, nat_eq}
+use Rattle.std.proofs.Common.{◌≡◌, refl, sym, ◌∙◌, true, false, Bool, ℕ, ◌*◌, nat_le, nat_eq}
 use mathlib.Core.Bool.{and-eq-true_iff}
 use borrow.Author.Tests.{eqb-true}
 use Rattle.layout_months.specs.Months.{most_hundredths, is_mark, in_range, rain_of, amount_of}

@@ -1,7 +1,7 @@
 -- `layout_months::read_months`: what is found so far is what is found in the months so far, and the amounts so far are theirs. Assumes nothing.
 use Rattle.std.proofs.Common.{◌≡◌, refl, sym, ap, ◌∙◌, List, [], ◌∷◌, ◌++◌, map, ℕ, ◌+◌, ◌-◌, ◌*◌, ◌^◌, ◌%◌, ◌≤◌, ◌<◌, length, take, drop, add-one, arith}
 use mathlib.Core.List.{map-append}
-use lib.ListN.{set, length-set}
+use lib.ListN.{set}
 use lib.Pow.{pow_mono}
 use lib.Seq.{take-suc, take-suc-set, take_all, length-take-le}
 use Rattle.fields.specs.Columns.{heading_columns, months_of_year, width}

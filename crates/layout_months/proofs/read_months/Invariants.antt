@@ -1,4 +1,4 @@
-use Rattle.std.proofs.Common.{◌≡◌, length, take, map}
+use Rattle.std.proofs.Common.{◌≡◌, take, map}
 use Rattle.layout_months.specs.Months.{months_of, amount_of}
 use Rattle.layout_months.specs.Steps.{found_in}
 use Rattle.layout_months.proofs.read_months.Given as goal
