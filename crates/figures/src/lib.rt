@@ -111,7 +111,8 @@ impl Seen {
     }
 }
 
-// Reads the twelve values of a line.
+// Reads the twelve values of a line. Beside `layout_months::read_months`: a trait over both would have more members, a type
+// that is kept, what is kept of a value, none found, one month more and the room for its bit, than each loop has lines.
 pub fn read_figures(line: &[u8], hundredths: &mut [i32]) -> Seen
     requires last_column_in_bounds { last_column ≤ length line.now }
     requires hundredths_len { length hundredths.old ≡ months_of_year }

@@ -2,7 +2,6 @@
 -- was handed in. Assumes nothing.
 use Rattle.std.proofs.Common.{◌≡◌, refl, sym, ap, ◌∙◌, List, ℕ, Ok, Err}
 use Rattle.std.specs.Prelude.{Option, Result, IfOk}
-use Rattle.outline.specs.Refused.{refusal_number}
 use Rattle.outline.specs.declared.Refusal.{Refusal}
 use Rattle.outline.proofs.Refused.{number-ne-zero, one-refusal}
 use Rattle.fields.specs.Told.{unless_zero}

@@ -45,7 +45,9 @@ pub fn write_line(
     let at = runs::progress_of(run);
     let constants = run.constants;
     let n = rows.lent_length();
-    try_line(n, at, &constants, element, state, division, year, which, rows, line)
+    try_line(
+        n, at, &constants, element, state, division, year, which, rows, line,
+    )
 }
 
 // A line written or refused, by n, what is lent, measured.

@@ -1,7 +1,6 @@
 -- A size rounded to hundredths, with its minus unless that leaves 0, is what is sent. Assumes nothing.
-use Rattle.std.proofs.Common.{◌≡◌, refl, sym, ap, ◌∙◌, Bool, true, false, ℕ, zero, suc, ◌+◌, ◌/◌, Some, arith}
-use lib.IntN.{ℤ, pos, negsuc, nat_abs}
-use Rattle.std.specs.Prelude.{◌&&◌}
+use Rattle.std.proofs.Common.{◌≡◌, refl, ◌∙◌, true, false, ℕ, zero, suc, ◌+◌, ◌/◌, arith}
+use lib.IntN.{pos, negsuc}
 use Rattle.fields.specs.Field.{numbered}
 use Rattle.exact.specs.Nearest.{nearest_ℕ, nearest}
 use Rattle.sent_months.specs.Sent.{nearest_hundredths}

@@ -1,6 +1,6 @@
 -- A proof's vocabulary, here since contracts cite it; no promise leans on it. A figure as the code holds it: a size, and whether it has a minus,
 -- or none where it is missing. Assumes nothing.
-use Rattle.std.specs.Prelude.{ℕ, suc, Bool, true, false, not, ◌&&◌, List, ℤ, pos, negsuc, Option, Some, None}
+use Rattle.std.specs.Prelude.{ℕ, suc, Bool, true, false, not, ◌&&◌, List, pos, negsuc, Option, Some, None}
 use Rattle.fields.specs.Field.{numbered}
 use Rattle.fields.specs.Written.{field_text, size_fits}
 use Rattle.fields.specs.declared.Number.{Number}

@@ -1,5 +1,5 @@
-use Rattle.std.proofs.Common.{◌≡◌, ◌++◌, ◌+◌, ◌*◌, ◌≤◌, length, take, drop}
-use Rattle.fields.specs.Columns.{heading_columns, width, last_column}
+use Rattle.std.proofs.Common.{◌≡◌, ◌++◌, ◌+◌, ◌*◌, length, take, drop}
+use Rattle.fields.specs.Columns.{heading_columns, width}
 use Rattle.layout_heading.specs.Written.{heading_text}
 use Rattle.refusals.specs.Lists.{read}
 use Rattle.figures.specs.Figures.{figures_text}
@@ -13,5 +13,5 @@ invariant-loop-m l =
     record {
       same_room : length l.line ≡ length l.initial.line;
       text_long : length text ≡ heading_columns + width * l.m;
-      text_laid : l.line ≡ text ++ drop (heading_columns + width * l.m) l.initial.line
+      text_laid : l.line ≡ text ++ drop (heading_columns + width * l.m) l.initial.line;
     }

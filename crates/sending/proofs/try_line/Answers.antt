@@ -19,7 +19,6 @@ use Rattle.outline.specs.Refused.{answer_number, refusal_number}
 use Rattle.outline.proofs.Refused.{number-ne-zero}
 use Rattle.reopening.proofs.Laws.{calendar-back}
 use Rattle.years.specs.Years.{calendar_first}
-use Rattle.figures.specs.Figures.{number_of}
 use Rattle.sent_months.specs.Sent.{year_sent}
 use Rattle.sending.specs.Sending.{line_text, year_of, all_fit, written}
 use Rattle.sending.specs.Steps.{written_by, write_line_for}

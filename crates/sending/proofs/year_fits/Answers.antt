@@ -1,7 +1,6 @@
 -- `sending::year_fits`: whether the months still to come fit decides. Assumes nothing.
-use mathlib.Core.Path.{◌≡◌, refl, sym, ap, ◌∙◌}
+use mathlib.Core.Path.{◌≡◌, sym, ap, ◌∙◌}
 use mathlib.Core.List.{List}
-use native.Mathlib.Omega.{arith}
 use lib.ListN.{get_or}
 use Rattle.refusals.specs.Lists.{read}
 use Rattle.figures.specs.Figures.{figure_fits}

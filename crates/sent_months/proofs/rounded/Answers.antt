@@ -1,14 +1,13 @@
 -- `sent_months::rounded`: the size is rounded, and its minus kept unless that leaves 0. Assumes nothing.
-use Rattle.std.proofs.Common.{◌≡◌, refl, sym, ap, ◌∙◌, Bool, true, false, ℕ, ◌+◌, ◌/◌, suc, Some, nat_eq, arith, to_z, of_z}
+use Rattle.std.proofs.Common.{◌≡◌, refl, ap, ◌∙◌, Bool, true, false, ℕ, ◌+◌, ◌/◌, suc, nat_eq, arith}
 use mathlib.Core.Bool.{not}
 use lib.IntN.{ℤ, pos, negsuc}
 use lib.Signed.{lt_z}
 use mir.Facts.{to_z-of_z}
 use borrow.Author.Tests.{eqb-true, eqb-false}
-use Rattle.std.specs.Prelude.{Option, unsigned_abs}
+use Rattle.std.specs.Prelude.{unsigned_abs}
 use Rattle.exact.proofs.Z.{Z, zs, Z-pos, Z-negsuc}
 use Rattle.fields.specs.Field.{numbered}
-use Rattle.fields.specs.declared.Number.{Number}
 use Rattle.sent_months.specs.Sent.{nearest_hundredths}
 use Rattle.sent_months.specs.Signed.{sent_of}
 use Rattle.sent_months.proofs.Sizes.{sent-above, sent-below, sent-none}
