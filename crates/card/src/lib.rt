@@ -30,6 +30,7 @@ use figures::Element;
 use kinds::CReading;
 use layout_figures::Figures;
 use records::RecordNumbers;
+use refusals::Rows;
 use repair::Repaired;
 use report::ChangeNumbers;
 use runs::Run;
@@ -241,13 +242,7 @@ pub extern "C" fn card_write_index_line(
 ) -> u8
     ensures { written result line.new ≡ write_line run Element.Index state division year which (book x1.now x2.now x3.now index.now mark.now records.now v.now) line.old }
 {
-    sending::write_line(
-        run,
-        Element::Index,
-        state,
-        division,
-        year,
-        which,
+    let rows = Rows {
         x1,
         x2,
         x3,
@@ -255,8 +250,17 @@ pub extern "C" fn card_write_index_line(
         mark,
         records,
         v,
+    };
+    outline::number(sending::write_line(
+        run,
+        Element::Index,
+        state,
+        division,
+        year,
+        which,
+        &rows,
         line,
-    )
+    ))
 }
 
 // The same of Z.
@@ -278,13 +282,7 @@ pub extern "C" fn card_write_z_line(
 ) -> u8
     ensures { written result line.new ≡ write_line run Element.Z state division year which (book x1.now x2.now x3.now index.now mark.now records.now v.now) line.old }
 {
-    sending::write_line(
-        run,
-        Element::Z,
-        state,
-        division,
-        year,
-        which,
+    let rows = Rows {
         x1,
         x2,
         x3,
@@ -292,8 +290,8 @@ pub extern "C" fn card_write_z_line(
         mark,
         records,
         v,
-        line,
-    )
+    };
+    outline::number(sending::write_line(run, Element::Z, state, division, year, which, &rows, line))
 }
 
 // The same of the modified index.
@@ -315,13 +313,7 @@ pub extern "C" fn card_write_modified_line(
 ) -> u8
     ensures { written result line.new ≡ write_line run Element.Modified state division year which (book x1.now x2.now x3.now index.now mark.now records.now v.now) line.old }
 {
-    sending::write_line(
-        run,
-        Element::Modified,
-        state,
-        division,
-        year,
-        which,
+    let rows = Rows {
         x1,
         x2,
         x3,
@@ -329,8 +321,17 @@ pub extern "C" fn card_write_modified_line(
         mark,
         records,
         v,
+    };
+    outline::number(sending::write_line(
+        run,
+        Element::Modified,
+        state,
+        division,
+        year,
+        which,
+        &rows,
         line,
-    )
+    ))
 }
 
 // Reads a line of indexes, for a named state, division and expected year: 14, 15, 16.
@@ -367,7 +368,7 @@ pub extern "C" fn card_read_modified_line(
 pub extern "C" fn card_line_year(line: &[u8]) -> u32
     ensures { result ≡ year_of line.now }
 {
-    layout::year_of(line)
+    layout::year_of(line).unwrap_or(0)
 }
 
 // The column where the first field at fault of a line begins, counted from 1, or 0: for a person who is told 14.
@@ -375,5 +376,5 @@ pub extern "C" fn card_line_year(line: &[u8]) -> u32
 pub extern "C" fn card_line_fault(line: &[u8]) -> u32
     ensures { result ≡ fault_of line.now }
 {
-    layout::fault(line)
+    layout::fault(line).unwrap_or(0)
 }
