@@ -4,13 +4,12 @@
 ghost use Rattle.std.specs.Prelude.{◌≡◌, true, cond, ◌≤◌, length};
 ghost use Rattle.outline.specs.Numbers.{many_constants};
 ghost use Rattle.outline.specs.Refusals.{bad_constant, zero_k};
+ghost use Rattle.outline.specs.Refused.{refusal_number, answer_number};
 ghost use Rattle.ranges.specs.Ranges.{constants_fit};
-ghost use Rattle.starts.specs.Start.{capacity_fits, storages_fit, month_fits, start_refusal, zero_run, start_of};
+ghost use Rattle.spells.specs.Values.{fresh};
+ghost use Rattle.starts.specs.Start.{capacity_fits, storages_fit, month_fits, start_refusal, zero_run, started, start_of};
 
-use outline::{
-    BAD_CAPACITY, BAD_CONSTANT, BAD_MONTH, BAD_STORAGE, LAST_MONTH, MANY_CONSTANTS, NOT_SIXTY,
-    ZERO_K,
-};
+use outline::{LAST_MONTH, MANY_CONSTANTS, Refusal};
 use ranges::{LEAST_CAPACITY, MOST_CAPACITY};
 use runs::Run;
 use spells::Running;
@@ -34,10 +33,8 @@ fn storages_fit(c: i32, ss: i32, su: i32) -> bool
     ensures { result ≡ storages_fit c ss su }
 {
     let capacity = c as u32;
-    if !ranges::signed_between(0, ss, water::surface_holds(capacity)) {
-        return false;
-    }
-    ranges::signed_between(0, su, water::underlying_holds(capacity))
+    ranges::signed_between(0, ss, water::surface_holds(capacity))
+        && ranges::signed_between(0, su, water::underlying_holds(capacity))
 }
 
 fn month_fits(m: i32) -> bool
@@ -46,21 +43,20 @@ fn month_fits(m: i32) -> bool
     ranges::signed_between(1, m, LAST_MONTH)
 }
 
-// The number of sixty constants that do not serve: 3, or else 21.
-fn constants_refusal(c: &[i32]) -> u8
+// The refusal of sixty constants that do not serve: 3, or else 21.
+fn constants_refusal(c: &[i32]) -> Refusal
     requires { many_constants ≤ length c.now }
-    ensures { result ≡ cond (constants_fit c.now) zero_k bad_constant }
+    ensures { refusal_number result ≡ cond (constants_fit c.now) zero_k bad_constant }
 {
     if ranges::constants_fit(c) {
-        ZERO_K
+        Refusal::ZeroK
     } else {
-        BAD_CONSTANT
+        Refusal::BadConstant
     }
 }
 
-// The number of a start's refusal, or 0, where sixty constants are given: decided here, in the paper's order, with 21
-// after 3. Whether they serve is asked of the copy, and why not of what was given, so that the copy is read once and
-// stays in registers.
+// Whether a start is refused where sixty constants are given: decided here, in the paper's order, with 21 after 3. Whether they
+// serve is asked of the copy, and why not of what was given, so that the copy is read once and stays in registers.
 fn start_refusal(
     given: &[i32],
     kept: &[i32; MANY_CONSTANTS],
@@ -68,23 +64,23 @@ fn start_refusal(
     ss: i32,
     su: i32,
     m: i32,
-) -> u8
+) -> Result<(), Refusal>
     requires { (length given.now ≡ many_constants) × (kept.now ≡ given.now) }
-    ensures { result ≡ start_refusal given.now c ss su m }
+    ensures { answer_number result ≡ start_refusal given.now c ss su m }
 {
     if !calendar::constants_serve(kept) {
-        return constants_refusal(given);
+        return Err(constants_refusal(given));
     }
     if !capacity_fits(c) {
-        return BAD_CAPACITY;
+        return Err(Refusal::BadCapacity);
     }
     if !storages_fit(c, ss, su) {
-        return BAD_STORAGE;
+        return Err(Refusal::BadStorage);
     }
     if !month_fits(m) {
-        return BAD_MONTH;
+        return Err(Refusal::BadMonth);
     }
-    0
+    Ok(())
 }
 
 // The run's own copy of the constants.
@@ -92,37 +88,45 @@ fn copied(constants: &[i32]) -> [i32; MANY_CONSTANTS]
     requires { length constants.now ≡ many_constants }
     ensures { result ≡ constants.now }
 {
-    let mut kept = [0i32; MANY_CONSTANTS];
-    let mut i = 0;
-    while i < MANY_CONSTANTS {
-        let c = constants[i];
-        kept[i] = c;
-        i += 1;
-    }
+    let mut kept = [0; MANY_CONSTANTS];
+    kept.copy_from_slice(constants);
     kept
 }
 
-fn zero_run() -> Run
-    ensures { result ≡ zero_run }
+// A run of no months.
+#[inline(always)]
+fn no_months(calendar: u32, soil: Soil, constants: [i32; MANY_CONSTANTS]) -> Run
+    ensures { result ≡ record { months = 0; opens = 0; calendar = calendar; soil = soil; values = fresh; constants = constants } }
 {
-    let soil = Soil {
-        capacity: 0,
-        surface: 0,
-        underlying: 0,
-    };
-    let values = Running {
-        x1: 0,
-        x2: 0,
-        x3: 0,
-        v: 0,
-    };
     Run {
         months: 0,
         opens: 0,
-        calendar: 0,
+        calendar,
         soil,
-        values,
-        constants: [0; MANY_CONSTANTS],
+        values: Running {
+            x1: 0,
+            x2: 0,
+            x3: 0,
+            v: 0,
+        },
+        constants,
+    }
+}
+
+// All zeros. No `Default`: an array of sixty has none.
+fn zero_run() -> Run
+    ensures { result ≡ zero_run }
+{
+    no_months(0, Soil::default(), [0; MANY_CONSTANTS])
+}
+
+// A start that is refused.
+fn refused(refusal: Refusal) -> Started
+    ensures { result ≡ started (refusal_number refusal) zero_run }
+{
+    Started {
+        number: refusal.number(),
+        run: zero_run(),
     }
 }
 
@@ -131,36 +135,19 @@ pub fn start(constants: &[i32], capacity: i32, surface: i32, underlying: i32, mo
     ensures { result ≡ start_of constants.now capacity surface underlying month }
 {
     if constants.len() != MANY_CONSTANTS {
-        let run = zero_run();
-        return Started {
-            number: NOT_SIXTY,
-            run,
-        };
+        return refused(Refusal::NotSixty);
     }
     let kept = copied(constants);
-    let number = start_refusal(constants, &kept, capacity, surface, underlying, month);
-    if number != 0 {
-        let run = zero_run();
-        return Started { number, run };
+    if let Err(refusal) = start_refusal(constants, &kept, capacity, surface, underlying, month) {
+        return refused(refusal);
     }
     let soil = Soil {
         capacity: capacity as u32,
         surface: surface as u32,
         underlying: underlying as u32,
     };
-    let values = Running {
-        x1: 0,
-        x2: 0,
-        x3: 0,
-        v: 0,
-    };
-    let run = Run {
-        months: 0,
-        opens: 0,
-        calendar: month as u32,
-        soil,
-        values,
-        constants: kept,
-    };
-    Started { number: 0, run }
+    Started {
+        number: 0,
+        run: no_months(month as u32, soil, kept),
+    }
 }

@@ -9,18 +9,18 @@ use Rattle.starts.proofs.storages_fit.Goals as goal
 pub overflow_cast-capacity : goal.overflow_cast-capacity
 overflow_cast-capacity c = let f = c.ranges.c in simp to_z-of_z (countable c.args.c (capacity-is c.args.c c.requires).0 f)
 
-pub returns-then-not-signed_between : goal.returns-then-not-signed_between
+pub returns-then-signed_between : goal.returns-then-signed_between
 unfolding storages_fit
-returns-then-not-signed_between c =
-    let f = c.ranges.c in
-    let g = c.ranges.ss in
-    rw (sym (simp (c.surface_holds.ensures, to_z-of_z) at c.signed_between.ensures) ∙ c.if-not-signed_between.true)
-
-pub returns : goal.returns
-unfolding storages_fit
-returns c =
+returns-then-signed_between c =
     let f = c.ranges.c in
     let g = c.ranges.ss in
     let h = c.ranges.su in
-    rw (sym (simp (c.surface_holds.ensures, to_z-of_z) at c.signed_between.ensures) ∙ c.if-not-signed_between.false)
-    (simp (c.underlying_holds.ensures, to_z-of_z) at c.signed_between-2.ensures)
+    rw (sym (simp (c.surface_holds.ensures, to_z-of_z) at c.signed_between.ensures) ∙ c.if-signed_between.true)
+    (simp (c.underlying_holds.ensures, to_z-of_z) at c.signed_between-then-signed_between.ensures)
+
+pub returns-else-signed_between : goal.returns-else-signed_between
+unfolding storages_fit
+returns-else-signed_between c =
+    let f = c.ranges.c in
+    let g = c.ranges.ss in
+    rw (sym (simp (c.surface_holds.ensures, to_z-of_z) at c.signed_between.ensures) ∙ c.if-signed_between.false) c.if-signed_between.false
