@@ -289,5 +289,5 @@ fn not_shown(refusal: Refusal) -> Shown
 pub fn whole_series(z: &[i32], index: &mut [i32], mark: &mut [u8]) -> u8
     ensures { filled result index.new mark.new ≡ whole_series z.now index.old mark.old }
 {
-    series::whole_series(z, index, mark)
+    outline::number(series::whole_series(z, index, mark))
 }

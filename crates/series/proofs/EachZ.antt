@@ -1,37 +1,15 @@
--- The test of a list of Z: it holds exactly when every Z of the list is in its range. A scan that has passed only such Z has it from those
--- that are left. Assumes nothing.
-use mathlib.Core.Path.{◌≡◌, refl, sym, ap, ◌∙◌}
-use mathlib.Core.Bool.{Bool, true, false, ◌&&◌}
+-- The test of a list of Z: it holds exactly when every Z of the list is in its range. Assumes nothing.
+use mathlib.Core.Path.{◌≡◌, refl}
+use mathlib.Core.Bool.{true}
 use mathlib.Core.Logic.{◌↔◌}
 use mathlib.Core.List.{List, [], ◌∷◌}
-use Prim.Native.Nat.{ℕ, zero, suc, ◌+◌, ◌≤◌, ◌<◌}
-use native.Mathlib.Numerals.{add-one}
+use Prim.Native.Nat.{zero, suc}
 use native.Mathlib.Omega.{arith}
-use lib.IntN.{ℤ, pos}
-use lib.ListN.{length, get_or, drop}
-use lib.Seq.{drop-cons}
+use lib.IntN.{ℤ}
 use Rattle.outline.specs.Numbers.{z_fits}
 use Rattle.outline.proofs.Tests.{each, z-within, within-z}
 use Rattle.sides.specs.Sides.{EachFits}
 use Rattle.series.specs.Series.{all_z_fit}
-
--- ---- the scan
-
--- with one Z more looked at: what has come out so far and the test of those that are left
-pub scan-next : (z : List ℤ) (i : ℕ) (fit t : Bool) → i < length z → t ≡ z_fits (get_or z i (pos 0)) → (fit && all_z_fit (drop i z)) ≡ all_z_fit z
-    → ((fit && t) && all_z_fit (drop (i + 1) z)) ≡ all_z_fit z
-scan-next z i true t l f h = rw (f, add-one) (sym (ap all_z_fit (drop-cons z i (pos 0) l)) ∙ h)
-scan-next z i false t l f h = h
-
-drop-out : (z : List ℤ) (i : ℕ) → length z ≤ i → drop i z ≡ []
-drop-out [] zero h = refl
-drop-out [] (suc i) h = refl
-drop-out (x ∷ z) zero h = absurd (omega arith)
-drop-out (x ∷ z) (suc i) h = drop-out z i (omega arith)
-
-pub scan-all : (z : List ℤ) (i : ℕ) (fit : Bool) → length z ≤ i → (fit && all_z_fit (drop i z)) ≡ all_z_fit z → fit ≡ all_z_fit z
-scan-all z i true l h = ap all_z_fit (sym (drop-out z i l)) ∙ h
-scan-all z i false l h = h
 
 -- ---- each Z
 

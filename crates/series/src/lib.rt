@@ -2,56 +2,48 @@
 #![tactic(auto)]
 
 ghost use Rattle.std.specs.Prelude.{◌≡◌};
+ghost use Rattle.outline.specs.Refused.{answer_number};
 ghost use Rattle.series.specs.Series.{all_z_fit, lists_fit, series_refusal, filled, whole_series};
 
-use outline::{BAD_LISTS, BAD_Z};
+use outline::Refusal;
 
+// Every Z is looked at, with no branch, so that many are tested at once.
 fn all_z_fit(z: &[i32]) -> bool
     ensures { result ≡ all_z_fit z.now }
 {
     let mut fit = true;
-    let mut i = 0;
-    while i < z.len() {
-        let t = z[i];
+    for &t in z {
         fit = fit & ranges::z_fits(t);
-        i += 1;
     }
     fit
 }
 
+#[tactic(auto, unfolding(crate::specs::Series::lists_fit))]
 fn lists_fit(z: usize, index: usize, mark: usize) -> bool
     ensures { result ≡ lists_fit z index mark }
 {
-    if index != z {
-        return false;
-    }
-    if mark != z {
-        return false;
-    }
-    ranges::length_fits(z)
+    index == z && mark == z && ranges::length_fits(z)
 }
 
 // Decided here, in the paper's order: 1, 12.
-fn series_refusal(z: &[i32], index: usize, mark: usize) -> u8
-    ensures { result ≡ series_refusal z.now index mark }
+#[tactic(auto, unfolding(crate::specs::Series::series_refusal))]
+fn series_refusal(z: &[i32], index: usize, mark: usize) -> Result<(), Refusal>
+    ensures { answer_number result ≡ series_refusal z.now index mark }
 {
     if !lists_fit(z.len(), index, mark) {
-        return BAD_LISTS;
+        return Err(Refusal::BadLists);
     }
     if !all_z_fit(z) {
-        return BAD_Z;
+        return Err(Refusal::BadZ);
     }
-    0
+    Ok(())
 }
 
-// The whole series of a list of Z: 1, 12. Its number alone is the answer.
-pub fn whole_series(z: &[i32], index: &mut [i32], mark: &mut [u8]) -> u8
-    ensures { filled result index.new mark.new ≡ whole_series z.now index.old mark.old }
+// The whole series of a list of Z: 1, 12. Whether it is refused is all of the answer.
+pub fn whole_series(z: &[i32], index: &mut [i32], mark: &mut [u8]) -> Result<(), Refusal>
+    ensures { filled (answer_number result) index.new mark.new ≡ whole_series z.now index.old mark.old }
 {
-    let number = series_refusal(z, index.len(), mark.len());
-    if number != 0 {
-        return number;
-    }
+    series_refusal(z, index.len(), mark.len())?;
     forward::look_forward(z, index, mark);
-    0
+    Ok(())
 }
