@@ -19,6 +19,7 @@ ghost use Rattle.weighing.specs.Stores.{Years};
 ghost use Rattle.constants.specs.WorkOut.{record_refusal, weights_refusal, fewest_years, years_refusal, not_worked_out, set_of, work_out, not_summed, sum_month};
 ghost use Rattle.constants.specs.Asked.{asked_refusal, answered, answered_sums};
 
+use given_rows::CalendarMonth;
 use outline::{LAST_MONTH, MANY_CONSTANTS, Refusal};
 use records::RecordNumbers;
 use refusals::Rows;
@@ -159,7 +160,13 @@ fn month_summed(run: Run, month: i32, rows: &Rows) -> Result<(u32, Sums), Refusa
     let soil = at.soil;
     let whole = whole_years(at);
     let row = whole.first as usize + (month as usize - 1);
-    let sums = sums::sums_of(soil.capacity, row, whole.years, rows.records);
+    let over_years = CalendarMonth {
+        capacity: soil.capacity,
+        at: row,
+        years: whole.years,
+        records: rows.records,
+    };
+    let sums = sums::sums_of(&over_years);
     Ok((whole.years, sums))
 }
 

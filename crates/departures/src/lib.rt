@@ -9,13 +9,11 @@ ghost use Rattle.water.specs.Constants.{most_k};
 ghost use Rattle.water.specs.Layers.{most_capacity};
 ghost use Rattle.water.specs.Expected.{n_of, cafec_of};
 ghost use Rattle.water.specs.Bounds.{ConstantsFit, most_n};
-ghost use Rattle.given_rows.specs.Facts.{RowFits, Watered};
+ghost use Rattle.given_rows.specs.Facts.{RowFits};
 ghost use Rattle.sums.specs.Sums.{row_in};
 ghost use Rattle.departures.specs.Departures.{departure_of, departures_of, mean_of};
 
-use given_rows::WaterRow;
-use outline::LAST_MONTH;
-use records::RecordNumbers;
+use given_rows::{CalendarMonth, WaterRow};
 use water::{Constants, Potentials};
 
 // One, in the ten-thousandths of a constant.
@@ -70,33 +68,24 @@ fn departure_of(k: Constants, w: WaterRow) -> u32
     short.unsigned_abs() as u32
 }
 
-// The departures of so many years of the calendar month whose first row stands at a place, summed.
-fn departures_of(
-    k: Constants,
-    capacity: u32,
-    at: usize,
-    years: u32,
-    records: &[RecordNumbers],
-) -> u32
-    requires constants_fit { ConstantsFit k }
-    requires watered { Watered capacity records.now at years }
-    ensures { result ≡ departures_of k (row_in capacity records.now at) years }
+// The departures of a calendar month over its years, summed.
+fn departures_of(k: Constants, month: &CalendarMonth) -> u32
+    requires { ConstantsFit k }
+    ensures { result ≡ departures_of k (row_in month.now.capacity month.now.records.now month.now.at) month.now.years }
 {
     let mut sum: u32 = 0;
-    for y in 0..years {
-        let row = at + (LAST_MONTH * y) as usize;
-        let w = given_rows::water_at(capacity, row, records);
+    for y in 0..month.years {
+        let w = month.row(y);
         sum += departure_of(k, w);
     }
     sum
 }
 
 // D: their mean, nearest.
-pub fn mean_of(k: Constants, capacity: u32, at: usize, years: u32, records: &[RecordNumbers]) -> u32
-    requires constants_fit { ConstantsFit k }
-    requires watered { Watered capacity records.now at years }
-    ensures { result ≡ mean_of k (row_in capacity records.now at) years }
+pub fn mean_of(k: Constants, month: &CalendarMonth) -> u32
+    requires { ConstantsFit k }
+    ensures { result ≡ mean_of k (row_in month.now.capacity month.now.records.now month.now.at) month.now.years }
 {
-    let sum = departures_of(k, capacity, at, years, records);
-    exact::nearest_unsigned(sum as u64, years as u64) as u32
+    let sum = departures_of(k, month);
+    exact::nearest_unsigned(sum as u64, month.years as u64) as u32
 }

@@ -11,6 +11,10 @@ ghost use Rattle.water.specs.Layers.{least_capacity, most_capacity};
 ghost use Rattle.records.specs.Record.{record_at};
 ghost use Rattle.given_rows.specs.GivenRows.{water_of, addable, holds, given_by_add, row_given, rows_given};
 
+mod month;
+
+pub use month::CalendarMonth;
+
 use kept_rows::MOST_READING;
 use records::{ET, L, R, RO, Record, RecordNumbers, SURFACE, UNDERLYING, WATER};
 use water::{Balance, Soil};

@@ -6,13 +6,11 @@
 ghost use Rattle.std.specs.Prelude.{◌≡◌, ◌-◌, ◌*◌, ◌≤◌};
 ghost use Rattle.exact.specs.Nearest.{nearest_ℕ};
 ghost use Rattle.water.specs.Constants.{one, most_gamma};
-ghost use Rattle.given_rows.specs.Facts.{RowFits, Watered, most_years};
+ghost use Rattle.given_rows.specs.Facts.{RowFits, most_years};
 ghost use Rattle.sums.specs.Sums.{plus, row_in, sums_of, gamma_of, shares_of};
 ghost use Rattle.sums.specs.SumsFit.{SumsFit, Within, with_pr, without_pr, most_before};
 
-use given_rows::WaterRow;
-use outline::LAST_MONTH;
-use records::RecordNumbers;
+use given_rows::{CalendarMonth, WaterRow};
 use water::Constants;
 
 // One, in the ten-thousandths of a constant.
@@ -52,19 +50,16 @@ fn plus(s: Sums, w: WaterRow) -> Sums
     }
 }
 
-// The sums over so many years of the calendar month whose first row stands at a place. PR and PRO share the capacity in every month, so
-// that PR's sum is told by PRO's.
-pub fn sums_of(capacity: u32, at: usize, years: u32, records: &[RecordNumbers]) -> Sums
-    requires { Watered capacity records.now at years }
-    ensures { result ≡ sums_of (row_in capacity records.now at) years }
+// The sums of a calendar month over its years. PR and PRO share the capacity in every month, so that PR's sum is told by PRO's.
+pub fn sums_of(month: &CalendarMonth) -> Sums
+    ensures { result ≡ sums_of (row_in month.now.capacity month.now.records.now month.now.at) month.now.years }
 {
     let mut s = Sums::default();
-    for y in 0..years {
-        let row = at + (LAST_MONTH * y) as usize;
-        let w = given_rows::water_at(capacity, row, records);
+    for y in 0..month.years {
+        let w = month.row(y);
         s = plus(s, w);
     }
-    with_pr(s, capacity * years)
+    with_pr(s, month.capacity * month.years)
 }
 
 // The sums with PR's, which is what PRO's leaves of so much.

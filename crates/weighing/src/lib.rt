@@ -13,6 +13,7 @@ ghost use Rattle.water.specs.Bounds.{ConstantsFit};
 ghost use Rattle.weighing.specs.Weighing.{span, shares_in, departure_in, gammas_fit, weight_at, weights_fit, products, ks_fit};
 ghost use Rattle.weighing.specs.Stores.{with_four, fours_to, means_to, ks_to, most_product, Years};
 
+use given_rows::CalendarMonth;
 use outline::{MANY_CONSTANTS, MANY_OF_A_MONTH, Refusal};
 use ranges::{MOST_GAMMA, MOST_K};
 use records::RecordNumbers;
@@ -72,13 +73,18 @@ pub fn put_shares(
     ensures means_after { OnOk result (means.new ≡ means_to (departure_in (span capacity records.now first years)) means.old last_month) }
 {
     for m in 0..MANY_MONTHS {
-        let at = first + m;
-        let s = sums::sums_of(capacity, at, years, records);
+        let month = CalendarMonth {
+            capacity,
+            at: first + m,
+            years,
+            records,
+        };
+        let s = sums::sums_of(&month);
         if sums::gamma_of(s) > MOST_GAMMA as u64 {
             return Err(Refusal::BadGamma);
         }
         let k = sums::shares_of(s);
-        let d = departures::mean_of(k, capacity, at, years, records);
+        let d = departures::mean_of(k, &month);
         means[m] = d;
         put_four(set, MANY_OF_A_MONTH * m, k);
     }

@@ -91,18 +91,18 @@ overflow_add-row c =
     rw (to_z-of_z f) (omega (arith, low, month-low c.args.month (month-fits at.Start passed)))
 
 -- its rows are such as an add gives
-pub sums_of-sums-requires : goal.sums_of-sums-requires
-sums_of-sums-requires c =
+pub invariant_of-over_years : goal.invariant_of-over_years
+invariant_of-over_years c =
     let f = c.ranges.month in
-    let at = goal.at.sums_of-sums-requires c in
+    let at = goal.at.invariant_of-over_years c in
     let b = lent at.Start in
     let passed = sym (number_is at.Start c.progress_of-at.result _ 0 c.progress_of-at.ensures (own_is at.After-month_refusal) c.in_ok-refusal.ensures) in
     let p = asked-passes c.args.run b (own c.args.month) passed in
     let m = month-low c.args.month (month-fits at.Start passed) in
     let w = whole_is at.After-whole_years-whole in
-    rw (to_z-of_z f)
+    record { watered = rw (to_z-of_z f)
     (watered-from c.args.run b c.progress_of-at.result c.whole_years-whole.result.first c.whole_years-whole.result.years
-    c.progress_of-at.ensures w.0 w.1 p.0 p.2 (nat_abs c.args.month - 1) (omega arith))
+    c.progress_of-at.ensures w.0 w.1 p.0 p.2 (nat_abs c.args.month - 1) (omega arith)) }
 
 pub returns : goal.returns
 unfolding sums_in

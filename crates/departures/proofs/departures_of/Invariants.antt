@@ -4,4 +4,4 @@ use Rattle.departures.specs.Departures.{departures_of}
 use Rattle.departures.proofs.departures_of.Given as goal
 
 abbrev pub invariant-loop-y : goal.invariant-loop-y
-invariant-loop-y l = l.sum ≡ departures_of l.k (row_in l.capacity l.records l.at) l.y
+invariant-loop-y l = l.sum ≡ departures_of l.k (row_in l.month.capacity l.month.records.now l.month.at) l.y

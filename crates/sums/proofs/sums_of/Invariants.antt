@@ -4,4 +4,4 @@ use Rattle.sums.specs.SumsFit.{without_pr}
 use Rattle.sums.proofs.sums_of.Given as goal
 
 abbrev pub invariant-loop-y : goal.invariant-loop-y
-invariant-loop-y l = l.s ≡ without_pr (sums_of (row_in l.capacity l.records l.at) l.y)
+invariant-loop-y l = l.s ≡ without_pr (sums_of (row_in l.month.capacity l.month.records.now l.month.at) l.y)

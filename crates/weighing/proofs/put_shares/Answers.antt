@@ -30,11 +30,11 @@ loop-m-init c =
     let s = span a.capacity a.records.now a.first a.years in
     (all_none (test s), fours-none (shares_in s) a.set.now, means-none (departure_in s) a.means.now)
 
-pub overflow_add-at : goal.overflow_add-at
-overflow_add-at c = omega (arith, c.requires.0)
+pub overflow_add-month : goal.overflow_add-month
+overflow_add-month c = omega (arith, c.requires.0)
 
-pub sums_of-s-requires : goal.sums_of-s-requires
-sums_of-s-requires c = c.requires.1 c.loop-m.m (omega arith)
+pub invariant_of-month : goal.invariant_of-month
+invariant_of-month c = record { watered = c.requires.1 c.loop-m.m (omega arith) }
 
 gamma-is : (c : After-gamma_of) → let a = c.args in c.gamma_of.result ≡ gamma_of (sums_in (span a.capacity a.records.now a.first a.years) c.loop-m.m)
 unfolding sums_in
@@ -79,10 +79,7 @@ pub mean_of-d-requires : goal.mean_of-d-requires
 mean_of-d-requires c =
     let a = c.args in
     let at = goal.at.mean_of-d-requires c in
-    record {
-      constants_fit = shares-in-range a.capacity a.records.now a.first a.years c.loop-m.m c.shares_of-k.result c.requires.1 c.loop-m-test.true (gamma-most at.Else-gamma_of) (shares-are at.After-shares_of-k);
-      watered = c.requires.1 c.loop-m.m c.loop-m-test.true;
-    }
+    shares-in-range a.capacity a.records.now a.first a.years c.loop-m.m c.shares_of-k.result c.requires.1 c.loop-m-test.true (gamma-most at.Else-gamma_of) (shares-are at.After-shares_of-k)
 
 mean-is : (c : After-mean_of-d) → let a = c.args in c.mean_of-d.result ≡ departure_in (span a.capacity a.records.now a.first a.years) c.loop-m.m
 unfolding departure_in shares_in sums_in
