@@ -25,7 +25,7 @@ use records::RecordNumbers;
 use refusals::Rows;
 use runs::{Progress, Run};
 use sums::Sums;
-use weighing::MANY_MONTHS;
+use weighing::{MANY_MONTHS, Weights};
 
 // The fewest years that will do.
 const FEWEST_YEARS: u32 = 10;
@@ -106,10 +106,9 @@ fn set_worked_out(run: Run, weights: &[i32], rows: &Rows) -> Result<Set, Refusal
     let at = runs::progress_of(run);
     let constants = run.constants;
     refusal(at, &constants, weights_refusal(weights), rows)?;
-    let soil = at.soil;
     let whole = whole_years(at);
     set_of(
-        soil.capacity,
+        at.soil.capacity,
         whole.first as usize,
         whole.years,
         weights,
@@ -157,11 +156,10 @@ fn month_summed(run: Run, month: i32, rows: &Rows) -> Result<(u32, Sums), Refusa
     let at = runs::progress_of(run);
     let constants = run.constants;
     refusal(at, &constants, month_refusal(month), rows)?;
-    let soil = at.soil;
     let whole = whole_years(at);
     let row = whole.first as usize + (month as usize - 1);
     let over_years = CalendarMonth {
-        capacity: soil.capacity,
+        capacity: at.soil.capacity,
         at: row,
         years: whole.years,
         records: rows.records,
@@ -195,8 +193,7 @@ fn record_refusal(
 {
     let long = rows.lent_length();
     refusals::run_refusal(long, at, constants, rows.records)?;
-    let soil = at.soil;
-    if !given_rows::rows_given(soil.capacity, at.months, rows.records) {
+    if !given_rows::rows_given(at.soil.capacity, at.months, rows.records) {
         return Err(Refusal::NotARun);
     }
     Ok(())
@@ -269,11 +266,12 @@ fn set_of(
     let mut set = [0i32; MANY_CONSTANTS];
     let mut means = [0u32; MANY_MONTHS];
     weighing::put_shares(capacity, first, years, records, &mut set, &mut means)?;
-    let total = weighing::products(&means, weights);
+    let twelve = Weights { list: weights };
+    let total = weighing::products(&means, &twelve);
     if total == 0 {
         return Err(Refusal::BadK);
     }
-    weighing::put_ks(total, weights, &mut set)?;
+    weighing::put_ks(total, &twelve, &mut set)?;
     if !calendar::constants_serve(&set) {
         return Err(Refusal::ZeroK);
     }

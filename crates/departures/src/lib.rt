@@ -61,9 +61,8 @@ fn departure_of(k: Constants, w: WaterRow) -> u32
     requires row_fits { RowFits w }
     ensures { result ≡ departure_of k w }
 {
-    let soil = w.soil;
-    let q = water::potentials_of(soil, w.pe);
-    let n = n_of(k, soil.capacity, w.pe, q);
+    let q = water::potentials_of(w.soil, w.pe);
+    let n = n_of(k, w.soil.capacity, w.pe, q);
     let short = (w.p as i64) - cafec_of(n);
     short.unsigned_abs() as u32
 }

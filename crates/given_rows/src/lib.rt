@@ -13,9 +13,8 @@ ghost use Rattle.given_rows.specs.GivenRows.{water_of, addable, holds, given_by_
 
 mod month;
 
-pub use month::CalendarMonth;
-
 use kept_rows::MOST_READING;
+pub use month::CalendarMonth;
 use records::{ET, L, R, RO, Record, RecordNumbers, SURFACE, UNDERLYING, WATER};
 use water::{Balance, Soil};
 

@@ -36,8 +36,7 @@ fn plus(s: Sums, w: WaterRow) -> Sums
     requires row_fits { RowFits w }
     ensures { result ≡ without_pr (plus s w) }
 {
-    let soil = w.soil;
-    let q = water::potentials_of(soil, w.pe);
+    let q = water::potentials_of(w.soil, w.pe);
     Sums {
         et: s.et + w.et,
         pe: s.pe + w.pe,

@@ -13,26 +13,20 @@ ghost use Rattle.water.specs.Bounds.{ConstantsFit};
 ghost use Rattle.weighing.specs.Weighing.{span, shares_in, departure_in, gammas_fit, weight_at, weights_fit, products, ks_fit};
 ghost use Rattle.weighing.specs.Stores.{with_four, fours_to, means_to, ks_to, most_product, Years};
 
+mod weights;
+
 use given_rows::CalendarMonth;
 use outline::{MANY_CONSTANTS, MANY_OF_A_MONTH, Refusal};
 use ranges::{MOST_GAMMA, MOST_K};
 use records::RecordNumbers;
 use water::Constants;
+pub use weights::Weights;
 
 // The months of a year, as a list has them.
 pub const MANY_MONTHS: usize = 12;
 
 // 17.67, in ten-thousandths and thousandths of an inch.
 const WHOLE: u64 = 176_700_000;
-
-// A weight, which is not below zero.
-fn weight_at(weights: &[i32], m: usize) -> u64
-    requires { (length weights.now ≡ last_month) × (weights_fit weights.now last_month ≡ true) × (m + 1 ≤ last_month) }
-    ensures { result ≡ weight_at weights.now m }
-{
-    let w = weights[m];
-    w as u64
-}
 
 // Each of the twelve weights is in its range.
 pub fn weights_fit(weights: &[i32]) -> bool
@@ -100,25 +94,23 @@ fn product(d: u32, weight: u64) -> u64
 }
 
 // The sum of D times weight.
-pub fn products(means: &[u32; MANY_MONTHS], weights: &[i32]) -> u64
-    requires { (length weights.now ≡ last_month) × (weights_fit weights.now last_month ≡ true) }
-    ensures { result ≡ products means.now weights.now last_month }
+pub fn products(means: &[u32; MANY_MONTHS], weights: &Weights) -> u64
+    ensures { result ≡ products means.now weights.now.list.now last_month }
 {
     let mut sum: u64 = 0;
     for m in 0..MANY_MONTHS {
-        sum += product(means[m], weight_at(weights, m));
+        sum += product(means[m], weights.of_month(m));
     }
     sum
 }
 
 // Each month's K by its weight, put at its place, unless one is out of its range: 20.
-pub fn put_ks(total: u64, weights: &[i32], set: &mut [i32; MANY_CONSTANTS]) -> Result<(), Refusal>
-    requires { (length weights.now ≡ last_month) × (weights_fit weights.now last_month ≡ true) }
-    ensures value { answer_number result ≡ cond (ks_fit total weights.now last_month) 0 bad_k }
-    ensures set_after { OnOk result (set.new ≡ ks_to total weights.now set.old last_month) }
+pub fn put_ks(total: u64, weights: &Weights, set: &mut [i32; MANY_CONSTANTS]) -> Result<(), Refusal>
+    ensures value { answer_number result ≡ cond (ks_fit total weights.now.list.now last_month) 0 bad_k }
+    ensures set_after { OnOk result (set.new ≡ ks_to total weights.now.list.now set.old last_month) }
 {
     for m in 0..MANY_MONTHS {
-        let k = exact::nearest_unsigned(WHOLE * weight_at(weights, m), total);
+        let k = exact::nearest_unsigned(WHOLE * weights.of_month(m), total);
         if k > MOST_K as u64 {
             return Err(Refusal::BadK);
         }

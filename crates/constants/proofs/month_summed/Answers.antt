@@ -100,9 +100,11 @@ invariant_of-over_years c =
     let p = asked-passes c.args.run b (own c.args.month) passed in
     let m = month-low c.args.month (month-fits at.Start passed) in
     let w = whole_is at.After-whole_years-whole in
-    record { watered = rw (to_z-of_z f)
-    (watered-from c.args.run b c.progress_of-at.result c.whole_years-whole.result.first c.whole_years-whole.result.years
-    c.progress_of-at.ensures w.0 w.1 p.0 p.2 (nat_abs c.args.month - 1) (omega arith)) }
+    record {
+      watered = rw (to_z-of_z f)
+          (watered-from c.args.run b c.progress_of-at.result c.whole_years-whole.result.first c.whole_years-whole.result.years
+          c.progress_of-at.ensures w.0 w.1 p.0 p.2 (nat_abs c.args.month - 1) (omega arith));
+    }
 
 pub returns : goal.returns
 unfolding sums_in

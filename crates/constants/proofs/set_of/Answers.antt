@@ -47,8 +47,8 @@ returns-in_err-put_shares c =
     let p = err_from_is_err_and c.from_residual.result c.from_residual.ensures.1 in
     rw (p.1, p.2) (ap not_worked_out e.1 ∙ gamma-refuses (whole (goal.at.returns-in_err-put_shares c).Start) c.args.weights.now e.0)
 
-pub products-total-requires : goal.products-total-requires
-products-total-requires c = c.requires.weights_len
+pub invariant_of-twelve : goal.invariant_of-twelve
+invariant_of-twelve c = record { fit = c.requires.weights_len }
 
 pub returns-then-total-eq0 : goal.returns-then-total-eq0
 returns-then-total-eq0 c =
@@ -56,9 +56,6 @@ returns-then-total-eq0 c =
     let w = c.args.weights.now in
     let t = total-is s w c.put_shares.new.means c.products-total.result c.in_ok-put_shares.ensures.means_after c.products-total.ensures in
     total-refuses s w (cond-zero _ 18 (sym c.in_ok-put_shares.ensures.value)) (sym t ∙ c.if-total-eq0.true)
-
-pub put_ks-requires : goal.put_ks-requires
-put_ks-requires c = c.requires.weights_len
 
 pub returns-in_err-put_ks : goal.returns-in_err-put_ks
 returns-in_err-put_ks c =

@@ -1,4 +1,7 @@
 -- `weighing::put_ks` meets its contract. The loop's invariant: each K passed is in its range and stands at its place. Assumes nothing.
+use Rattle.weighing.specs.Weighing.{weights_fit}
+use borrow.Author.Rules.{rules}
+use mathlib.Core.Bool.{true}
 use mathlib.Core.Path.{◌≡◌, ap, ◌∙◌}
 use mathlib.Core.Bool.{Bool}
 use Prim.Native.Nat.{ℕ}
@@ -23,24 +26,25 @@ abbrev test : ℕ → List ℤ → ℕ → Bool
 test total weights = λ m. leb (k_of total (weight_at weights m)) most_k
 
 pub loop-m-init : goal.loop-m-init
-loop-m-init c = (all_none (test c.args.total c.args.weights.now), ks-none c.args.total c.args.weights.now c.args.set.now)
+loop-m-init c = (all_none (test c.args.total c.args.weights.now.list.now), ks-none c.args.total c.args.weights.now.list.now c.args.set.now)
 
-pub weight_at-requires : goal.weight_at-requires
-weight_at-requires c = (c.requires.0, c.requires.1, omega arith)
+pub of_month-requires : goal.of_month-requires
+of_month-requires c = omega arith
 
-pub overflow_mul-weight_at : goal.overflow_mul-weight_at
-overflow_mul-weight_at c =
-    omega (arith, c.weight_at.ensures, weight-most c.args.weights.now c.loop-m.m c.requires.1 (omega arith))
+pub overflow_mul-of_month : goal.overflow_mul-of_month
+overflow_mul-of_month c =
+    let w : weights_fit c.args.weights.now.list.now last_month ≡ true = search rules in
+    omega (arith, c.of_month.ensures, weight-most c.args.weights.now.list.now c.loop-m.m w (omega arith))
 
 -- the K is the month's
-k-is : (c : After-nearest_unsigned-k) → let a = c.args in c.nearest_unsigned-k.result ≡ k_of a.total (weight_at a.weights.now c.loop-m.m)
+k-is : (c : After-nearest_unsigned-k) → let a = c.args in c.nearest_unsigned-k.result ≡ k_of a.total (weight_at a.weights.now.list.now c.loop-m.m)
 unfolding k_of
-k-is c = rw c.weight_at.ensures at c.nearest_unsigned-k.ensures
+k-is c = rw c.of_month.ensures at c.nearest_unsigned-k.ensures
 
 pub returns-then-k : goal.returns-then-k
 returns-then-k c =
     let e = k-is (goal.at.returns-then-k c).After-nearest_unsigned-k in
-    record { value = rw (all-spoilt (test c.args.total c.args.weights.now) last_month c.loop-m.m (omega arith) (lt-leb _ _ (rw e at c.if-k.true))); set_after = tt }
+    record { value = rw (all-spoilt (test c.args.total c.args.weights.now.list.now) last_month c.loop-m.m (omega arith) (lt-leb _ _ (rw e at c.if-k.true))); set_after = tt }
 
 pub overflow_cast-set : goal.overflow_cast-set
 overflow_cast-set c = omega arith
@@ -61,8 +65,8 @@ pub loop-m-preserved : goal.loop-m-preserved
 loop-m-preserved c =
     let a = c.args in
     let e = k-is (goal.at.loop-m-preserved c).After-nearest_unsigned-k in (
-      all_more (test c.args.total c.args.weights.now) c.loop-m.m c.loop-m.invariant.0 (le-leb _ _ (rw e at c.if-k.false)),
-      ks-more a.total a.weights.now a.set.now c.loop-m.m c.loop-m.set _ c.loop-m.invariant.1 (to_z_pos w32 (lt_of_le_of_lt c.if-k.false (lit< tt)) ∙ ap pos e),
+      all_more (test c.args.total c.args.weights.now.list.now) c.loop-m.m c.loop-m.invariant.0 (le-leb _ _ (rw e at c.if-k.false)),
+      ks-more a.total a.weights.now.list.now a.set.now c.loop-m.m c.loop-m.set _ c.loop-m.invariant.1 (to_z_pos w32 (lt_of_le_of_lt c.if-k.false (lit< tt)) ∙ ap pos e),
     )
 
 pub returns : goal.returns
