@@ -39,7 +39,7 @@ pub const UNDERLYING: usize = 10;
 
 pub const MODIFIED: usize = 12;
 
-// What a record's `water` says.
+// What a record's `water` says: a number, since C reads a record as it stands.
 const NO_WATER: i32 = 0;
 
 pub const WATER: i32 = 1;

@@ -103,12 +103,7 @@ fn no_months(calendar: u32, soil: Soil, constants: [i32; MANY_CONSTANTS]) -> Run
         opens: 0,
         calendar,
         soil,
-        values: Running {
-            x1: 0,
-            x2: 0,
-            x3: 0,
-            v: 0,
-        },
+        values: Running::default(),
         constants,
     }
 }
