@@ -20,19 +20,11 @@ const MOST_LINES: u32 = 100_000;
 fn digit(b: u8) -> u32
     ensures { result < 16 }
 {
-    if b < 48 {
-        return 0;
+    match b {
+        b'0'..=b'9' => (b - b'0') as u32,
+        b'a'..=b'f' => (b - b'a') as u32 + 10,
+        _ => 0,
     }
-    if b < 58 {
-        return (b - 48) as u32;
-    }
-    if b < 97 {
-        return 0;
-    }
-    if b > 102 {
-        return 0;
-    }
-    (b - 87) as u32
 }
 
 // Eight hexadecimal digits.
@@ -46,51 +38,28 @@ fn word(s: &[u8], at: usize) -> u32
     n
 }
 
-// A pattern as the number that it stands for. The language has one NaN, so any NaN's pattern is that.
-fn float(bits: u32) -> f32 {
-    f32_from_bits_with_nan(bits)
-}
-
-fn signed(bits: u32) -> i32 {
-    if bits < 0x8000_0000 {
-        return bits as i32;
-    }
-    (bits as i64 - 0x1_0000_0000) as i32
-}
-
 fn show(stdout: &impl Print, t: Told) {
     let _ = print!(stdout; "{} {} {}", t.number, t.water, t.kind);
 }
 
+// A binary32 pattern is the number that it stands for: the language has one NaN, so any NaN's pattern is that.
 fn answer(stdout: &impl Print, kind: u8, first: u32, second: u32) {
     if kind == b'p' {
-        let q = MonthInches {
-            p: float(first),
-            pe: float(second),
-        };
-        let d = door::read_month(q);
-        let p = d.p;
-        let pe = d.pe;
-        show(stdout, p);
+        let told = door::read_month(MonthInches {
+            p: f32_from_bits_with_nan(first),
+            pe: f32_from_bits_with_nan(second),
+        });
+        show(stdout, told.p);
         let _ = print!(stdout; " ");
-        show(stdout, pe);
-    } else if kind == b'w' {
-        show(
-            stdout,
-            door::tell(door::read(Reading::Whole(signed(first)))),
-        );
-    } else if kind == b'i' {
-        show(
-            stdout,
-            door::tell(door::read(Reading::Inches(float(first)))),
-        );
-    } else if kind == b'm' {
-        show(
-            stdout,
-            door::tell(door::read(Reading::Millimetres(float(first)))),
-        );
+        show(stdout, told.pe);
     } else {
-        show(stdout, door::tell(door::read(Reading::Missing)));
+        let reading = match kind {
+            b'w' => Reading::Whole(first.cast_signed()),
+            b'i' => Reading::Inches(f32_from_bits_with_nan(first)),
+            b'm' => Reading::Millimetres(f32_from_bits_with_nan(first)),
+            _ => Reading::Missing,
+        };
+        show(stdout, door::tell(door::read(reading)));
     }
     let _ = println!(stdout);
 }
