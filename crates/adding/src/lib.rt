@@ -103,7 +103,7 @@ pub fn add_spells(
     ensures { Spells months opens values z (columns x1.old x2.old x3.old index.old mark.old) result (columns x1.new x2.new x3.new index.new mark.new) }
 {
     let month = spells::step::<true>(values, z);
-    let modified = modified::modified(values, z, month.after, month.index);
+    let modified = modified::modified(values, z, month);
     let added = history::add(x1, x2, x3, index, mark, months as usize, opens as usize, month);
     Spelled {
         settled: added.settled as u32,

@@ -1,12 +1,11 @@
 -- The room that U, V, E and Q need, and the percent, held within 1 to 99. Assumes nothing.
 use mathlib.Core.Path.{◌≡◌, refl}
 use mathlib.Core.Bool.{Bool, true, false}
-use Prim.Native.Nat.{ℕ, ◌*◌, ◌≤◌, ◌<◌, min, max}
+use Prim.Native.Nat.{ℕ, ◌*◌, ◌≤◌, min, max}
 use native.Mathlib.Omega.{arith}
 use borrow.Author.Rules.{rules}
-use lib.Dec.{ltb→lt, leb→le}
 use lib.IntN.{ℤ, pos, negsuc, neg_ℤ, nat_abs, ◌+ℤ◌, ◌-ℤ◌, ◌*ℤ◌}
-use lib.Signed.{◌≤ℤ◌, ◌<ℤ◌}
+use Rattle.std.specs.Int.{int_min, int_max}
 use Rattle.exact.specs.Nearest.{clip}
 use Rattle.outline.specs.Numbers.{weight, most_x, most_z, most_u}
 use Rattle.exact.proofs.Z.{zs, is-Z}
@@ -50,26 +49,9 @@ e-size wet x3 h = go (turn wet x3) (turn-size wet x3 most_x h)
     go a = rw (is-Z a) (simp zs (omega arith))
 
 -- ---- the percent, held within 1 to 99
-pub percent-low : (p : ℤ) → p <ℤ pos 1 → 1 ≡ min 99 (max 1 (clip p))
-percent-low (pos n) h = go (ltb→lt n 1 h.lt)
-  where
-    go : n < 1 → 1 ≡ min 99 (max 1 n)
-    go g = omega arith
-percent-low (negsuc n) h = refl
-
-pub percent-high : (p : ℤ) → pos 99 <ℤ p → 99 ≡ min 99 (max 1 (clip p))
-percent-high (pos n) h = go (ltb→lt 99 n h.lt)
-  where
-    go : 99 < n → 99 ≡ min 99 (max 1 n)
-    go g = omega arith
-percent-high (negsuc n) h = absurd h.lt
-
-pub percent-between : (p : ℤ) → pos 1 ≤ℤ p → p ≤ℤ pos 99 → nat_abs p ≡ min 99 (max 1 (clip p))
-percent-between (pos n) h g = go (leb→le 1 n h.le) (leb→le n 99 g.le)
-  where
-    go : 1 ≤ n → n ≤ 99 → n ≡ min 99 (max 1 n)
-    go h g = omega arith
-percent-between (negsuc n) h g = absurd h.le
+pub percent-held : (p : ℤ) → nat_abs (int_max (pos 1) (int_min p (pos 99))) ≡ min 99 (max 1 (clip p))
+percent-held (pos n) = grind arith
+percent-held (negsuc n) = refl
 
 -- ---- what each sum and product of the code keeps within
 pub room-x3 : (a : ℤ) → nat_abs a ≤ most_x → nat_abs a ≤ 2 * most_v

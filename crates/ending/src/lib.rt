@@ -17,7 +17,7 @@ pub fn turned(wet: bool, n: i64) -> i64
     requires { nat_abs n ≤ 2 * most_v }
     ensures { result ≡ turn wet n }
 {
-    if wet { 0 - n } else { n }
+    if wet { -n } else { n }
 }
 
 pub fn u_of(wet: bool, z: i32) -> i64
@@ -39,7 +39,7 @@ pub fn e_of(wet: bool, x3: i32) -> i64
     requires { nat_abs x3 ≤ most_x }
     ensures { result ≡ e_of (turn wet x3) }
 {
-    0 - WEIGHT_OF_X * turned(wet, x3 as i64) - E_OFFSET
+    -(WEIGHT_OF_X * turned(wet, x3 as i64)) - E_OFFSET
 }
 
 fn q_of(wet: bool, x3: i32, v: i64) -> i64
@@ -54,14 +54,7 @@ fn percent_of(v: i64, q: i64) -> u32
     requires { nat_abs v ≤ 2 * most_v }
     ensures { result ≡ percent_of v q }
 {
-    let p = exact::nearest_signed(100_000 * v, q);
-    if p < 1 {
-        return 1;
-    }
-    if p > 99 {
-        return 99;
-    }
-    p as u32
+    exact::nearest_signed(100_000 * v, q).clamp(1, 99) as u32
 }
 
 // V is at most 0. V and E decide, never the rounded percent.

@@ -36,7 +36,11 @@ pub fn nearest_signed(n: i64, d: i64) -> i64
         return 0;
     }
     let half = d / 2;
-    if n < 0 { (n - half) / d } else { (n + half) / d }
+    if n < 0 {
+        (n - half) / d
+    } else {
+        (n + half) / d
+    }
 }
 
 // next(x) = nearest to (2691 x + 1000 Z) / 3000. For the crates above, which hold x and Z in range.

@@ -1,8 +1,7 @@
 -- A group of open months, and the month that decides it: what is written of the group is what the forward rule says. Assumes nothing.
 use mathlib.Core.Path.{◌≡◌, refl, sym, ap, ◌∙◌}
 use mathlib.Core.List.{List, [], ◌∷◌, map}
-use Prim.Native.Nat.{ℕ, zero, suc, ◌≤◌, ◌<◌}
-use native.Mathlib.Omega.{arith}
+use Prim.Native.Nat.{ℕ}
 use lib.IntN.{ℤ, pos}
 use Rattle.spells.specs.declared.Running.{Running}
 use Rattle.spells.specs.declared.With.{With}
@@ -19,7 +18,7 @@ use Rattle.hindsight.specs.Columns.{rows_of}
 use Rattle.hindsight.specs.Months.{next_values, row_of_z}
 use Rattle.hindsight.specs.Coded.{state_of}
 use Rattle.hindsight_laws.proofs.Hindsight.{x_of, shown_of, Wait}
-use Rattle.sides.specs.Sides.{sides_of, code, codes, with_side}
+use Rattle.sides.specs.Sides.{sides_of, code, codes}
 use Rattle.forward.specs.Groups.{group_indexes}
 use Rattle.std.specs.Prelude.{Some}
 
@@ -29,12 +28,6 @@ rows v zs = rows_of next_values row_of_z v zs
 
 abbrev pub values_after : Running → List ℤ → Running
 values_after v zs = state_of next_values v zs
-
--- ---- what X1 and X2 leave of a group
-
-pub by-sides : (s : Side) (shown : List ℤ) (sides : List X) → group_indexes (Some (with_side s)) shown sides ≡ settled_all (with_side s) sides
-by-sides First shown sides = refl
-by-sides Second shown sides = refl
 
 -- ---- the sides: of months that decide nothing X1 and X2 are those of `sides_of`, and X3 has no part in it
 

@@ -33,7 +33,16 @@ fn settle(
 {
     match by {
         With::X3 => sides::mark_all(mark, from, at, 2),
-        With::X1 | With::X2 => sides::settle_sides(z, index, mark, from, at, hindsight::side_by(by), x1, x2),
+        With::X1 | With::X2 => sides::settle_sides(
+            z,
+            index,
+            mark,
+            from,
+            at,
+            hindsight::side_by(by),
+            x1,
+            x2,
+        ),
     }
 }
 

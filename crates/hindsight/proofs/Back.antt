@@ -1,11 +1,11 @@
 -- Going back from the deciding month: the places from j up to `at` are settled, and what stands before j and from `at` on is as it was. Assumes nothing.
-use mathlib.Core.Path.{◌≡◌, refl, sym, ap}
+use mathlib.Core.Path.{◌≡◌, refl, ap}
 use mathlib.Core.List.{List, [], ◌∷◌, ◌++◌}
 use Prim.Native.Nat.{ℕ, zero, suc, ◌-◌, ◌≤◌, ◌<◌}
 use native.Mathlib.Nat.{not-suc-le-zero, le_of_suc-le-suc}
 use native.Mathlib.Omega.{arith}
 use lib.IntN.{ℤ}
-use lib.ListN.{length, take, drop, set, replicate, take-append-drop, length-set}
+use lib.ListN.{length, take, drop, set, replicate, length-set}
 use Rattle.std.specs.Option.{unwrap_or}
 use Rattle.spells.specs.declared.With.{With}
 use Rattle.spells.specs.declared.With.TheVariants.{X1, X2, X3}
@@ -14,7 +14,7 @@ use Rattle.hindsight.specs.Rule.{X, nonzero, side_from, settled_index}
 use Rattle.hindsight.specs.Adding.{settled_all}
 use Rattle.hindsight.specs.Columns.{xs_from}
 use Rattle.hindsight.specs.Coded.{told, side_by, value_by}
-use Rattle.hindsight.proofs.Numbers.{told-side}
+use Rattle.hindsight.proofs.Alone.{told-side}
 
 -- a store right before what is written already
 store : {A : Type 0} (l r : List A) (i : ℕ) (v : A) → i < length l → set (take (suc i) l ++ r) i v ≡ take i l ++ (v ∷ r)
@@ -78,7 +78,3 @@ turn f by at i j e from index₀ mark₀ index mark side side' value l hi hm g t
       index_long = simp length-set g.index_long;
       mark_long = simp length-set g.mark_long;
     }
-
--- at the start nothing is written
-pub at_first : {A : Type 0} (l : List A) (at : ℕ) → l ≡ take at l ++ drop at l
-at_first l at = sym (take-append-drop at l)

@@ -1,4 +1,4 @@
 -- What the functions' proofs cite, here and in the crates above.
-pub mod Numbers
+pub mod Alone
 pub mod Back
 pub mod Forward

@@ -14,7 +14,7 @@ ghost use Rattle.modified.specs.Modified.{mixed, modified_of};
 ghost use Rattle.modified.specs.Leans.{lacking_of, Leans, Weighed};
 
 use outline::WEIGHT_OF_Z;
-use spells::Running;
+use spells::{Running, SpellMonth};
 
 // What a spell in force lacks of its ending: E - 1000 U, which is Q - 1000 V.
 fn lacking(wet: bool, x3: i32, z: i32) -> i64
@@ -55,24 +55,20 @@ fn leaning(wet: bool, x3: i32, z: i32, v: i64, a: i32, b: i32) -> i32
     ending::turned(wet, between(high, low, w, d)) as i32
 }
 
-// The modified index of the month with this Z, which leaves m and was added with this index. V is kept while a spell
+// The modified index of the month with this Z, which after the running values s is `month`. V is kept while a spell
 // abates, and is 0 elsewhere, where the modified index is the index.
-pub fn modified(s: Running, z: i32, m: Running, index: i32) -> i32
+pub fn modified(s: Running, z: i32, month: SpellMonth) -> i32
     requires values_fit { ValuesFit s }
     requires z_bound { nat_abs z ≤ most_z }
-    requires m_value { (m ≡ (step_of s z).after) × (index ≡ (step_of s z).index) }
+    requires m_value { (month.after ≡ (step_of s z).after) × (month.index ≡ (step_of s z).index) }
     ensures { result ≡ modified_of s z }
 {
-    let v = m.v;
-    if v == 0 {
-        return index;
+    let left = month.after;
+    if left.v == 0 {
+        return month.index;
     }
-    let x3 = s.x3;
-    let x1 = m.x1;
-    let x2 = m.x2;
-    let a = m.x3;
-    if v < 0 {
-        return leaning(true, x3, z, v, a, x2);
+    if left.v < 0 {
+        return leaning(true, s.x3, z, left.v, left.x3, left.x2);
     }
-    leaning(false, x3, z, v, a, x1)
+    leaning(false, s.x3, z, left.v, left.x3, left.x1)
 }

@@ -26,9 +26,6 @@ pub record Rewriting {A : Type 0} (l₀ whole : List A) (to i : ℕ) (l left : L
   pub rest : drop i l ≡ drop i l₀
   pub long : length l ≡ length l₀
 
-pub rewriting-first : {A : Type 0} {l₀ left : List A} {to i : ℕ} → Rewriting l₀ (take i l₀ ++ (left ++ drop to l₀)) to i l₀ left
-rewriting-first = record { whole_is = refl; rest = refl; long = refl }
-
 module _ {A : Type 0} {l₀ whole l : List A} {to i : ℕ} where
   pub rewriting-next : {v : A} {left : List A} → i < length l₀ → Rewriting l₀ whole to i l (v ∷ left) → Rewriting l₀ whole to (i + 1) (set l i v) left
   rewriting-next {v} h g =

@@ -73,7 +73,11 @@ pub fn provisional_of(s: Running) -> i32
     requires { SidesFit s.x1 s.x2 }
     ensures { result ≡ provisional s }
 {
-    if s.x3 == 0 { larger_in_size(s.x1, s.x2) } else { s.x3 }
+    if s.x3 == 0 {
+        larger_in_size(s.x1, s.x2)
+    } else {
+        s.x3
+    }
 }
 
 fn steady(x3: i32, z: i32) -> SpellMonth
@@ -107,7 +111,10 @@ fn found(x: i32, with: With, percent: u32) -> SpellMonth
     ensures { result ≡ founded x (Some with) percent }
 {
     SpellMonth {
-        after: Running { x3: x, ..Running::default() },
+        after: Running {
+            x3: x,
+            ..Running::default()
+        },
         percent,
         decision: Some(with),
         index: x,
@@ -119,7 +126,11 @@ fn leave(x1: i32, x2: i32, decision: Option<With>, index: i32, percent: u32) -> 
     ensures { result ≡ unfounded x1 x2 decision index percent }
 {
     SpellMonth {
-        after: Running { x1, x2, ..Running::default() },
+        after: Running {
+            x1,
+            x2,
+            ..Running::default()
+        },
         percent,
         decision,
         index,

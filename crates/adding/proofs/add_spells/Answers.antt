@@ -25,8 +25,7 @@ pub modified-modified-requires-clause-m_value : goal.modified-modified-requires-
 modified-modified-requires-clause-m_value c =
     let fz = c.ranges.z in
     let e = rw (to_z-of_z fz) at c.step-month.ensures in
-    let f : SFits w32 c.step-month.result.index = rw e (fits-within w32 (step_of c.args.values c.args.z).index most_x (index-within c.args.values c.args.z most_v c.requires.ready.values_fit c.requires.z_bound) (omega arith)) in
-    (rw (to_z-of_z fz) (ap (λ (m : SpellMonth). m.after) e), rw (to_z-of_z fz, to_z-of_z f) (ap (λ (m : SpellMonth). m.index) e))
+    rw (to_z-of_z fz) (ap (λ (m : SpellMonth). m.after) e, ap (λ (m : SpellMonth). m.index) e)
 
 pub add-added-requires : goal.add-added-requires
 add-added-requires c = let p = c.requires.ready in (p.opens_fit, p.room, p.x2, p.x3, p.index, p.mark)

@@ -7,10 +7,9 @@ use lib.ListN.{get_or}
 use mir.Syntax.{w32}
 use mir.Val.{SFits}
 use mir.Facts.{to_z-of_z}
-use Rattle.std.specs.Prelude.{Some}
 use Rattle.spells.specs.Chance.{without_chance}
 use Rattle.spells.specs.Spells.{step_of}
-use Rattle.forward.proofs.Scans.{Left, left-decides, scan-next, months-next, going-from, going-out}
+use Rattle.forward.proofs.Scans.{left-decides, scan-next, months-next, going-from, going-out}
 use Rattle.forward.proofs.look_forward.Goals as goal
 use Rattle.forward.proofs.look_forward.Goals.{After-step-month, in-None, in-Some}
 

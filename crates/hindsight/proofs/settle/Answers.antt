@@ -1,5 +1,5 @@
 -- `hindsight::settle` meets its contract. The loop's invariant is `Going`: from i up to `at` all is settled, and the side is the one that i's month gives. Assumes nothing.
-use mathlib.Core.Path.{◌≡◌, ◌∙◌}
+use mathlib.Core.Path.{◌≡◌}
 use Prim.Native.Nat.{◌-◌}
 use native.Mathlib.Omega.{arith}
 use borrow.Author.Rules.{rules}

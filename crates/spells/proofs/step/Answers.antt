@@ -1,9 +1,7 @@
 -- `spells::step` meets its contract: the tests of the code are the definition's, and each takes it to the month of its case, with its chance
 -- where CHANCE says so. Assumes nothing.
 use mathlib.Core.Path.{sym, ap, ◌∙◌}
-use mathlib.Core.Bool.{Bool, cond}
 use mathlib.Core.Logic.{inl, inr}
-use Prim.Native.Nat.{ℕ}
 use lib.IntN.{ℤ}
 use borrow.Author.Rules.{rules}
 use mir.Syntax.{w32, w64}
