@@ -7,7 +7,6 @@ use lib.IntN.{ℤ}
 use Rattle.std.specs.Prelude.{Err}
 use Rattle.outline.specs.Refused.{refusal_number}
 use Rattle.outline.specs.declared.Refusal.{Refusal}
-use Rattle.outline.proofs.Refusals.{is-done}
 use Rattle.outline.proofs.Refused.{unless-refusal}
 use Rattle.runs.specs.Progress.{run_of}
 use Rattle.runs.specs.declared.Progress.{Progress}

@@ -1,6 +1,6 @@
 -- What `add_spells` leaves is `Spells`: the step, the row that hindsight adds, and the columns that it leaves; and what `month_added` puts
 -- together of it is `taken`. Assumes nothing.
-use mathlib.Core.Path.{◌≡◌, ap, subst, ◌∙◌}
+use mathlib.Core.Path.{◌≡◌, ap}
 use mathlib.Core.List.{List}
 use Prim.Native.Nat.{ℕ, suc, ◌+◌, ◌≤◌}
 use native.Mathlib.Omega.{arith}

@@ -1,9 +1,7 @@
 -- `drought::add_readings` meets its contract: each reading is refused or its water taken, and then it refuses for want of room or adds the
 -- run's month of water. Assumes nothing.
-use mathlib.Core.Path.{◌≡◌, sym}
+use mathlib.Core.Path.{sym}
 use Rattle.std.proofs.lemmas.Result.{err_from_is_err_and}
-use Rattle.door.specs.Outcome.{accepted_as}
-use Rattle.door.specs.Readings.{reading}
 use Rattle.refusals.specs.Book.{Book, book}
 use Rattle.refusals.proofs.Refused.{room-passes}
 use Rattle.runs.specs.Progress.{run_of}

@@ -1,5 +1,5 @@
 -- `drought::try_water` meets its contract: 1 or 7, and then what `add_readings` does. Assumes nothing.
-use mathlib.Core.Path.{◌≡◌, sym, ◌∙◌}
+use mathlib.Core.Path.{sym, ◌∙◌}
 use Rattle.std.proofs.lemmas.Result.{err_from_is_err_and}
 use Rattle.runs.specs.Progress.{run_of}
 use Rattle.refusals.specs.Book.{book}

@@ -1,5 +1,5 @@
 -- `drought::try_z` meets its contract: its refusal is the definition's, and then it refuses or adds. Assumes nothing.
-use mathlib.Core.Path.{◌≡◌, sym, ◌∙◌}
+use mathlib.Core.Path.{sym, ◌∙◌}
 use mir.Facts.{to_z-of_z}
 use Rattle.std.proofs.lemmas.Result.{err_from_is_err_and}
 use Rattle.runs.specs.Progress.{run_of}

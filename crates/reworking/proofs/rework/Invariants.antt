@@ -10,7 +10,7 @@ use Rattle.reworking.proofs.rework.Given as goal
 abbrev pub invariant-loop : goal.invariant-loop
 invariant-loop l =
     (l.s.months ≡ l.counter)
-    × (reworked (l.end - l.s.months) (run_of l.s l.constants) (book l.x1 l.x2 l.x3 l.index l.mark l.records l.v) ≡ reworked (l.end - l.initial.s.months) (run_of l.initial.s l.constants) (book l.initial.x1 l.initial.x2 l.initial.x3 l.initial.index l.initial.mark l.initial.records l.initial.v))
+    × (reworked (l.fn.at.months - l.s.months) (run_of l.s l.constants) (book l.x1 l.x2 l.x3 l.index l.mark l.records l.v) ≡ reworked (l.fn.at.months - l.initial.s.months) (run_of l.initial.s l.constants) (book l.initial.x1 l.initial.x2 l.initial.x3 l.initial.index l.initial.mark l.initial.records l.initial.v))
     × Stands (run_of l.s l.constants) (book l.x1 l.x2 l.x3 l.index l.mark l.records l.v)
-    × Recorded l.end (run_of l.s l.constants) (book l.x1 l.x2 l.x3 l.index l.mark l.records l.v)
+    × Recorded l.fn.at.months (run_of l.s l.constants) (book l.x1 l.x2 l.x3 l.index l.mark l.records l.v)
     × SameLengths (book l.x1 l.x2 l.x3 l.index l.mark l.records l.v) (book l.initial.x1 l.initial.x2 l.initial.x3 l.initial.index l.initial.mark l.initial.records l.initial.v)
