@@ -1,8 +1,8 @@
 // The parts of a month's work, once nothing is refused: its spells, written to the columns, its figures, and its answer.
 //
-// For the crates that add a month, `taking` and `season_month`, and those that make the calls, `drought` and `season`, which ask for every refusal first: what has a `requires` is
-// for them alone. A run goes through here without its sixty constants, and an answer is put together once, where a call
-// hands it back.
+// For `taking`, which adds a month, and `drought` and `season`, which make the calls and ask for every refusal first: what has a
+// `requires` is for them alone. A run goes through here without its sixty constants, and an answer is put together once, where a
+// call hands it back.
 #![tactic(auto)]
 
 ghost use Rattle.std.specs.Prelude.{◌≡◌, true, ◌≤◌, ◌<◌, nat_abs};
