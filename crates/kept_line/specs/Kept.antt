@@ -1,22 +1,15 @@
 -- A proof's vocabulary, here since contracts cite it; no promise leans on it. Of a line the bytes of the layout's columns are kept, and after
 -- them the first that is no space: that is enough to tell what the whole line says (`Kept-same`, of the crate `division_laws`). Assumes nothing.
-use Rattle.std.specs.Prelude.{ℕ, ◌+◌, Bool, cond, not, ◌&&◌, ◌||◌, ltb, eqb, length, drop, set}
+use Rattle.std.specs.Prelude.{ℕ, ◌+◌, Bool, cond, not, ◌&&◌, ◌||◌, ltb, eqb, set}
 use mathlib.Core.List.{List, [], ◌∷◌, foldl}
 use Rattle.text.specs.Bytes.{line_feed, space}
 use Rattle.fields.specs.Columns.{last_column}
+use Rattle.kept_line.specs.declared.Kept.{Kept}
 
 -- ---- what a piece of the input has of one line: the bytes before its first line feed
 unfoldable pub until_feed : List ℕ → List ℕ
 until_feed [] = []
 until_feed (b ∷ bs) = cond (eqb b line_feed) [] (b ∷ until_feed bs)
-
--- where in the piece the line ends that goes on at a place
-abbrev pub end_from : List ℕ → ℕ → ℕ
-end_from piece i = i + length (until_feed (drop i piece))
-
--- the bytes that are looked at together for its end
-abbrev pub block : ℕ
-block = 32
 
 -- ---- the bytes that a line is told by
 abbrev pub most_kept : ℕ
@@ -33,10 +26,6 @@ unfoldable pub kept_line : ℕ → ℕ → List ℕ → List ℕ
 kept_line kept b line = cond (is_kept kept b) (set line kept b) line
 
 -- ---- a part of a line, byte by byte: how many bytes are kept, and where
-pub record Kept : Type 0 where
-  pub count : ℕ
-  pub line : List ℕ
-
 abbrev pub kept_of : ℕ → List ℕ → Kept
 kept_of count line = record { count = count; line = line }
 
