@@ -4,22 +4,20 @@
 // moved, and a refusal is put in words.
 #![tactic(auto)]
 
-ghost use Rattle.std.specs.Prelude.{◌≤◌, ◌≡◌, length};
-ghost use Rattle.division_session.specs.Session.{Held, room};
+ghost use Rattle.std.specs.Prelude.{◌≤◌, length};
+ghost use Rattle.kept_line.specs.Kept.{most_kept};
+ghost use Rattle.division_session.specs.Session.{seen, Held};
 
 use division_session::{ROOM, Session};
-use fields::{Digits, FIRST_VALUE, LAST_COLUMN, NOT_THE_YEAR, OTHER_LINE, WIDTH};
-use kept_line::KEPT;
+use fields::{FIRST_VALUE, LAST_COLUMN, WIDTH};
 use outline::Refusal;
 use std::env::{Env, FillError};
+use std::io;
 use std::io::Read;
-use stdio::{say, say_number};
+use stdio::Reads;
 
 // The program's name and its two arguments.
 const WORDS: usize = 3;
-
-// How many bytes a piece of the input has at most.
-const MOST_BYTES: usize = 65_536;
 
 // The last column of the last value, and the columns of a value.
 const LAST: u32 = LAST_COLUMN as u32;
@@ -29,227 +27,113 @@ const VALUE: u32 = WIDTH as u32;
 // What a byte order mark begins with.
 const BYTE_ORDER_MARK: u8 = 0xEF;
 
-// What has been read: whether the reading has ended, with the input or at a refused line, whether a read failed, and the
-// session. `palmer` reads in the same two steps over its own session and what that fills: a function cannot be over any
-// session.
+// What has been made of the input so far: the session, and room for the rows.
 #[derive(Drop)]
-struct Heard {
-    ended: bool,
-    failed: bool,
+struct Reading<'a> {
     session: Session,
+    out: &'a mut [u8],
 }
 
-// Reads once.
-fn read_some(
-    stdin: &mut impl Read,
-    session: Session,
-    buffer: &mut [u8],
-    line: &mut [u8],
-    out: &mut [u8],
-) -> Heard
-    requires { Held session line.old out.old }
-    ensures { Held result.session line.new out.new }
-{
-    let piece = stdio::read(stdin, buffer);
-    let n = piece.count;
-    if n == 0 {
-        return Heard {
-            ended: true,
-            failed: piece.failed,
-            session,
-        };
-    }
-    let next = division_input::take(session, &buffer[..n], line, out);
-    Heard {
-        ended: next.refused != 0,
-        failed: false,
-        session: next,
+impl Reads for Reading<'_> {
+    ghost holds = { λ r. Held (seen r.session) r.session.kept.line r.out.now };
+
+    // Reads on until a line is refused.
+    fn take(&mut self, piece: &[u8]) -> bool {
+        division_input::take(&mut self.session, piece, self.out);
+        self.session.refused.is_none()
     }
 }
 
-// Reads until the input ends or a line is refused.
-fn read_all(
-    stdin: &mut impl Read,
-    session: Session,
-    buffer: &mut [u8],
-    line: &mut [u8],
-    out: &mut [u8],
-) -> Heard
-    requires { Held session line.old out.old }
-    ensures { Held result.session line.new out.new }
-{
-    let mut heard = Heard {
-        ended: false,
-        failed: false,
-        session,
-    };
-    let mut left = stdio::MOST_READS;
-    while left > 0 {
-        let s = heard.session;
-        heard = read_some(stdin, s, buffer, line, out);
-        left = stdio::reads_left(left, heard.ended);
+// 14, of what stands in the first ten columns of a line that begins with this byte.
+fn heading_fault(first: Option<u8>) -> &'static str {
+    if first == Some(BYTE_ORDER_MARK) {
+        "a byte order mark; save the file without it"
+    } else {
+        "no digits"
     }
-    heard
-}
-
-// 14, of a line that is too short.
-fn explain_end(stderr: &impl Print, kept: u32) {
-    say(stderr, b": it ends after column ");
-    say_number(stderr, kept);
-    say(stderr, b", and the layout has ");
-    say_number(stderr, LAST);
-    say(stderr, b"\n");
-}
-
-// 14, of what stands in the first ten columns, the line's first byte given.
-fn explain_heading(stderr: &impl Print, first: u8) {
-    if first == BYTE_ORDER_MARK {
-        say(stderr, b": a byte order mark; save the file without it\n");
-        return;
-    }
-    say(stderr, b": no digits\n");
 }
 
 // 14, of what stands after the last value, its first byte that is no space given.
-fn explain_rest(stderr: &impl Print, b: u8) {
-    if b == b'\r' {
-        say(
-            stderr,
-            b": a carriage return; the file has CR LF line ends, and the layout a line feed alone\n",
-        );
-        return;
+fn rest_fault(first: Option<u8>) -> &'static str {
+    if first == Some(b'\r') {
+        "a carriage return; the file has CR LF line ends, and the layout a line feed alone"
+    } else {
+        "something after the last value that is no space"
     }
-    say(
-        stderr,
-        b": something after the last value that is no space\n",
-    );
 }
 
-// 14, of the first field at fault, which begins at a column; the line's first byte and the one after its values given.
-fn explain_field(stderr: &impl Print, column: u32, first: u8, after: u8) {
-    say(stderr, b", column ");
-    say_number(stderr, column);
-    if column < FIRST_VALUE {
-        explain_heading(stderr, first);
-        return;
-    }
-    if column <= LAST {
-        say(stderr, b": month ");
-        say_number(stderr, (column - FIRST_VALUE) / VALUE + 1);
-        say(
-            stderr,
-            b" is neither -9.99 nor 0.00 to 100.00 inches, as the layout has them\n",
-        );
-        return;
-    }
-    explain_rest(stderr, after);
-}
-
-// A byte of a line, or a space where the line has ended.
-fn byte_at(line: &[u8], at: usize) -> u8 {
-    if at < line.len() {
-        return line[at];
-    }
-    b' '
-}
-
-// 14: where a line is at fault.
-fn explain_line(stderr: &impl Print, lines: u32, line: &[u8]) {
-    say(stderr, b"division: line ");
-    say_number(stderr, lines);
+// 14: where a line is at fault, of which the bytes are given that are kept of it.
+fn explain_line(stderr: &impl Print, lines: u32, line: &[u8]) -> io::Result<()> {
     if line.len() < LAST_COLUMN {
-        explain_end(stderr, line.len() as u32);
-        return;
+        return println!(stderr;
+            "division: line {lines}: it ends after column {}, and the layout has {LAST}",
+            line.len()
+        );
     }
-    explain_field(
-        stderr,
-        layout::fault(line),
-        byte_at(line, 0),
-        byte_at(line, LAST_COLUMN),
-    );
+    let column = layout::fault(line).unwrap_or(0);
+    print!(stderr; "division: line {lines}, column {column}: ")?;
+    if column < FIRST_VALUE {
+        println!(stderr; "{}", heading_fault(line.first().copied()))
+    } else if column <= LAST {
+        let month = (column - FIRST_VALUE) / VALUE + 1;
+        println!(stderr;
+            "month {month} is neither -9.99 nor 0.00 to 100.00 inches, as the layout has them"
+        )
+    } else {
+        println!(stderr; "{}", rest_fault(line.get(LAST_COLUMN).copied()))
+    }
 }
 
 // 15: no line was of the state and the division.
-fn explain_none(stderr: &impl Print, lines: u32, state: u32, division: u32) {
-    if lines == 0 {
-        say(stderr, b"division: the input is empty\n");
-        return;
+fn explain_none(stderr: &impl Print, s: &Session) -> io::Result<()> {
+    if s.lines == 0 {
+        return println!(stderr; "division: the input is empty");
     }
-    say(stderr, b"division: no line up to line ");
-    say_number(stderr, lines);
-    say(stderr, b" is precipitation of state ");
-    say_number(stderr, state);
-    say(stderr, b", division ");
-    say_number(stderr, division);
-    say(stderr, b"\n");
+    println!(stderr;
+        "division: no line up to line {} is precipitation of state {}, division {}",
+        s.lines, s.state, s.division
+    )
 }
 
 // 16: the years do not follow one another.
-fn explain_year(stderr: &impl Print, lines: u32, year: u32, next: u32) {
-    say(stderr, b"division: line ");
-    say_number(stderr, lines);
-    say(stderr, b": the year is ");
-    say_number(stderr, year);
-    say(stderr, b", and ");
-    say_number(stderr, next);
-    say(stderr, b" was to follow\n");
+fn explain_year(stderr: &impl Print, s: &Session) -> io::Result<()>
+    requires { s.now.kept.count ≤ most_kept }
+{
+    let year = layout::year_of(s.kept.bytes()).unwrap_or(0);
+    let next = s.next.unwrap_or(0);
+    println!(stderr;
+        "division: line {}: the year is {year}, and {next} was to follow",
+        s.lines
+    )
 }
 
 // Says in words why the reading stopped; the line that stopped it is still kept.
-fn explain(stderr: &impl Print, s: Session, line: &[u8])
-    requires { s.kept ≤ length line.now }
+fn explain(stderr: &impl Print, s: &Session, refusal: Refusal) -> io::Result<()>
+    requires { s.now.kept.count ≤ most_kept }
 {
-    let kept = s.kept;
-    let number = s.refused;
-    if number == OTHER_LINE {
-        explain_none(stderr, s.lines, s.state, s.division);
-        return;
+    match refusal {
+        Refusal::OtherLine => explain_none(stderr, s),
+        Refusal::NotTheYear => explain_year(stderr, s),
+        _ => explain_line(stderr, s.lines, s.kept.bytes()),
     }
-    if number == NOT_THE_YEAR {
-        explain_year(stderr, s.lines, layout::year_of(&line[..kept]), s.next);
-        return;
-    }
-    explain_line(stderr, s.lines, &line[..kept]);
-}
-
-// A refusal of the reading by its number.
-fn refusal_of(number: u8) -> Refusal {
-    if number == OTHER_LINE {
-        return Refusal::OtherLine;
-    }
-    if number == NOT_THE_YEAR {
-        return Refusal::NotTheYear;
-    }
-    Refusal::Malformed
 }
 
 // Reads the input and writes what comes of it.
-fn run_with(
-    stdin: &mut impl Read,
-    stdout: &impl Print,
-    stderr: &impl Print,
-    session: Session,
-    buffer: &mut [u8],
-    line: &mut [u8],
-    out: &mut [u8],
-)
-    requires { Held session line.old out.old }
+fn run_with(stdin: &mut impl Read, stdout: &impl Print, stderr: &impl Print, mut reading: Reading)
+    requires { Held (seen reading.session) reading.session.kept.line reading.out.now }
 {
-    let heard = read_all(stdin, session, buffer, line, out);
-    if heard.failed {
+    if stdio::read_all(stdin, &mut reading).is_err() {
         stdio::say_unread(stderr, "division");
         return;
     }
-    let read = heard.session;
-    let s = division_input::finish(read, line, out);
-    let number = s.refused;
-    if number != 0 {
-        stdio::print_refusal(stdout, stderr, "division", s.lines, refusal_of(number));
-        explain(stderr, s, line);
+    let Reading { mut session, out } = reading;
+    division_input::finish(&mut session, out);
+    if let Some(refusal) = session.refused {
+        stdio::print_refusal(stdout, stderr, "division", session.lines, refusal);
+        let _ = explain(stderr, &session, refusal);
         return;
     }
-    let end = s.end;
-    stdio::write_out(stdout, stderr, "division", &out[..end]);
+    stdio::write_out(stdout, stderr, "division", &out[..session.end]);
 }
 
 // Whether the program was started with an argument of this number.
@@ -259,59 +143,32 @@ fn has_argument(env: &impl Env, i: usize) -> bool {
 }
 
 // An argument as a state or a division.
-fn argument(env: &impl Env, i: usize) -> Digits {
+fn argument(env: &impl Env, i: usize) -> Option<u32> {
     let mut text = [0u8; 8];
-    match env.arg(i, &mut text) {
-        Ok(n) => division_input::named(&text[..n]),
-        Err(_) => Digits::Other,
+    let n = env.arg(i, &mut text).ok()?;
+    division_input::named(&text[..n])
+}
+
+// The state and the division, if there are two arguments and they name them.
+fn arguments(env: &impl Env) -> Option<(u32, u32)> {
+    if has_argument(env, WORDS) {
+        return None;
     }
-}
-
-fn usage(stderr: &impl Print) {
-    say(
-        stderr,
-        b"usage: division STATE DIVISION <FILE, each of one or two digits, as 14 07\n",
-    );
-}
-
-// Room for the rows. Its `ensures` gives only the length, which lending it needs.
-fn make_room() -> [u8; ROOM]
-    ensures { room ≡ length result }
-{
-    [0; ROOM]
-}
-
-// Reads and writes with what it lends.
-fn run(stdin: &mut impl Read, stdout: &impl Print, stderr: &impl Print, state: u32, division: u32) {
-    let mut buffer = [0u8; MOST_BYTES];
-    let mut line = [0u8; KEPT];
-    let mut out = make_room();
-    run_with(
-        stdin,
-        stdout,
-        stderr,
-        division_session::begin(state, division),
-        &mut buffer,
-        &mut line,
-        &mut out,
-    );
+    Some((argument(env, 1)?, argument(env, 2)?))
 }
 
 fn main(rt: HostRuntime) {
     let stderr = rt.stderr();
-    if has_argument(&rt, WORDS) {
-        usage(&stderr);
-        return;
-    }
-    let first = argument(&rt, 1);
-    let Digits::Make(state) = first else {
-        usage(&stderr);
+    let Some((state, division)) = arguments(&rt) else {
+        let _ = println!(stderr;
+            "usage: division STATE DIVISION <FILE, each of one or two digits, as 14 07"
+        );
         return;
     };
-    let second = argument(&rt, 2);
-    let Digits::Make(division) = second else {
-        usage(&stderr);
-        return;
+    let mut out = rows::make_room::<ROOM>();
+    let reading = Reading {
+        session: Session::begin(state, division),
+        out: &mut out,
     };
-    run(&mut rt.stdin(), &rt.stdout(), &stderr, state, division);
+    run_with(&mut rt.stdin(), &rt.stdout(), &stderr, reading);
 }

@@ -11,8 +11,7 @@ use Rattle.text.specs.Bytes.{line_feed}
 use Rattle.fields.specs.Refusals.{another}
 use Rattle.kept_line.specs.Kept.{most_kept, is_kept, kept_count, kept_line}
 use Rattle.kept_line.proofs.Parts.{kept-within}
-use Rattle.division_session.specs.Session.{Held, line_closed, last_closed, with_refusal, none_found}
-use Rattle.division_session.specs.declared.Session.{Session}
+use Rattle.division_session.specs.Session.{Session, Held, line_closed, last_closed, with_refusal, none_found}
 use Rattle.outline.proofs.Refusals.{is-done, is-refused, holds_of}
 use Rattle.division_session.proofs.Room.{cond-so, HeldBy, held-closed, held-last}
 use Rattle.division_input.specs.Input.{State, after_line, byte_kept, byte_fed, input_ended}

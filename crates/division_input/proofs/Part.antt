@@ -10,7 +10,8 @@ use lib.ListN.{length, take, drop, length-take, length-drop, drop_of_length-le}
 use lib.Seq.{drop-drop}
 use borrow.Author.Tests.{eqb-true, eqb-false, ltb-true, ltb-false}
 use Rattle.text.specs.Bytes.{line_feed}
-use Rattle.kept_line.specs.Kept.{until_feed, Kept, kept_of, part_kept}
+use Rattle.kept_line.specs.Kept.{until_feed, kept_of, part_kept}
+use Rattle.kept_line.specs.declared.Kept.{Kept}
 use Rattle.division_session.specs.Session.{Closed, line_closed}
 use Rattle.division_input.specs.Input.{State, held, with_kept, byte_kept, byte_fed, ended}
 use Rattle.division_input.proofs.Fed.{byte-refused, byte-closes, byte-within, HeldIn, held_bytes}

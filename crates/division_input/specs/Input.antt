@@ -4,8 +4,8 @@ use Rattle.std.specs.Prelude.{ℕ, Bool, true, false, cond, List, [], ◌∷◌,
 use Rattle.text.specs.Bytes.{line_feed}
 use Rattle.kept_line.specs.Kept.{kept_count, kept_line}
 use Rattle.outline.specs.Refusals.{unless_refused}
-use Rattle.division_session.specs.Session.{Closed, closed, line_closed, last_closed, none_found}
-use Rattle.division_session.specs.declared.Session.{Session}
+use Rattle.division_session.specs.Session.{Session, seen, Closed, closed, line_closed, last_closed, none_found}
+use Rattle.division_session.specs.declared.Session.{Session as Struct}
 
 -- ---- what is held
 pub record State : Type 0 where
@@ -15,6 +15,9 @@ pub record State : Type 0 where
 
 abbrev pub held : Session → List ℕ → List ℕ → State
 held s line out = record { session = s; line = line; out = out }
+
+abbrev pub state_of : Struct → List ℕ → State
+state_of s out = held (seen s) s.kept.line out
 
 -- ---- one byte of a line
 abbrev pub with_kept : Session → ℕ → Session

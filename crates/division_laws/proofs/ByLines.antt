@@ -13,12 +13,10 @@ use borrow.Author.Tests.{eqb-true, eqb-false}
 use Rattle.text.specs.Bytes.{line_feed}
 use Rattle.text.specs.Lines.{last_line, cut, lines_of}
 use Rattle.fields.specs.Refusals.{another}
-use Rattle.layout.specs.Rainfall.{year_said, year_of}
-use Rattle.layout.specs.declared.Year.{Year}
+use Rattle.layout.specs.Rainfall.{Answer, year_said, year_of}
 use Rattle.kept_line.specs.Kept.{most_kept}
 use Rattle.division_session.specs.ByLines.{expected, Made, nothing, made_by, made_with, line_made, at_end, division_of}
-use Rattle.division_session.specs.Session.{begun, Closed, closed, row_text, closed_by, line_closed, last_closed, none_found}
-use Rattle.division_session.specs.declared.Session.{Session}
+use Rattle.division_session.specs.Session.{Session, begun, Closed, closed, row_text, closed_by, line_closed, last_closed, none_found}
 use Rattle.outline.proofs.Refusals.{is-done, is-refused}
 use Rattle.division_input.specs.Input.{State, held, byte_kept, byte_fed, input_ended}
 use Rattle.division_input.proofs.Fed.{byte-closes, byte-within}
@@ -73,7 +71,7 @@ year-expected zero k line e = e
 year-expected (suc n) k line e = refl
 
 module _ (s d : ℕ) where
-  module _ (m : Made) (k : ℕ) (out : List ℕ) (r : First m out) (year : Year) (y : ℕ) where
+  module _ (m : Made) (k : ℕ) (out : List ℕ) (r : First m out) (year : Answer) (y : ℕ) where
     refused-by : (n : ℕ) (t : Bool) → eqb (suc n) another ≡ t → Agrees s d (made_by (suc n) m year y) (closed_by (suc n) (between s d m k) out year y)
     refused-by n true e = rw e (record { session = refl; rows = r; fresh = λ _. refl })
     refused-by n false e = rw e (record { session = refl; rows = r; fresh = λ h. absurd (omega (arith, h)) })

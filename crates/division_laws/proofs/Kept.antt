@@ -21,7 +21,7 @@ use Rattle.layout.specs.Rainfall.{is_line, rain_fits, is_named, is_year, refusal
 use Rattle.kept_line.specs.Kept.{most_kept, is_kept, kept_count, kept_line}
 use Rattle.kept_line.proofs.Parts.{kept-within}
 use Rattle.division_input.specs.Input.{State, held, with_kept, byte_kept}
-use Rattle.division_session.specs.declared.Session.{Session}
+use Rattle.division_session.specs.Session.{Session}
 
 -- ---- what is kept of bytes, where n of their line are kept already
 kept_of : ℕ → List ℕ → List ℕ

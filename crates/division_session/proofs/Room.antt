@@ -3,6 +3,7 @@
 use mathlib.Core.Path.{◌≡◌, refl, sym, ◌∙◌}
 use mathlib.Core.Bool.{Bool, true, false, cond, and-false}
 use mathlib.Core.List.{List, [], ◌∷◌, map}
+use Rattle.std.specs.Prelude.{Option, Some, None}
 use Prim.Native.Nat.{ℕ, zero, suc, ◌+◌, ◌*◌, ◌/◌, ◌%◌, ◌≤◌, ◌<◌}
 use native.Mathlib.Omega.{arith}
 use lib.Dec.{leb, eqb}
@@ -14,8 +15,7 @@ use Rattle.text.proofs.Digits.{apart}
 use Rattle.fields.specs.Columns.{year, values, months_of_year}
 use Rattle.fields.specs.Field.{field_of}
 use Rattle.fields.specs.Refusals.{another}
-use Rattle.fields.specs.declared.Field.{Field}
-use Rattle.fields.specs.declared.Field.TheVariants as field
+use Rattle.fields.specs.declared.Number.{Number}
 use Rattle.fields.proofs.Naturals.{natural-small}
 use Rattle.layout_months.specs.Months.{most_hundredths, is_mark, in_range, rain_of, month_said, month_of, months_of, is_present, amount_of, count_of}
 use Rattle.layout_months.specs.declared.Month.{Month}
@@ -28,8 +28,7 @@ use Rattle.rows.specs.Text.{numeral, month_text, months_text, year_text}
 use Rattle.rows.specs.Room.{laid, most_year}
 use Rattle.rows.proofs.Digits.{numeral-length}
 use Rattle.division_session.specs.ByLines.{expected}
-use Rattle.division_session.specs.Session.{Held, most_years, Closed, closed, row_text, closed_by, line_closed, last_closed}
-use Rattle.division_session.specs.declared.Session.{Session}
+use Rattle.division_session.specs.Session.{Session, Held, most_years, Closed, closed, row_text, closed_by, line_closed, last_closed}
 
 -- ---- what is so of both ways is so
 pub cond-so : {A : Type 0} (P : A → Type 0) (t : Bool) (x y : A) → P x → P y → P (cond t x y)
@@ -62,9 +61,9 @@ rain-by minus n true e =
     cond-so small (is_mark minus n) Missing _ (omega arith) (cond-so small (in_range minus n) (Amount (10 * n)) Outside (omega arith) (omega arith))
 rain-by minus n false e = rw e (cond-so (λ m. amount_of m ≤ 100000) (is_mark minus n) Missing Outside (omega arith) (omega arith))
 
-said-small : (f : Field) → amount_of (month_said f) ≤ 100000
-said-small (field.Number minus n) = rain-by minus n _ refl
-said-small field.Malformed = omega arith
+said-small : (f : Option Number) → amount_of (month_said f) ≤ 100000
+said-small (Some n) = rain-by n.minus n.hundredths _ refl
+said-small None = omega arith
 
 month-short : (f : List ℕ) (bit : ℕ) → length (month_text (amount_of (month_of f)) bit) ≤ 10
 unfolding month_text month_of

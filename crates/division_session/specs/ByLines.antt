@@ -6,8 +6,7 @@ use mathlib.Core.List.{List, [], ◌++◌, foldl}
 use Rattle.outline.specs.Refusals.{unless_refused}
 use Rattle.text.specs.Lines.{lines_of}
 use Rattle.fields.specs.Refusals.{another}
-use Rattle.layout.specs.Rainfall.{year_said, year_of}
-use Rattle.layout.specs.declared.Year.{Year}
+use Rattle.layout.specs.Rainfall.{Answer, year_said, year_of}
 use Rattle.rows.specs.Text.{year_text}
 
 -- lines are counted up to the last number that 32 bits hold
@@ -34,7 +33,7 @@ abbrev pub nothing : Made
 nothing = record { lines = 0; refused = 0; next = 0; text = [] }
 
 -- a line taken: its row is added
-abbrev pub with_row : Made → Year → ℕ → Made
+abbrev pub with_row : Made → Answer → ℕ → Made
 with_row m year y =
     record { lines = counted m.lines; refused = 0; next = y + 1; text = m.text ++ year_text y year.amounts year.present year.count }
 
@@ -47,11 +46,11 @@ abbrev pub stopped : Made → ℕ → Made
 stopped m k = record { lines = counted m.lines; refused = k; next = m.next; text = m.text }
 
 -- by the line's number: 0 is taken, 15 passed over, any other stops
-abbrev pub made_by : ℕ → Made → Year → ℕ → Made
+abbrev pub made_by : ℕ → Made → Answer → ℕ → Made
 made_by zero m year y = with_row m year y
 made_by (suc k) m year y = cond (eqb (suc k) another) (passed m) (stopped m (suc k))
 
-abbrev pub made_with : Made → Year → ℕ → Made
+abbrev pub made_with : Made → Answer → ℕ → Made
 made_with m year y = made_by year.number m year y
 
 unfoldable pub line_made : ℕ → ℕ → Made → List ℕ → Made

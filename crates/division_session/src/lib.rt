@@ -3,176 +3,149 @@
 //
 // Document 02, E1: "We take on stations with a century of rain already published in the nClimDiv fixed-width layout".
 // What is made of whole lines is specs/ByLines.antt. Everything here is for the crate `division_input`, whose program
-// lends a line and room for the rows.
+// lends room for the rows.
 #![tactic(auto)]
 
-ghost use Rattle.std.specs.Prelude.{◌≡◌, ◌+◌, ◌≤◌, ◌<◌, length, take};
-ghost use Rattle.rows.specs.Room.{laid, most_year};
-ghost use Rattle.division_session.specs.ByLines.{counted, expected};
-ghost use Rattle.division_session.specs.Session.{begun, most_years, Held, closed, row_text, with_row, passed, stopped, line_closed, last_closed, none_found};
+ghost use Rattle.std.specs.Prelude.{◌≡◌};
+ghost use Rattle.fields.specs.Told.{unless_zero, or_zero};
+ghost use Rattle.division_session.specs.ByLines.{counted};
 
-use fields::OTHER_LINE;
+use kept_line::Kept;
 use layout::Year;
+use outline::Refusal;
+
+// Room for the rows of the years 0 to 9999.
+pub const ROOM: usize = 1_540_000;
 
 #[derive(Drop)]
 pub struct Session {
     // What is asked for.
     pub state: u32,
     pub division: u32,
-    // How many bytes of the line so far are kept.
-    pub kept: usize,
+    // What is kept of the line so far.
+    pub kept: Kept,
     // How many lines have been closed.
     pub lines: u32,
-    // 0, or the refusal that stopped the reading: 14, 15 or 16.
-    pub refused: u8,
-    // The year that must follow, or 0 where no line has been taken yet.
-    pub next: u32,
+    // The refusal that stopped the reading, with 14, 15 or 16.
+    pub refused: Option<Refusal>,
+    // The year that must follow, where a line has been taken. It is above 0.
+    pub next: Option<u32>,
     // Where the rows so far end.
     pub end: usize,
+    pub ghost above_zero: { next ≡ unless_zero (or_zero next) },
 }
-
-const MOST_LINES: u32 = 4_294_967_295;
-
-// Room for the rows of the years 0 to 9999.
-pub const ROOM: usize = 1_540_000;
-
-// Before the first byte.
-pub fn begin(state: u32, division: u32) -> Session
-    ensures { result ≡ begun state division }
-{
-    Session {
-        state,
-        division,
-        kept: 0,
-        lines: 0,
-        refused: 0,
-        next: 0,
-        end: 0,
-    }
-}
-
-// ---- a line closed
 
 fn count_line(lines: u32) -> u32
     ensures { result ≡ counted lines }
 {
-    if lines < MOST_LINES {
-        return lines + 1;
-    }
-    lines
+    lines.saturating_add(1)
 }
 
-// The year that a line must have: the one that follows, or its own where it is the first.
-fn expected_year(next: u32, line: &[u8]) -> u32
-    ensures { result ≡ expected next line.now }
-{
-    if next == 0 {
-        return layout::year_of(line);
-    }
-    next
-}
+impl Session {
+    ghost use Rattle.std.specs.Prelude.{◌≡◌, ◌+◌, ◌≤◌, ◌<◌, length, take};
+    ghost use Rattle.outline.specs.Refused.{refusal_number};
+    ghost use Rattle.fields.specs.Told.{or_zero};
+    ghost use Rattle.layout.specs.Said.{answer_of};
+    ghost use Rattle.kept_line.specs.Kept.{most_kept};
+    ghost use Rattle.rows.specs.Room.{laid, most_year};
+    ghost use Rattle.division_session.specs.ByLines.{expected};
+    ghost use Rattle.division_session.specs.Session.{seen, begun, most_years, Held, closed, row_text, with_row, passed, stopped, line_closed, last_closed, none_found};
 
-fn pass_over(s: Session) -> Session
-    ensures { result ≡ passed s }
-{
-    let lines = count_line(s.lines);
-    Session {
-        state: s.state,
-        division: s.division,
-        kept: 0,
-        lines,
-        refused: s.refused,
-        next: s.next,
-        end: s.end,
+    // Before the first byte.
+    pub fn begin(state: u32, division: u32) -> Self
+        ensures { seen result ≡ begun state division }
+    {
+        Session {
+            state,
+            division,
+            kept: Kept::new(),
+            lines: 0,
+            refused: None,
+            next: None,
+            end: 0,
+        }
     }
-}
 
-fn stop(s: Session, number: u8) -> Session
-    ensures { result ≡ stopped s number }
-{
-    let lines = count_line(s.lines);
-    Session {
-        state: s.state,
-        division: s.division,
-        kept: s.kept,
-        lines,
-        refused: number,
-        next: s.next,
-        end: s.end,
-    }
-}
+    // ---- a line closed
 
-fn add_row(s: Session, year: Year, y: u32, out: &mut [u8]) -> Session
-    requires y_lt_most_years { y < most_years }
-    requires most_year_in_bounds { s.end + most_year ≤ length out.old }
-    ensures value { result ≡ with_row s year y }
-    ensures out_after { out.new ≡ laid (row_text year y) s.end out.old }
-{
-    let lines = count_line(s.lines);
-    let amounts = year.amounts;
-    let end = rows::lay_year(y, &amounts, year.present, year.count, s.end, out);
-    Session {
-        state: s.state,
-        division: s.division,
-        kept: 0,
-        lines,
-        refused: 0,
-        next: y + 1,
-        end,
+    // The year that the line must have: the one that follows, or its own where it is the first. A first line with no year
+    // is refused whatever the year is.
+    fn expected_year(&self) -> u32
+        requires { self.now.kept.count ≤ most_kept }
+        ensures { result ≡ expected (or_zero self.now.next) (take self.now.kept.count self.now.kept.line) }
+    {
+        match self.next {
+            Some(year) => year,
+            None => layout::year_of(self.kept.bytes()).unwrap_or(0),
+        }
     }
-}
 
-// A line is taken, passed over, or stops the reading.
-pub fn close_line(s: Session, line: &[u8], out: &mut [u8]) -> Session
-    requires { Held s line.now out.old }
-    ensures { closed result out.new ≡ line_closed s (take s.kept line.now) out.old }
-{
-    let kept = s.kept;
-    let y = expected_year(s.next, &line[..kept]);
-    let year = layout::read(&line[..kept], s.state, s.division, y);
-    let number = year.number;
-    if number == OTHER_LINE {
-        return pass_over(s);
+    fn pass_over(&mut self)
+        ensures told { seen self.new ≡ passed (seen self.old) }
+        ensures line { self.new.kept.line ≡ self.old.kept.line }
+    {
+        self.lines = count_line(self.lines);
+        self.kept.clear();
     }
-    if number != 0 {
-        return stop(s, number);
-    }
-    add_row(s, year, y, out)
-}
 
-// ---- the end of the input
+    fn stop(&mut self, refusal: Refusal)
+        ensures told { seen self.new ≡ stopped (seen self.old) (refusal_number refusal) }
+        ensures line { self.new.kept.line ≡ self.old.kept.line }
+    {
+        self.lines = count_line(self.lines);
+        self.refused = Some(refusal);
+    }
 
-// A last line that no line feed closes.
-pub fn close_last(s: Session, line: &[u8], out: &mut [u8]) -> Session
-    requires { Held s line.now out.old }
-    ensures { closed result out.new ≡ last_closed s line.now out.old }
-{
-    if s.refused != 0 {
-        return s;
+    fn add_row(&mut self, year: &Year, y: u32, out: &mut [u8])
+        requires y_lt_most_years { y < most_years }
+        requires most_year_in_bounds { self.old.end + most_year ≤ length out.old }
+        ensures told { seen self.new ≡ with_row (seen self.old) (answer_of (Ok year.now)) y }
+        ensures line { self.new.kept.line ≡ self.old.kept.line }
+        ensures out_after { out.new ≡ laid (row_text (answer_of (Ok year.now)) y) self.old.end out.old }
+    {
+        self.end = rows::lay_year(y, &year.amounts, year.present, year.count, self.end, out);
+        self.lines = count_line(self.lines);
+        self.refused = None;
+        self.next = Some(y + 1);
+        self.kept.clear();
     }
-    if s.kept == 0 {
-        return s;
-    }
-    close_line(s, line, out)
-}
 
-// 15 where no line was taken.
-pub fn none_found(s: Session) -> Session
-    ensures { result ≡ none_found s }
-{
-    if s.refused != 0 {
-        return s;
+    // The line is taken, passed over, or stops the reading.
+    pub fn close_line(&mut self, out: &mut [u8])
+        requires { Held (seen self.old) self.old.kept.line out.old }
+        ensures out_after { closed (seen self.new) out.new ≡ line_closed (seen self.old) (take self.old.kept.count self.old.kept.line) out.old }
+        ensures line { self.new.kept.line ≡ self.old.kept.line }
+    {
+        let y = self.expected_year();
+        match layout::read(self.kept.bytes(), self.state, self.division, y) {
+            Ok(year) => self.add_row(&year, y, out),
+            Err(refusal) => match refusal {
+                Refusal::OtherLine => self.pass_over(),
+                _ => self.stop(refusal),
+            },
+        }
     }
-    if s.next != 0 {
-        return s;
+
+    // ---- the end of the input
+
+    // A last line that no line feed closes.
+    pub fn close_last(&mut self, out: &mut [u8])
+        requires { Held (seen self.old) self.old.kept.line out.old }
+        ensures out_after { closed (seen self.new) out.new ≡ last_closed (seen self.old) self.old.kept.line out.old }
+        ensures line { self.new.kept.line ≡ self.old.kept.line }
+    {
+        if self.refused.is_none() && self.kept.count != 0 {
+            self.close_line(out);
+        }
     }
-    Session {
-        state: s.state,
-        division: s.division,
-        kept: s.kept,
-        lines: s.lines,
-        refused: OTHER_LINE,
-        next: s.next,
-        end: s.end,
+
+    // 15 where no line was taken.
+    pub fn none_found(&mut self)
+        ensures told { seen self.new ≡ none_found (seen self.old) }
+        ensures line { self.new.kept.line ≡ self.old.kept.line }
+    {
+        if self.refused.is_none() && self.next.is_none() {
+            self.refused = Some(Refusal::OtherLine);
+        }
     }
 }

@@ -1,14 +1,12 @@
-use mathlib.Core.Path.{◌≡◌}
+use Rattle.std.proofs.Common.{◌≡◌, ◌-◌, length, drop}
 use mathlib.Core.List.{foldl}
-use Prim.Native.Nat.{◌-◌}
-use lib.ListN.{length, drop}
-use Rattle.division_session.specs.Session.{Held}
-use Rattle.division_input.specs.Input.{held, byte_fed}
+use Rattle.division_session.specs.Session.{seen, Held}
+use Rattle.division_input.specs.Input.{state_of, byte_fed}
 use Rattle.division_input.proofs.take.Given as goal
 
-abbrev pub invariant-loop-i : goal.invariant-loop-i
-invariant-loop-i l =
-    (length l.line ≡ length l.initial.line) × (length l.out ≡ length l.initial.out) × (foldl byte_fed (held l.t l.line l.out) (drop l.i l.piece) ≡ foldl byte_fed (held l.initial.t l.initial.line l.initial.out) l.piece) × Held l.t l.line l.out
+abbrev pub invariant-loop-start : goal.invariant-loop-start
+invariant-loop-start l =
+    (foldl byte_fed (state_of l.session l.out) (drop l.start l.piece) ≡ foldl byte_fed (state_of l.initial.session l.initial.out) l.piece) × Held (seen l.session) l.session.kept.line l.out
 
-abbrev pub decreases-loop-i : goal.decreases-loop-i
-decreases-loop-i l = length l.piece - l.i
+abbrev pub decreases-loop-start : goal.decreases-loop-start
+decreases-loop-start l = length l.piece - l.start

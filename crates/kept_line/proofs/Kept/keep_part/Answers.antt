@@ -19,7 +19,7 @@ loop-b-init c =
     elim c.if-not-is_empty.branch [
       | then-not-is_empty w ↦ joined s c.if-not-is_empty.self c.args.part.now p.result.0.now p.result.1.now c.min.result p.ensures.front p.ensures.back (w.self-is ∙ w.keep_columns.ensures)
       | else-not-is_empty w ↦ joined s c.if-not-is_empty.self c.args.part.now p.result.0.now p.result.1.now c.min.result p.ensures.front p.ensures.back
-        (w.self-is ∙ none-kept s p.result.0.now (eqb-true (length p.result.0.now) 0 (sym c.is_empty.ensures ∙ w.if-not-is_empty.false)))
+          (w.self-is ∙ none-kept s p.result.0.now (eqb-true (length p.result.0.now) 0 (sym c.is_empty.ensures ∙ w.if-not-is_empty.false)))
     ]
 
 pub loop-b-preserved : goal.loop-b-preserved
