@@ -1,5 +1,5 @@
 -- `division_input::take`: what is still to be fed takes what is held to where the whole piece takes it. Assumes nothing.
-use Rattle.std.proofs.Common.{◌≡◌, refl, sym, ◌∙◌, List, ℕ, ◌≤◌, arith, length, drop}
+use Rattle.std.proofs.Common.{◌≡◌, sym, ◌∙◌, List, ℕ, ◌≤◌, arith, length, drop}
 use mathlib.Core.List.{foldl}
 use lib.ListN.{drop_of_length-le}
 use Rattle.division_input.specs.Input.{State, state_of, byte_fed}
