@@ -79,6 +79,7 @@ pub fn calendar_fits(month: u32) -> bool
 }
 
 // Some of a month's five constants, from this place on, is out of range, or its K is below this least one: with no branch.
+#[inline(always)]
 fn five_beyond<const LEAST_K: i32>(c: &[i32], at: usize) -> bool
     requires { (at + many_of_a_month ≤ length c.now) × (at % many_of_a_month ≡ 0) }
     ensures { result ≡ not (five_from LEAST_K c.now at) }
@@ -90,7 +91,9 @@ fn five_beyond<const LEAST_K: i32>(c: &[i32], at: usize) -> bool
         | beyond(LEAST_K, c[at + 4], MOST_K)
 }
 
-// The sixty constants are each in range, with no K below this least one. All are looked at, whatever the first ones are.
+// The sixty constants are each in range, with no K below this least one. All are looked at, whatever the first ones are. Compiled in
+// place, where it is of a whole array, to vectors.
+#[inline(always)]
 pub fn constants_fit_from<const LEAST_K: i32>(c: &[i32]) -> bool
     requires { many_constants ≤ length c.now }
     ensures { result ≡ fit_from LEAST_K c.now last_month }
