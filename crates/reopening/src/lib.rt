@@ -71,12 +71,7 @@ fn values_before(m: usize, x1: &[i32], x2: &[i32], x3: &[i32], v: &[i64]) -> Run
     ensures { (index : List ℤ) (mark : List ℕ) (records : List (List ℤ)) → result ≡ values_before (book x1.now x2.now x3.now index mark records v.now) m }
 {
     if m == 0 {
-        return Running {
-            x1: 0,
-            x2: 0,
-            x3: 0,
-            v: 0,
-        };
+        return Running::default();
     }
     values_at(m - 1, x1, x2, x3, v)
 }
