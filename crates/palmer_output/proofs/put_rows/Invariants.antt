@@ -1,4 +1,3 @@
-use mathlib.Core.Path.{◌≡◌}
 use Prim.Native.Nat.{◌*◌, ◌≤◌}
 use Rattle.rows.proofs.Laid.{Put}
 use Rattle.palmer_input.specs.ByLines.{columns_of}

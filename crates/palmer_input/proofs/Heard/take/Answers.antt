@@ -1,9 +1,7 @@
 -- `Heard::take`: what is still to be fed takes what is held to where all bytes take what was held at entry. Each of the two ways through a
 -- pass feeds one byte (`went`). Assumes nothing.
 use mathlib.Core.Path.{◌≡◌, refl, sym, ap, ◌∙◌}
-use mathlib.Core.Bool.{false}
 use lib.ListN.{drop, get_or}
-use Rattle.std.specs.Option.{is_some}
 use Rattle.text.proofs.Folds.{fold_more}
 use Rattle.palmer_input.specs.ByLines.{state_of}
 use Rattle.palmer_input.specs.Input.{byte_fed}
