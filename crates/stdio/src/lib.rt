@@ -3,8 +3,6 @@
 // tables.
 #![tactic(auto)]
 
-ghost use Rattle.std.specs.Prelude.{◌≡◌, ◌<◌, ◌≤◌, length, take};
-
 use outline::Refusal;
 use rows::MOST_ROW;
 use std::io;
@@ -40,51 +38,9 @@ pub fn read_all<R: Reads>(stdin: &mut impl Read, reader: &mut R) -> io::Result<(
     Ok(())
 }
 
-// A piece of the input: how many bytes it has, 0 at the end, and whether the read failed.
-#[derive(Drop)]
-pub struct Piece {
-    pub count: usize,
-    pub failed: bool,
-}
-
-// Reads once; the piece is at the buffer's start.
-pub fn read(stdin: &mut impl Read, buffer: &mut [u8]) -> Piece
-    ensures in_bounds { result.count ≤ length buffer.new }
-    ensures prefix { result.count ≡ length (take result.count buffer.new) }
-{
-    match stdin.read(buffer) {
-        Ok(count) => Piece {
-            count,
-            failed: false,
-        },
-        Err(_) => Piece {
-            count: 0,
-            failed: true,
-        },
-    }
-}
-
-// How many reads may follow one, with so many left before it: none where the reading has ended. A proved loop has to end and
-// an input need not, so a program counts its reads down, from a number that no run uses up.
-pub const MOST_READS: u64 = u64::MAX;
-
-pub fn reads_left(left: u64, ended: bool) -> u64
-    requires { 0 < left }
-    ensures { result < left }
-{
-    if ended {
-        return 0;
-    }
-    left - 1
-}
-
 // Says a text on standard error, which is lent. Where that cannot be written, nothing more can be said.
 pub fn say(stderr: &impl Print, text: &[u8]) {
     let _ = stderr.write_all(text);
-}
-
-pub fn say_number(stderr: &impl Print, n: u32) {
-    let _ = stderr.print(n);
 }
 
 // Says that the program of this name cannot read its input.
