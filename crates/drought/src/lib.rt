@@ -12,7 +12,7 @@ ghost use Rattle.door.specs.Outcome.{outcome};
 ghost use Rattle.door.specs.Readings.{reading};
 ghost use Rattle.starts.specs.Start.{start_of};
 ghost use Rattle.series.specs.Series.{filled, whole_series};
-ghost use Rattle.refusals.specs.Book.{book};
+ghost use Rattle.refusals.specs.Lists.{held, read, SameLists};
 ghost use Rattle.refusals.specs.Good.{Good};
 ghost use Rattle.refusals.specs.Lent.{row_number_for};
 ghost use Rattle.runs.specs.Progress.{run_of};
@@ -24,6 +24,7 @@ use adding::{Added, MonthAdded};
 use door::{Amount, MonthInches, MonthKinds, Reading};
 use outline::{MANY_CONSTANTS, Refusal};
 use records::{Record, RecordNumbers};
+use refusals::{Lists, Rows};
 use runs::{Progress, Run};
 use starts::Started;
 
@@ -57,43 +58,24 @@ pub fn start(constants: &[i32], capacity: i32, surface: i32, underlying: i32, mo
 
 // Adds a month of water, from two readings: 1, 7, 8 or 9, 10.
 #[inline(always)]
-pub fn add_water(
-    run: Run,
-    p: Reading,
-    pe: Reading,
-    x1: &mut [i32],
-    x2: &mut [i32],
-    x3: &mut [i32],
-    index: &mut [i32],
-    mark: &mut [u8],
-    records: &mut [RecordNumbers],
-    v: &mut [i64],
-) -> Added
-    ensures { result_of result (book x1.new x2.new x3.new index.new mark.new records.new v.new) ≡ add_water run p pe (book x1.old x2.old x3.old index.old mark.old records.old v.old) }
+pub fn add_water(run: Run, p: Reading, pe: Reading, lists: &mut Lists) -> Added
+    ensures same { SameLists lists.old lists.new }
+    ensures outcome { result_of result (held lists.new) ≡ add_water run p pe (held lists.old) }
 {
     let at = runs::progress_of(run);
     let constants = run.constants;
-    let t = try_water(at, &constants, p, pe, x1, x2, x3, index, mark, records, v);
+    let t = try_water(at, &constants, p, pe, lists);
     adding::answer_of(t, at, constants)
 }
 
 // Adds a month of water, from two binary32 inches: 1, 7, 9, 10.
-pub fn add_inches(
-    run: Run,
-    q: MonthInches,
-    x1: &mut [i32],
-    x2: &mut [i32],
-    x3: &mut [i32],
-    index: &mut [i32],
-    mark: &mut [u8],
-    records: &mut [RecordNumbers],
-    v: &mut [i64],
-) -> Added
-    ensures { result_of result (book x1.new x2.new x3.new index.new mark.new records.new v.new) ≡ add_inches run q (book x1.old x2.old x3.old index.old mark.old records.old v.old) }
+pub fn add_inches(run: Run, q: MonthInches, lists: &mut Lists) -> Added
+    ensures same { SameLists lists.old lists.new }
+    ensures outcome { result_of result (held lists.new) ≡ add_inches run q (held lists.old) }
 {
     let p = Reading::Inches(q.p);
     let pe = Reading::Inches(q.pe);
-    add_water(run, p, pe, x1, x2, x3, index, mark, records, v)
+    add_water(run, p, pe, lists)
 }
 
 // A month of water, added or refused.
@@ -102,27 +84,14 @@ fn try_water(
     constants: &[i32; MANY_CONSTANTS],
     p: Reading,
     pe: Reading,
-    x1: &mut [i32],
-    x2: &mut [i32],
-    x3: &mut [i32],
-    index: &mut [i32],
-    mark: &mut [u8],
-    records: &mut [RecordNumbers],
-    v: &mut [i64],
+    lists: &mut Lists,
 ) -> Result<MonthAdded, Refusal>
-    ensures { result_of (answer_of result at constants.now) (book x1.new x2.new x3.new index.new mark.new records.new v.new) ≡ add_water (run_of at constants.now) p pe (book x1.old x2.old x3.old index.old mark.old records.old v.old) }
+    ensures same { SameLists lists.old lists.new }
+    ensures outcome { result_of (answer_of result at constants.now) (held lists.new) ≡ add_water (run_of at constants.now) p pe (held lists.old) }
 {
-    let n = refusals::lent_length(
-        x1.len(),
-        x2.len(),
-        x3.len(),
-        index.len(),
-        mark.len(),
-        records.len(),
-        v.len(),
-    );
-    refusals::run_refusal(n, at, constants, records)?;
-    add_readings(at, constants, p, pe, x1, x2, x3, index, mark, records, v)
+    let rows = lists.rows();
+    refusals::run_refusal(rows.lent_length(), at, constants, rows.records)?;
+    add_readings(at, constants, p, pe, lists)
 }
 
 // A month of water, added or refused, to a run and lists that have been asked for 1 and 7.
@@ -132,58 +101,31 @@ pub fn add_readings(
     constants: &[i32; MANY_CONSTANTS],
     p: Reading,
     pe: Reading,
-    x1: &mut [i32],
-    x2: &mut [i32],
-    x3: &mut [i32],
-    index: &mut [i32],
-    mark: &mut [u8],
-    records: &mut [RecordNumbers],
-    v: &mut [i64],
+    lists: &mut Lists,
 ) -> Result<MonthAdded, Refusal>
-    requires { Good (run_of at constants.now) (book x1.old x2.old x3.old index.old mark.old records.old v.old) }
-    ensures { result_of (answer_of result at constants.now) (book x1.new x2.new x3.new index.new mark.new records.new v.new) ≡ add_water (run_of at constants.now) p pe (book x1.old x2.old x3.old index.old mark.old records.old v.old) }
+    requires { Good (run_of at constants.now) (held lists.old) }
+    ensures same { SameLists lists.old lists.new }
+    ensures outcome { result_of (answer_of result at constants.now) (held lists.new) ≡ add_water (run_of at constants.now) p pe (held lists.old) }
 {
     let first = door::read(p)?;
     let second = door::read(pe)?;
-    refusals::room_refusal(x1.len(), at.months)?;
+    refusals::room_refusal(lists.x1.len(), at.months)?;
     let kinds = MonthKinds {
         p: first.kind().number(),
         pe: second.kind().number(),
     };
-    let month = taking::add_measured(
-        at,
-        constants,
-        first.water(),
-        second.water(),
-        kinds,
-        x1,
-        x2,
-        x3,
-        index,
-        mark,
-        records,
-        v,
-    );
+    let month = taking::add_measured(at, constants, first.water(), second.water(), kinds, lists);
     Ok(month)
 }
 
 // Adds a Z: the storages stay, the calendar moves on. 1, 7, 12, 10.
-pub fn add_z(
-    run: Run,
-    z: i32,
-    x1: &mut [i32],
-    x2: &mut [i32],
-    x3: &mut [i32],
-    index: &mut [i32],
-    mark: &mut [u8],
-    records: &mut [RecordNumbers],
-    v: &mut [i64],
-) -> Added
-    ensures { result_of result (book x1.new x2.new x3.new index.new mark.new records.new v.new) ≡ add_z run z (book x1.old x2.old x3.old index.old mark.old records.old v.old) }
+pub fn add_z(run: Run, z: i32, lists: &mut Lists) -> Added
+    ensures same { SameLists lists.old lists.new }
+    ensures outcome { result_of result (held lists.new) ≡ add_z run z (held lists.old) }
 {
     let at = runs::progress_of(run);
     let constants = run.constants;
-    let t = try_z(at, &constants, z, x1, x2, x3, index, mark, records, v);
+    let t = try_z(at, &constants, z, lists);
     adding::answer_of(t, at, constants)
 }
 
@@ -192,64 +134,33 @@ fn try_z(
     at: Progress,
     constants: &[i32; MANY_CONSTANTS],
     z: i32,
-    x1: &mut [i32],
-    x2: &mut [i32],
-    x3: &mut [i32],
-    index: &mut [i32],
-    mark: &mut [u8],
-    records: &mut [RecordNumbers],
-    v: &mut [i64],
+    lists: &mut Lists,
 ) -> Result<MonthAdded, Refusal>
-    ensures { result_of (answer_of result at constants.now) (book x1.new x2.new x3.new index.new mark.new records.new v.new) ≡ add_z (run_of at constants.now) z (book x1.old x2.old x3.old index.old mark.old records.old v.old) }
+    ensures same { SameLists lists.old lists.new }
+    ensures outcome { result_of (answer_of result at constants.now) (held lists.new) ≡ add_z (run_of at constants.now) z (held lists.old) }
 {
-    let n = refusals::lent_length(
-        x1.len(),
-        x2.len(),
-        x3.len(),
-        index.len(),
-        mark.len(),
-        records.len(),
-        v.len(),
-    );
-    refusals::z_refusal(n, at, constants, z, records)?;
-    Ok(taking::add_z(at, z, x1, x2, x3, index, mark, records, v))
+    let rows = lists.rows();
+    refusals::z_refusal(rows.lent_length(), at, constants, z, rows.records)?;
+    Ok(taking::add_z(at, z, lists))
 }
 
 // Shows a month's row, from 0 on: 1, 7, 11.
-pub fn row(
-    run: Run,
-    i: usize,
-    x1: &[i32],
-    x2: &[i32],
-    x3: &[i32],
-    index: &[i32],
-    mark: &[u8],
-    records: &[RecordNumbers],
-    v: &[i64],
-) -> Shown
-    ensures { result ≡ row_of_run run i (book x1.now x2.now x3.now index.now mark.now records.now v.now) }
+pub fn row(run: Run, i: usize, rows: &Rows) -> Shown
+    ensures { result ≡ row_of_run run i (read rows.now) }
 {
-    let fit = refusals::lengths_fit(
-        x1.len(),
-        x2.len(),
-        x3.len(),
-        index.len(),
-        mark.len(),
-        records.len(),
-        v.len(),
-    );
-    match row_number(fit, run, i, records) {
+    let fit = rows.fit();
+    match row_number(fit, run, i, rows.records) {
         Ok(()) => {
-            let kept = records::record_at(records, i);
+            let kept = records::record_at(rows.records, i);
             Shown {
                 number: 0,
-                x1: x1[i],
-                x2: x2[i],
-                x3: x3[i],
-                index: index[i],
-                mark: mark[i],
+                x1: rows.x1[i],
+                x2: rows.x2[i],
+                x3: rows.x3[i],
+                index: rows.index[i],
+                mark: rows.mark[i],
                 month: kept,
-                v: v[i],
+                v: rows.v[i],
             }
         }
         Err(refusal) => not_shown(refusal),

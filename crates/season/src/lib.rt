@@ -8,13 +8,13 @@
 ghost use Rattle.std.specs.Prelude.{◌≡◌, ◌+◌, ◌≤◌};
 ghost use Rattle.outline.specs.Refused.{answer_number};
 ghost use Rattle.runs.specs.Progress.{run_of};
-ghost use Rattle.refusals.specs.Book.{book};
 ghost use Rattle.season.specs.Season.{season_result, season_refusal, add_season};
 ghost use Rattle.season.specs.SoFar.{most_count, begun, joined_by, season_of};
+ghost use Rattle.refusals.specs.Lists.{held, read, SameLists};
 
 use adding::{Figures, MonthAdded};
 use outline::{MANY_CONSTANTS, Refusal};
-use records::RecordNumbers;
+use refusals::{Lists, Rows};
 use runs::{Progress, Run};
 
 // What a season answers: 0 or the refusal that stopped it, how many months were added, how many these settled,
@@ -39,31 +39,19 @@ struct SoFar {
 }
 
 // Adds months of water, in order, until one is refused: 1, 7, then as each month's add 8 or 9, 10.
-pub fn add_season(
-    run: Run,
-    p: &[i32],
-    pe: &[i32],
-    x1: &mut [i32],
-    x2: &mut [i32],
-    x3: &mut [i32],
-    index: &mut [i32],
-    mark: &mut [u8],
-    records: &mut [RecordNumbers],
-    v: &mut [i64],
-) -> Season
-    ensures { season_result result (book x1.new x2.new x3.new index.new mark.new records.new v.new) ≡ add_season run p.now pe.now (book x1.old x2.old x3.old index.old mark.old records.old v.old) }
+pub fn add_season(run: Run, p: &[i32], pe: &[i32], lists: &mut Lists) -> Season
+    ensures same { SameLists lists.old lists.new }
+    ensures outcome { season_result result (held lists.new) ≡ add_season run p.now pe.now (held lists.old) }
 {
     let constants = run.constants;
     let at = runs::progress_of(run);
     let mut s = nothing_added(at);
-    let asked = season_refusal(at, &constants, p, pe, x1, x2, x3, index, mark, records, v);
+    let asked = season_refusal(at, &constants, p, pe, &lists.rows());
     if asked.is_err() {
         return season_of(s, asked, constants);
     }
     for i in 0..p.len() {
-        let month = season_month::add_listed(
-            s.progress, &constants, p[i], pe[i], x1, x2, x3, index, mark, records, v,
-        );
+        let month = season_month::add_listed(s.progress, &constants, p[i], pe[i], lists);
         match month {
             Ok(m) => s = joined_by(s, m),
             Err(refusal) => return season_of(s, Err(refusal), constants),
@@ -78,29 +66,15 @@ fn season_refusal(
     constants: &[i32; MANY_CONSTANTS],
     p: &[i32],
     pe: &[i32],
-    x1: &[i32],
-    x2: &[i32],
-    x3: &[i32],
-    index: &[i32],
-    mark: &[u8],
-    records: &[RecordNumbers],
-    v: &[i64],
+    rows: &Rows,
 ) -> Result<(), Refusal>
-    ensures { answer_number result ≡ season_refusal (run_of at constants.now) p.now pe.now (book x1.now x2.now x3.now index.now mark.now records.now v.now) }
+    ensures { answer_number result ≡ season_refusal (run_of at constants.now) p.now pe.now (read rows.now) }
 {
     if p.len() != pe.len() {
         return Err(Refusal::BadLists);
     }
-    let n = refusals::lent_length(
-        x1.len(),
-        x2.len(),
-        x3.len(),
-        index.len(),
-        mark.len(),
-        records.len(),
-        v.len(),
-    );
-    refusals::run_refusal(n, at, constants, records)
+    let n = rows.lent_length();
+    refusals::run_refusal(n, at, constants, rows.records)
 }
 
 // Before the first month.

@@ -4,7 +4,7 @@
 #![tactic(auto)]
 
 ghost use Rattle.std.specs.Prelude.{◌≡◌};
-ghost use Rattle.refusals.specs.Book.{book};
+ghost use Rattle.refusals.specs.Lists.{held, SameLists};
 ghost use Rattle.refusals.specs.Good.{Good};
 ghost use Rattle.runs.specs.Progress.{run_of};
 ghost use Rattle.adding.specs.Taken.{result_of};
@@ -15,7 +15,7 @@ ghost use Rattle.season_month.specs.Listed.{listed};
 use adding::MonthAdded;
 use door::Reading;
 use outline::{MANY_CONSTANTS, Refusal};
-use records::RecordNumbers;
+use refusals::Lists;
 use runs::Progress;
 
 // A month of no reading in a list.
@@ -27,22 +27,15 @@ pub fn add_listed(
     constants: &[i32; MANY_CONSTANTS],
     p: i32,
     pe: i32,
-    x1: &mut [i32],
-    x2: &mut [i32],
-    x3: &mut [i32],
-    index: &mut [i32],
-    mark: &mut [u8],
-    records: &mut [RecordNumbers],
-    v: &mut [i64],
+    lists: &mut Lists,
 ) -> Result<MonthAdded, Refusal>
-    requires { Good (run_of at constants.now) (book x1.old x2.old x3.old index.old mark.old records.old v.old) }
-    ensures { result_of (answer_of result at constants.now) (book x1.new x2.new x3.new index.new mark.new records.new v.new) ≡ add_water (run_of at constants.now) (listed p) (listed pe) (book x1.old x2.old x3.old index.old mark.old records.old v.old) }
+    requires { Good (run_of at constants.now) (held lists.old) }
+    ensures same { SameLists lists.old lists.new }
+    ensures outcome { result_of (answer_of result at constants.now) (held lists.new) ≡ add_water (run_of at constants.now) (listed p) (listed pe) (held lists.old) }
 {
     let first = reading_of(p);
     let second = reading_of(pe);
-    drought::add_readings(
-        at, constants, first, second, x1, x2, x3, index, mark, records, v,
-    )
+    drought::add_readings(at, constants, first, second, lists)
 }
 
 // A month of a list as a reading.

@@ -3,6 +3,6 @@ use Rattle.door.specs.Readings.{reading, month}
 use Rattle.drought.specs.Calls.{add_water, add_inches}
 use Rattle.drought.proofs.add_inches.Goals as goal
 
-pub returns : goal.returns
+pub returns-clause-outcome : goal.returns-clause-outcome
 unfolding add_inches add_water month reading
-returns c = c.add_water.ensures
+returns-clause-outcome c = c.add_water.ensures.outcome

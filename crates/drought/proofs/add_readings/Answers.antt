@@ -2,8 +2,9 @@
 -- run's month of water. Assumes nothing.
 use mathlib.Core.Path.{sym}
 use Rattle.std.proofs.lemmas.Result.{err_from_is_err_and}
-use Rattle.refusals.specs.Book.{Book, book}
+use Rattle.refusals.specs.Book.{Book}
 use Rattle.refusals.proofs.Refused.{room-passes}
+use Rattle.refusals.specs.Lists.{held}
 use Rattle.runs.specs.Progress.{run_of}
 use Rattle.runs.specs.declared.Run.{Run}
 use Rattle.adding.specs.Taken.{result_of}
@@ -14,36 +15,36 @@ use Rattle.drought.proofs.add_readings.Goals as goal
 use Rattle.drought.proofs.add_readings.Goals.{Start, In_ok-first, In_ok-second, In_ok-room_refusal}
 
 abbrev lent : Start → Book
-lent c = let a = c.args in book a.x1.now a.x2.now a.x3.now a.index.now a.mark.now a.records.now a.v.now
+lent c = let a = c.args in held a.lists.now
 
 abbrev given : Start → Run
 given c = run_of c.args.at c.args.constants.now
 
-pub returns-in_err-first : goal.returns-in_err-first
-returns-in_err-first c =
+pub returns-in_err-first-clause-outcome : goal.returns-in_err-first-clause-outcome
+returns-in_err-first-clause-outcome c =
     let a = c.args in
     let p = err_from_is_err_and c.from_residual.result c.from_residual.ensures.1 in
-    rw (p.1, p.2) (first-refused a.at a.constants.now a.p a.pe (book a.x1.now a.x2.now a.x3.now a.index.now a.mark.now a.records.now a.v.now) c.requires _ c.in_err-first.ensures)
+    rw (p.1, p.2) (first-refused a.at a.constants.now a.p a.pe (held a.lists.now) c.requires _ c.in_err-first.ensures)
 
-pub returns-in_err-second : goal.returns-in_err-second
-returns-in_err-second c =
+pub returns-in_err-second-clause-outcome : goal.returns-in_err-second-clause-outcome
+returns-in_err-second-clause-outcome c =
     let a = c.args in
     let p = err_from_is_err_and c.from_residual-in_err-second.result c.from_residual-in_err-second.ensures.1 in
     rw (p.1, p.2)
-    (second-refused a.at a.constants.now a.p a.pe (book a.x1.now a.x2.now a.x3.now a.index.now a.mark.now a.records.now a.v.now) c.requires c.in_ok-first.first c.in_ok-first.ensures _ c.in_err-second.ensures)
+    (second-refused a.at a.constants.now a.p a.pe (held a.lists.now) c.requires c.in_ok-first.first c.in_ok-first.ensures _ c.in_err-second.ensures)
 
-pub returns-in_err-room_refusal : goal.returns-in_err-room_refusal
-returns-in_err-room_refusal c =
+pub returns-in_err-room_refusal-clause-outcome : goal.returns-in_err-room_refusal-clause-outcome
+returns-in_err-room_refusal-clause-outcome c =
     let a = c.args in
     let p = err_from_is_err_and c.from_residual-in_err-room_refusal.result c.from_residual-in_err-room_refusal.ensures.1 in
     rw (p.1, p.2)
-    (room-refused a.at a.constants.now a.p a.pe (book a.x1.now a.x2.now a.x3.now a.index.now a.mark.now a.records.now a.v.now) c.requires c.in_ok-first.first c.in_ok-first.ensures c.in_ok-second.second c.in_ok-second.ensures _ c.in_err-room_refusal.ensures)
+    (room-refused a.at a.constants.now a.p a.pe (held a.lists.now) c.requires c.in_ok-first.first c.in_ok-first.ensures c.in_ok-second.second c.in_ok-second.ensures _ c.in_err-room_refusal.ensures)
 
 pub add_measured-month-requires : goal.add_measured-month-requires
 add_measured-month-requires c =
     let a = c.args in
     let r = run_of a.at a.constants.now in
-    let cs = book a.x1.now a.x2.now a.x3.now a.index.now a.mark.now a.records.now a.v.now in
+    let cs = held a.lists.now in
     let room = room-passes _ _ (sym c.in_ok-room_refusal.ensures) in
     record {
       ready = ready r cs c.requires room;
@@ -52,10 +53,10 @@ add_measured-month-requires c =
       p_le_most_reading = rw (c.water.ensures, c.water-2.ensures) (waters a.at a.constants.now a.p a.pe cs c.requires c.in_ok-first.first c.in_ok-first.ensures c.in_ok-second.second c.in_ok-second.ensures);
     }
 
-pub returns : goal.returns
-returns c =
+pub returns-clause-outcome : goal.returns-clause-outcome
+returns-clause-outcome c =
     let a = c.args in
     let n = c.add_measured-month.new in
-    accepted a.at a.constants.now a.p a.pe (book a.x1.now a.x2.now a.x3.now a.index.now a.mark.now a.records.now a.v.now) c.requires c.in_ok-first.first c.in_ok-first.ensures c.in_ok-second.second c.in_ok-second.ensures c.in_ok-room_refusal.ensures
-    (result_of (added_of c.add_measured-month.result a.constants.now) (book n.x1 n.x2 n.x3 n.index n.mark n.records n.v))
-    (rw (c.water.ensures, c.water-2.ensures, c.number.ensures, c.number-2.ensures, c.kind.ensures, c.kind-2.ensures) at c.add_measured-month.ensures)
+    accepted a.at a.constants.now a.p a.pe (held a.lists.now) c.requires c.in_ok-first.first c.in_ok-first.ensures c.in_ok-second.second c.in_ok-second.ensures c.in_ok-room_refusal.ensures
+    (result_of (added_of c.add_measured-month.result a.constants.now) (held n.lists))
+    (rw (c.water.ensures, c.water-2.ensures, c.number.ensures, c.number-2.ensures, c.kind.ensures, c.kind-2.ensures) at c.add_measured-month.ensures.outcome)

@@ -12,10 +12,11 @@ use Rattle.outline.specs.Numbers.{most_months}
 use Rattle.outline.specs.Refusals.{unless_refused}
 use Rattle.outline.specs.Refused.{refusal_number, answer_number}
 use Rattle.outline.proofs.Refused.{unless-refusal}
-use Rattle.refusals.specs.Book.{Book, book}
+use Rattle.refusals.specs.Book.{Book}
 use Rattle.refusals.specs.Refusals.{row_refusal}
 use Rattle.refusals.proofs.Refused.{row-passes, columns_are}
 use Rattle.refusals.proofs.Lent.{row_number}
+use Rattle.refusals.specs.Lists.{read}
 use Rattle.adding.proofs.Readiness.{run_is}
 use Rattle.drought.specs.Calls.{row_of_run, shown, not_shown}
 use Rattle.drought.specs.declared.Shown.{Shown}
@@ -23,7 +24,7 @@ use Rattle.drought.proofs.row.Goals as goal
 use Rattle.drought.proofs.row.Goals.{After-row_number}
 
 abbrev lent : After-row_number → Book
-lent c = let a = c.args in book a.x1.now a.x2.now a.x3.now a.index.now a.mark.now a.records.now a.v.now
+lent c = let a = c.args in read a.rows.now
 
 -- what is shown by a number
 abbrev by : After-row_number → ℕ → Shown
@@ -31,7 +32,7 @@ by c k = unless_refused k (shown c.args.i (lent c)) (not_shown k)
 
 -- the number is the definition's
 number_is : (c : After-row_number) → answer_number c.row_number.result ≡ row_refusal c.args.run c.args.i (lent c)
-number_is c = rw (← row_number (lent c) c.args.run c.args.i) (rw c.lengths_fit-fit.ensures at c.row_number.ensures)
+number_is c = rw (← row_number (lent c) c.args.run c.args.i) (rw c.fit-fit.ensures at c.row_number.ensures)
 
 pub returns-in-Err : goal.returns-in-Err
 unfolding row_of_run
@@ -43,13 +44,13 @@ returns-in-Err c =
 -- the place is below each length, and so below the limit
 abbrev Inside : After-row_number → Type 0
 Inside c =
-    (c.args.i < length c.args.x1.now)
-    × (c.args.i < length c.args.x2.now)
-    × (c.args.i < length c.args.x3.now)
-    × (c.args.i < length c.args.index.now)
-    × (c.args.i < length c.args.mark.now)
-    × (c.args.i < length c.args.records.now)
-    × (c.args.i < length c.args.v.now)
+    (c.args.i < length c.args.rows.now.x1.now)
+    × (c.args.i < length c.args.rows.now.x2.now)
+    × (c.args.i < length c.args.rows.now.x3.now)
+    × (c.args.i < length c.args.rows.now.index.now)
+    × (c.args.i < length c.args.rows.now.mark.now)
+    × (c.args.i < length c.args.rows.now.records.now)
+    × (c.args.i < length c.args.rows.now.v.now)
     × (c.args.i < most_months)
 
 inside : (c : After-row_number) → answer_number c.row_number.result ≡ 0 → Inside c
@@ -63,47 +64,47 @@ inside c e =
 pub record_at-kept-requires : goal.record_at-kept-requires
 record_at-kept-requires c = let h = inside (goal.at.record_at-kept-requires c).After-row_number (ap answer_number c.in-Ok.is) in omega arith
 
-pub offset_bounds-x1-i : goal.offset_bounds-x1-i
-offset_bounds-x1-i c = let h = inside (goal.at.offset_bounds-x1-i c).After-row_number (ap answer_number c.in-Ok.is) in omega arith
+pub offset_bounds-rows-i : goal.offset_bounds-rows-i
+offset_bounds-rows-i c = let h = inside (goal.at.offset_bounds-rows-i c).After-row_number (ap answer_number c.in-Ok.is) in omega arith
 
-pub bounds-x1-i : goal.bounds-x1-i
-bounds-x1-i c = let h = inside (goal.at.bounds-x1-i c).After-row_number (ap answer_number c.in-Ok.is) in omega arith
+pub bounds-rows-i : goal.bounds-rows-i
+bounds-rows-i c = let h = inside (goal.at.bounds-rows-i c).After-row_number (ap answer_number c.in-Ok.is) in omega arith
 
-pub offset_bounds-x2-i : goal.offset_bounds-x2-i
-offset_bounds-x2-i c = let h = inside (goal.at.offset_bounds-x2-i c).After-row_number (ap answer_number c.in-Ok.is) in omega arith
+pub offset_bounds-rows-i-in-Ok : goal.offset_bounds-rows-i-in-Ok
+offset_bounds-rows-i-in-Ok c = let h = inside (goal.at.offset_bounds-rows-i-in-Ok c).After-row_number (ap answer_number c.in-Ok.is) in omega arith
 
-pub bounds-x2-i : goal.bounds-x2-i
-bounds-x2-i c = let h = inside (goal.at.bounds-x2-i c).After-row_number (ap answer_number c.in-Ok.is) in omega arith
+pub bounds-rows-i-in-Ok : goal.bounds-rows-i-in-Ok
+bounds-rows-i-in-Ok c = let h = inside (goal.at.bounds-rows-i-in-Ok c).After-row_number (ap answer_number c.in-Ok.is) in omega arith
 
-pub offset_bounds-x3-i : goal.offset_bounds-x3-i
-offset_bounds-x3-i c = let h = inside (goal.at.offset_bounds-x3-i c).After-row_number (ap answer_number c.in-Ok.is) in omega arith
+pub offset_bounds-rows-i-in-Ok-2 : goal.offset_bounds-rows-i-in-Ok-2
+offset_bounds-rows-i-in-Ok-2 c = let h = inside (goal.at.offset_bounds-rows-i-in-Ok-2 c).After-row_number (ap answer_number c.in-Ok.is) in omega arith
 
-pub bounds-x3-i : goal.bounds-x3-i
-bounds-x3-i c = let h = inside (goal.at.bounds-x3-i c).After-row_number (ap answer_number c.in-Ok.is) in omega arith
+pub bounds-rows-i-in-Ok-2 : goal.bounds-rows-i-in-Ok-2
+bounds-rows-i-in-Ok-2 c = let h = inside (goal.at.bounds-rows-i-in-Ok-2 c).After-row_number (ap answer_number c.in-Ok.is) in omega arith
 
-pub offset_bounds-index-i : goal.offset_bounds-index-i
-offset_bounds-index-i c = let h = inside (goal.at.offset_bounds-index-i c).After-row_number (ap answer_number c.in-Ok.is) in omega arith
+pub offset_bounds-rows-i-in-Ok-3 : goal.offset_bounds-rows-i-in-Ok-3
+offset_bounds-rows-i-in-Ok-3 c = let h = inside (goal.at.offset_bounds-rows-i-in-Ok-3 c).After-row_number (ap answer_number c.in-Ok.is) in omega arith
 
-pub bounds-index-i : goal.bounds-index-i
-bounds-index-i c = let h = inside (goal.at.bounds-index-i c).After-row_number (ap answer_number c.in-Ok.is) in omega arith
+pub bounds-rows-i-in-Ok-3 : goal.bounds-rows-i-in-Ok-3
+bounds-rows-i-in-Ok-3 c = let h = inside (goal.at.bounds-rows-i-in-Ok-3 c).After-row_number (ap answer_number c.in-Ok.is) in omega arith
 
-pub bounds-mark-i : goal.bounds-mark-i
-bounds-mark-i c = let h = inside (goal.at.bounds-mark-i c).After-row_number (ap answer_number c.in-Ok.is) in omega arith
+pub bounds-rows-i-in-Ok-4 : goal.bounds-rows-i-in-Ok-4
+bounds-rows-i-in-Ok-4 c = let h = inside (goal.at.bounds-rows-i-in-Ok-4 c).After-row_number (ap answer_number c.in-Ok.is) in omega arith
 
-pub offset_bounds-v-i : goal.offset_bounds-v-i
-offset_bounds-v-i c = let h = inside (goal.at.offset_bounds-v-i c).After-row_number (ap answer_number c.in-Ok.is) in omega arith
+pub offset_bounds-rows-i-in-Ok-4 : goal.offset_bounds-rows-i-in-Ok-4
+offset_bounds-rows-i-in-Ok-4 c = let h = inside (goal.at.offset_bounds-rows-i-in-Ok-4 c).After-row_number (ap answer_number c.in-Ok.is) in omega arith
 
-pub bounds-v-i : goal.bounds-v-i
-bounds-v-i c = let h = inside (goal.at.bounds-v-i c).After-row_number (ap answer_number c.in-Ok.is) in omega arith
+pub bounds-rows-i-in-Ok-5 : goal.bounds-rows-i-in-Ok-5
+bounds-rows-i-in-Ok-5 c = let h = inside (goal.at.bounds-rows-i-in-Ok-5 c).After-row_number (ap answer_number c.in-Ok.is) in omega arith
 
 pub returns-in-Ok : goal.returns-in-Ok
 unfolding row_of_run
 returns-in-Ok c =
     let i = c.args.i in
     let t = (goal.at.returns-in-Ok c).After-row_number in
-    let f1 : SFits w32 (get_or c.args.x1.now i (pos 0)) = search rules in
-    let f2 : SFits w32 (get_or c.args.x2.now i (pos 0)) = search rules in
-    let f3 : SFits w32 (get_or c.args.x3.now i (pos 0)) = search rules in
-    let f4 : SFits w32 (get_or c.args.index.now i (pos 0)) = search rules in
-    let f5 : SFits w64 (get_or c.args.v.now i (pos 0)) = search rules in
+    let f1 : SFits w32 (get_or c.args.rows.now.x1.now i (pos 0)) = search rules in
+    let f2 : SFits w32 (get_or c.args.rows.now.x2.now i (pos 0)) = search rules in
+    let f3 : SFits w32 (get_or c.args.rows.now.x3.now i (pos 0)) = search rules in
+    let f4 : SFits w32 (get_or c.args.rows.now.index.now i (pos 0)) = search rules in
+    let f5 : SFits w64 (get_or c.args.rows.now.v.now i (pos 0)) = search rules in
     rw (to_z-of_z f1, to_z-of_z f2, to_z-of_z f3, to_z-of_z f4, to_z-of_z f5, c.record_at-kept.ensures) (ap (by t) (ap answer_number (sym c.in-Ok.is) ∙ number_is t))

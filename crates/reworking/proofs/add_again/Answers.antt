@@ -9,6 +9,7 @@ use Rattle.runs.specs.Progress.{run_of}
 use Rattle.records.specs.Record.{record_at}
 use Rattle.records.specs.declared.Record.{Record}
 use Rattle.refusals.specs.Book.{book}
+use Rattle.refusals.specs.Lists.{held}
 use Rattle.adding.specs.Taken.{result_of}
 use Rattle.adding.specs.Progress.{added_of}
 use Rattle.reworking.specs.Workable.{Kept}
@@ -31,13 +32,13 @@ kind_fits m k = search held
 pub record_at-m-requires : goal.record_at-m-requires
 record_at-m-requires c =
     let a = c.args in
-    (placed (run_of a.at a.constants.now) (book a.x1.now a.x2.now a.x3.now a.index.now a.mark.now a.records.now a.v.now) c.requires.stands c.requires.months_in_bounds.0).0
+    (placed (run_of a.at a.constants.now) (held a.lists.now) c.requires.stands c.requires.months_in_bounds.0).0
 
 pub add_z-requires : goal.add_z-requires
 add_z-requires c =
     let a = c.args in
     let r = run_of a.at a.constants.now in
-    let cs = book a.x1.now a.x2.now a.x3.now a.index.now a.mark.now a.records.now a.v.now in
+    let cs = held a.lists.now in
     let w = watered r cs c.requires.stands in
     let k : Kept c.record_at-m.result = rw c.record_at-m.ensures c.requires.months_in_bounds.1 in
     let b = c.requires.months_in_bounds.0 in
@@ -51,7 +52,7 @@ pub returns-then-m-ne-HAD_WATER : goal.returns-then-m-ne-HAD_WATER
 returns-then-m-ne-HAD_WATER c =
     let a = c.args in
     let r = run_of a.at a.constants.now in
-    let cs = book a.x1.now a.x2.now a.x3.now a.index.now a.mark.now a.records.now a.v.now in
+    let cs = held a.lists.now in
     let k : Kept c.record_at-m.result = rw c.record_at-m.ensures c.requires.months_in_bounds.1 in
     let l = c.add_z.new in
     let t = result_of (added_of c.add_z.result a.constants.now) (book l.x1 l.x2 l.x3 l.index l.mark l.records l.v) in
@@ -77,7 +78,7 @@ pub add_measured-requires : goal.add_measured-requires
 add_measured-requires c =
     let a = c.args in
     let r = run_of a.at a.constants.now in
-    let cs = book a.x1.now a.x2.now a.x3.now a.index.now a.mark.now a.records.now a.v.now in
+    let cs = held a.lists.now in
     let k : Kept c.record_at-m.result = rw c.record_at-m.ensures c.requires.months_in_bounds.1 in
     let b = c.requires.months_in_bounds.0 in
     record {
@@ -87,11 +88,11 @@ add_measured-requires c =
       p_le_most_reading = (rw (to_z-of_z (p-fits _ k)) k.p, rw (to_z-of_z (pe-fits _ k)) k.pe);
     }
 
-pub returns : goal.returns
-returns c =
+pub returns-clause-outcome : goal.returns-clause-outcome
+returns-clause-outcome c =
     let a = c.args in
     let r = run_of a.at a.constants.now in
-    let cs = book a.x1.now a.x2.now a.x3.now a.index.now a.mark.now a.records.now a.v.now in
+    let cs = held a.lists.now in
     let k : Kept c.record_at-m.result = rw c.record_at-m.ensures c.requires.months_in_bounds.1 in
     let l = c.add_measured.new in
     let t = result_of (added_of c.add_measured.result a.constants.now) (book l.x1 l.x2 l.x3 l.index l.mark l.records l.v) in

@@ -23,6 +23,7 @@ use Rattle.refusals.specs.Book.{Book, book}
 use Rattle.refusals.specs.Good.{Good}
 use Rattle.refusals.specs.Refusals.{run_refusal}
 use Rattle.refusals.proofs.Refused.{run-passes}
+use Rattle.refusals.specs.Lists.{held}
 use Rattle.adding.specs.Taken.{result_of}
 use Rattle.adding.specs.Progress.{added_of, answer_of}
 use Rattle.adding.specs.declared.Added.{Added}
@@ -39,7 +40,7 @@ use Rattle.season.proofs.add_season.Goals.{After-season_refusal-asked, After-add
 
 -- ---- before the first month
 abbrev lent : After-season_refusal-asked → Book
-lent c = let a = c.args in book a.x1.now a.x2.now a.x3.now a.index.now a.mark.now a.records.now a.v.now
+lent c = let a = c.args in held a.lists.now
 
 -- what is asked and where the season begins, of the run at entry
 number_is : (c : After-season_refusal-asked) → answer_number c.season_refusal-asked.result ≡ season_refusal c.args.run c.args.p.now c.args.pe.now (lent c)
@@ -155,11 +156,11 @@ loop-i-preserved c =
       rw u (omega (arith, c.loop-i.invariant.3, n.0)),
     )
 
-pub returns : goal.returns
-returns c =
+pub returns-clause-outcome : goal.returns-clause-outcome
+returns-clause-outcome c =
     let a = c.args in
     let l = c.loop-i in
-    let t = (goal.at.returns c).After-season_refusal-asked in
+    let t = (goal.at.returns-clause-outcome c).After-season_refusal-asked in
     let z = ok-number c.season_refusal-asked.result (sym c.is_err.ensures.value ∙ c.if-is_err.false) in
     let now = book l.x1 l.x2 l.x3 l.index l.mark l.records l.v in
     whole t z _ (ap (λ (s : Season). season_result s now) c.season_of-2.ensures ∙ sym (ends a.p.now a.pe.now (passes t z).0 (season_result (season_of l.s 0 a.run.constants) now) l.i c.loop-i-test.false) ∙ l.invariant.0)

@@ -5,12 +5,13 @@ use borrow.Author.Tests.{eq-eqb, ne_eqb}
 use Rattle.runs.specs.Progress.{run_of}
 use Rattle.refusals.specs.Book.{Book, book}
 use Rattle.refusals.proofs.Lent.{lent-records, run_lent}
+use Rattle.refusals.specs.Lists.{read}
 use Rattle.season.specs.Season.{season_refusal}
 use Rattle.season.proofs.season_refusal.Goals as goal
 use Rattle.season.proofs.season_refusal.Goals.{After-lent_length-n}
 
 abbrev lent : After-lent_length-n → Book
-lent c = let a = c.args in book a.x1.now a.x2.now a.x3.now a.index.now a.mark.now a.records.now a.v.now
+lent c = let a = c.args in read a.rows.now
 
 pub returns-then-p-pe : goal.returns-then-p-pe
 unfolding season_refusal

@@ -6,7 +6,7 @@ use mir.Syntax.{w32, w64}
 use mir.Val.{SFits}
 use mir.Facts.{to_z-of_z}
 use Rattle.refusals.specs.Columns.{columns}
-use Rattle.refusals.specs.Book.{book}
+use Rattle.refusals.specs.Lists.{held}
 use Rattle.adding.proofs.Measured.{Measured, fit, measured, measured-is}
 use Rattle.taking.proofs.add_measured.Goals as goal
 use Rattle.taking.proofs.add_measured.Goals.{After-month_of-m}
@@ -42,15 +42,15 @@ watered-requires c =
     let p = c.requires.ready in
     (omega (arith, p.room, p.most), c.requires.watered.calendar)
 
-pub returns : goal.returns
-returns c =
+pub returns-clause-outcome : goal.returns-clause-outcome
+returns-clause-outcome c =
     let a = c.args in
-    let i = month-is (goal.at.returns c).After-month_of-m in
+    let i = month-is (goal.at.returns-clause-outcome c).After-month_of-m in
     let s = c.add_spells-s.result in
     let n = c.add_spells-s.new in
     let fm : SFits w32 s.modified = search rules in
     let fv : SFits w64 s.values.v = search rules in
-    measured-is a.at a.constants.now a.p a.pe a.kinds c.month_of-m.result i (book a.x1.now a.x2.now a.x3.now a.index.now a.mark.now a.records.now a.v.now) (columns n.x1 n.x2 n.x3 n.index n.mark) s
+    measured-is a.at a.constants.now a.p a.pe a.kinds c.month_of-m.result i (held a.lists.now) (columns n.x1 n.x2 n.x3 n.index n.mark) s
     (rw (to_z-of_z i.fits) at c.add_spells-s.ensures) _
     (rw (c.water_record-kept.ensures, to_z-of_z fm) at c.put.ensures) _
     (rw (to_z-of_z fv) at c.put_v.ensures) c.watered.result c.watered.ensures

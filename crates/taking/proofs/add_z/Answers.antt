@@ -8,7 +8,7 @@ use mir.Facts.{to_z-of_z}
 use Rattle.modified.specs.Modified.{modified_of}
 use Rattle.records.specs.Record.{z_record}
 use Rattle.refusals.specs.Columns.{columns}
-use Rattle.refusals.specs.Book.{book}
+use Rattle.refusals.specs.Lists.{held}
 use Rattle.adding.specs.Figures.{no_water}
 use Rattle.adding.proofs.Taken.{taken_is}
 use Rattle.taking.proofs.add_z.Goals as goal
@@ -30,8 +30,8 @@ month_added-requires c =
     let p = c.requires.ready in
     (omega (arith, p.room, p.most), c.requires.z_bound.1)
 
-pub returns : goal.returns
-returns c =
+pub returns-clause-outcome : goal.returns-clause-outcome
+returns-clause-outcome c =
     let a = c.args in
     let f = c.ranges.z in
     let s = c.add_spells-s.result in
@@ -42,7 +42,7 @@ returns c =
     let told = rw (to_z-of_z f) at c.add_spells-s.ensures in
     let d : c.default-water.result ≡ no_water = search rules in
     λ k. rw (c.month_added.ensures, d, to_z-of_z f)
-    (taken_is a.at a.at.soil no_water a.z (z_record a.at.soil a.z (modified_of a.at.values a.z)) (book a.x1.now a.x2.now a.x3.now a.index.now a.mark.now a.records.now a.v.now) s (columns n.x1 n.x2 n.x3 n.index n.mark) _ _
+    (taken_is a.at a.at.soil no_water a.z (z_record a.at.soil a.z (modified_of a.at.values a.z)) (held a.lists.now) s (columns n.x1 n.x2 n.x3 n.index n.mark) _ _
     told
     (rw (c.z_record-kept.ensures, to_z-of_z f, to_z-of_z fm, told.modified_is) at c.put.ensures)
     (rw (to_z-of_z fv) at c.put_v.ensures) k)
