@@ -19,11 +19,12 @@ use Rattle.outline.proofs.Refused.{number-ne-zero}
 use Rattle.outline.specs.Refusals.{bad_lists}
 use Rattle.outline.proofs.Tests.{cond-zero}
 use Rattle.outline.proofs.Refusals.{or-zero, is-done, is-refused}
-use Rattle.refusals.specs.Book.{Book, book}
+use Rattle.refusals.specs.Book.{Book}
 use Rattle.refusals.specs.Good.{Good}
 use Rattle.refusals.specs.Refusals.{run_refusal}
 use Rattle.refusals.proofs.Refused.{run-passes}
 use Rattle.refusals.specs.Lists.{held}
+use Rattle.refusals.proofs.Same.{same-lists, same-then}
 use Rattle.adding.specs.Taken.{result_of}
 use Rattle.adding.specs.Progress.{added_of, answer_of}
 use Rattle.adding.specs.declared.Added.{Added}
@@ -44,15 +45,15 @@ lent c = let a = c.args in held a.lists.now
 
 -- what is asked and where the season begins, of the run at entry
 number_is : (c : After-season_refusal-asked) → answer_number c.season_refusal-asked.result ≡ season_refusal c.args.run c.args.p.now c.args.pe.now (lent c)
-number_is c = rw c.progress_of-at.ensures at c.season_refusal-asked.ensures
+number_is c = rw (c.progress_of-at.ensures, c.rows.ensures) at c.season_refusal-asked.ensures
 
 begins : (c : After-season_refusal-asked) → c.nothing_added-s.result ≡ begun (progress_of c.args.run)
 begins c = c.nothing_added-s.ensures ∙ ap begun c.progress_of-at.ensures
 
-pub returns-then-is_err : goal.returns-then-is_err
+pub returns-then-is_err-clause-outcome : goal.returns-then-is_err-clause-outcome
 unfolding add_season
-returns-then-is_err c =
-    let t = (goal.at.returns-then-is_err c).After-season_refusal-asked in
+returns-then-is_err-clause-outcome c =
+    let t = (goal.at.returns-then-is_err-clause-outcome c).After-season_refusal-asked in
     let e = number_is t in
     let n = err-number c.season_refusal-asked.result (sym c.is_err.ensures.value ∙ c.if-is_err.true) in
     rw (c.season_of.ensures, begins t) (ap (λ (k : ℕ). season_result (nothing k c.args.run) (lent t)) e ∙ sym (is-refused (season_refusal c.args.run c.args.p.now c.args.pe.now (lent t)) _ _ (λ z. n (e ∙ z))))
@@ -77,7 +78,7 @@ loop-i-init c =
     let n = begins t in
     let g = (passes t z).1 in
     let f = run_is c.args.run (lent t) g in
-    (refl, rw n g, rw n (omega (arith, f.opens)), rw n (omega arith))
+    (refl, rw n g, rw n (omega (arith, f.opens)), rw n (omega arith), same-lists _)
 
 pub bounds-pe-i : goal.bounds-pe-i
 bounds-pe-i c =
@@ -90,11 +91,11 @@ add_listed-month-requires c = c.loop-i.invariant.1
 
 -- ---- a pass
 abbrev so_far : After-add_listed-month → Book
-so_far c = let l = c.loop-i in book l.x1 l.x2 l.x3 l.index l.mark l.records l.v
+so_far c = held c.loop-i.lists
 
 -- what the single add has left
 abbrev then : After-add_listed-month → Book
-then c = let n = c.add_listed-month.new in book n.x1 n.x2 n.x3 n.index n.mark n.records n.v
+then c = held c.add_listed-month.new.lists
 
 -- and what it answered
 abbrev answered : After-add_listed-month → Added
@@ -108,13 +109,13 @@ alone : (c : After-add_listed-month) → result_of (answered c) (then c) ≡ sin
 alone c =
     let f : SFits w32 (get_or c.args.p.now c.loop-i.i (pos 0)) = search rules in
     let g : SFits w32 (get_or c.args.pe.now c.loop-i.i (pos 0)) = search rules in
-    rw (to_z-of_z f, to_z-of_z g) at c.add_listed-month.ensures
+    rw (to_z-of_z f, to_z-of_z g) at c.add_listed-month.ensures.outcome
 
 -- a month that is refused
-pub returns-in-Err : goal.returns-in-Err
-returns-in-Err c =
-    let t = (goal.at.returns-in-Err c).After-season_refusal-asked in
-    let m = (goal.at.returns-in-Err c).After-add_listed-month in
+pub returns-in-Err-clause-outcome : goal.returns-in-Err-clause-outcome
+returns-in-Err-clause-outcome c =
+    let t = (goal.at.returns-in-Err-clause-outcome c).After-season_refusal-asked in
+    let m = (goal.at.returns-in-Err-clause-outcome c).After-add_listed-month in
     let z = ok-number c.season_refusal-asked.result (sym c.is_err.ensures.value ∙ c.if-is_err.false) in
     let e = c.in-Err.refusal in
     let is : answered m ≡ answer_of (Err e) c.loop-i.s.progress c.args.run.constants = ap (λ (r : Result MonthAdded Refusal). answer_of r c.loop-i.s.progress c.args.run.constants) c.in-Err.is in
@@ -154,6 +155,7 @@ loop-i-preserved c =
       rw u (rw w at (good-joined a.p.now a.pe.now e (before k) (so_far k) c.loop-i.i c.loop-i-test.true (answered k) (then k) (alone k) o)),
       rw u (omega (arith, c.loop-i.invariant.2, n.0, n.1)),
       rw u (omega (arith, c.loop-i.invariant.3, n.0)),
+      same-then c.loop-i.invariant.4 c.add_listed-month.ensures.same,
     )
 
 pub returns-clause-outcome : goal.returns-clause-outcome
@@ -162,5 +164,5 @@ returns-clause-outcome c =
     let l = c.loop-i in
     let t = (goal.at.returns-clause-outcome c).After-season_refusal-asked in
     let z = ok-number c.season_refusal-asked.result (sym c.is_err.ensures.value ∙ c.if-is_err.false) in
-    let now = book l.x1 l.x2 l.x3 l.index l.mark l.records l.v in
+    let now = held l.lists in
     whole t z _ (ap (λ (s : Season). season_result s now) c.season_of-2.ensures ∙ sym (ends a.p.now a.pe.now (passes t z).0 (season_result (season_of l.s 0 a.run.constants) now) l.i c.loop-i-test.false) ∙ l.invariant.0)

@@ -3,7 +3,7 @@ use mathlib.Core.Path.{◌∙◌}
 use lib.ListN.{length}
 use borrow.Author.Tests.{eq-eqb, ne_eqb}
 use Rattle.runs.specs.Progress.{run_of}
-use Rattle.refusals.specs.Book.{Book, book}
+use Rattle.refusals.specs.Book.{Book}
 use Rattle.refusals.proofs.Lent.{lent-records, run_lent}
 use Rattle.refusals.specs.Lists.{read}
 use Rattle.season.specs.Season.{season_refusal}

@@ -6,4 +6,4 @@ pub returns-clause-outcome : goal.returns-clause-outcome
 returns-clause-outcome c =
     let f = c.ranges.p in
     let g = c.ranges.pe in
-    rw (c.reading_of-first.ensures, c.reading_of-second.ensures, to_z-of_z f, to_z-of_z g) at c.add_readings.ensures
+    rw (c.reading_of-first.ensures, c.reading_of-second.ensures, to_z-of_z f, to_z-of_z g) at c.add_readings.ensures.outcome
