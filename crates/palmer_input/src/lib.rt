@@ -15,6 +15,7 @@ use lines::Line;
 use outline::{MANY_CONSTANTS, Refusal};
 use ranges::LEAST_CAPACITY;
 use records::RecordNumbers;
+use refusals::Lists;
 use runs::Run;
 
 // What has been read: the line so far, the refusal that ended the reading, and the run.
@@ -145,17 +146,16 @@ impl<const N: usize> Heard<N> {
         ensures { state_of self.new ≡ with_z self.old.session.run z (columns_of self.old) self.old.percent }
     {
         let at = self.session.run.months as usize;
-        let a = drought::add_z(
-            self.session.run,
-            z,
-            &mut self.x1,
-            &mut self.x2,
-            &mut self.x3,
-            &mut self.index,
-            &mut self.mark,
-            &mut self.records,
-            &mut self.v,
-        );
+        let mut lists = Lists {
+            x1: &mut self.x1,
+            x2: &mut self.x2,
+            x3: &mut self.x3,
+            index: &mut self.index,
+            mark: &mut self.mark,
+            records: &mut self.records,
+            v: &mut self.v,
+        };
+        let a = drought::add_z(self.session.run, z, &mut lists);
         let refused = refusal_of(a.number);
         put_percent(refused, at, a.figures.percent, &mut self.percent);
         self.session = after_line(refused, a.run);

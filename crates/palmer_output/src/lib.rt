@@ -10,6 +10,7 @@ ghost use Rattle.palmer_output.specs.Printed.{percent_at, row_at};
 ghost use Rattle.palmer_output.specs.Output.{all_rows, line_after, laid_out, room};
 
 use palmer_input::Heard;
+use refusals::Rows;
 use rows::{MOST_ROW, Row};
 
 // The most months that the program holds, one a line: its columns are so long.
@@ -40,17 +41,16 @@ fn put_row<const N: usize>(heard: &Heard<N>, i: u32, at: usize, out: &mut [u8]) 
     ensures value { result ≡ at + length (row_text (row_at heard.now.session.run i (columns_of heard.now) heard.now.percent)) }
     ensures out_after { out.new ≡ laid (row_text (row_at heard.now.session.run i (columns_of heard.now) heard.now.percent)) at out.old }
 {
-    let shown = drought::row(
-        heard.session.run,
-        i as usize,
-        &heard.x1,
-        &heard.x2,
-        &heard.x3,
-        &heard.index,
-        &heard.mark,
-        &heard.records,
-        &heard.v,
-    );
+    let rows = Rows {
+        x1: &heard.x1,
+        x2: &heard.x2,
+        x3: &heard.x3,
+        index: &heard.index,
+        mark: &heard.mark,
+        records: &heard.records,
+        v: &heard.v,
+    };
+    let shown = drought::row(heard.session.run, i as usize, &rows);
     let row = Row {
         month: i + 1,
         x1: shown.x1,

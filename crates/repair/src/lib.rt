@@ -9,13 +9,13 @@
 ghost use Rattle.std.specs.Prelude.{◌≡◌};
 ghost use Rattle.outline.specs.Refused.{answer_number};
 ghost use Rattle.runs.specs.Progress.{run_of};
+ghost use Rattle.refusals.specs.Book.{book};
 ghost use Rattle.repair.specs.Repair.{repair_result, repair_refusal, repair};
 ghost use Rattle.repair.specs.Tried.{repaired_of};
-ghost use Rattle.refusals.specs.Lists.{held, read, SameLists};
 
 use door::Reading;
 use outline::{MANY_CONSTANTS, Refusal};
-use refusals::{Lists, Rows};
+use records::RecordNumbers;
 use report::ChangeNumbers;
 use runs::{Progress, Run};
 
@@ -44,15 +44,22 @@ pub fn repair(
     i: usize,
     p: Reading,
     pe: Reading,
-    lists: &mut Lists,
+    x1: &mut [i32],
+    x2: &mut [i32],
+    x3: &mut [i32],
+    index: &mut [i32],
+    mark: &mut [u8],
+    records: &mut [RecordNumbers],
+    v: &mut [i64],
     report: &mut [ChangeNumbers],
 ) -> Repaired
-    ensures same { SameLists lists.old lists.new }
-    ensures outcome { repair_result result (held lists.new) report.new ≡ repair run i p pe (held lists.old) report.old }
+    ensures { repair_result result (book x1.new x2.new x3.new index.new mark.new records.new v.new) report.new ≡ repair run i p pe (book x1.old x2.old x3.old index.old mark.old records.old v.old) report.old }
 {
     let at = runs::progress_of(run);
     let constants = run.constants;
-    let t = try_repair(at, &constants, i, p, pe, lists, report);
+    let t = try_repair(
+        at, &constants, i, p, pe, x1, x2, x3, index, mark, records, v, report,
+    );
     repaired_of(t, at, constants)
 }
 
@@ -85,17 +92,22 @@ fn try_repair(
     i: usize,
     p: Reading,
     pe: Reading,
-    lists: &mut Lists,
+    x1: &mut [i32],
+    x2: &mut [i32],
+    x3: &mut [i32],
+    index: &mut [i32],
+    mark: &mut [u8],
+    records: &mut [RecordNumbers],
+    v: &mut [i64],
     report: &mut [ChangeNumbers],
 ) -> Result<Tried, Refusal>
-    ensures same { SameLists lists.old lists.new }
-    ensures outcome { repair_result (repaired_of result at constants.now) (held lists.new) report.new ≡ repair (run_of at constants.now) i p pe (held lists.old) report.old }
+    ensures { repair_result (repaired_of result at constants.now) (book x1.new x2.new x3.new index.new mark.new records.new v.new) report.new ≡ repair (run_of at constants.now) i p pe (book x1.old x2.old x3.old index.old mark.old records.old v.old) report.old }
 {
     let long = report.len();
-    repair_refusal(at, constants, i, &lists.rows(), long)?;
+    repair_refusal(at, constants, i, x1, x2, x3, index, mark, records, v, long)?;
     let first = door::read(p)?;
     let second = door::read(pe)?;
-    report::hold(lists.index, lists.mark, report);
+    report::hold(index, mark, report);
     let s = reworking::rework(
         at,
         constants,
@@ -103,9 +115,15 @@ fn try_repair(
         first.water(),
         second.water(),
         first.kind().number(),
-        lists,
+        x1,
+        x2,
+        x3,
+        index,
+        mark,
+        records,
+        v,
     );
-    let k = report::tell(lists.index, lists.mark, at.months as usize, report);
+    let k = report::tell(index, mark, at.months as usize, report);
     Ok(Tried {
         changed: k as u32,
         progress: s,
@@ -117,24 +135,48 @@ fn repair_refusal(
     at: Progress,
     constants: &[i32; MANY_CONSTANTS],
     i: usize,
-    rows: &Rows,
+    x1: &[i32],
+    x2: &[i32],
+    x3: &[i32],
+    index: &[i32],
+    mark: &[u8],
+    records: &[RecordNumbers],
+    v: &[i64],
     n: usize,
 ) -> Result<(), Refusal>
-    ensures { answer_number result ≡ repair_refusal (run_of at constants.now) i 0 0 (read rows.now) n }
+    ensures { answer_number result ≡ repair_refusal (run_of at constants.now) i 0 0 (book x1.now x2.now x3.now index.now mark.now records.now v.now) n }
 {
-    let long = rows.lent_length();
+    let long = refusals::lent_length(
+        x1.len(),
+        x2.len(),
+        x3.len(),
+        index.len(),
+        mark.len(),
+        records.len(),
+        v.len(),
+    );
     if n != long {
         return Err(Refusal::BadLists);
     }
-    refusals::run_refusal(long, at, constants, rows.records)?;
+    refusals::run_refusal(long, at, constants, records)?;
     let soil = at.soil;
-    if !kept_rows::rows_fit(soil.capacity, at.months, rows) {
+    if !kept_rows::rows_fit(
+        soil.capacity,
+        at.months,
+        x1,
+        x2,
+        x3,
+        index,
+        mark,
+        records,
+        v,
+    ) {
         return Err(Refusal::NotARun);
     }
     if i >= at.months as usize {
         return Err(Refusal::NoSuchRow);
     }
-    let m = records::record_at(rows.records, i);
+    let m = records::record_at(records, i);
     if m.water != HAD_WATER {
         return Err(Refusal::Waterless);
     }

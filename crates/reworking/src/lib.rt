@@ -8,11 +8,11 @@ ghost use Rattle.door.specs.Outcome.{measured};
 ghost use Rattle.door.specs.Readings.{most_reading};
 ghost use Rattle.runs.specs.Progress.{run_of};
 ghost use Rattle.records.specs.Record.{numbers_of, record_at};
+ghost use Rattle.refusals.specs.Book.{book};
 ghost use Rattle.adding.specs.Taken.{result_of};
 ghost use Rattle.adding.specs.Progress.{added_of};
 ghost use Rattle.reworking.specs.Reworked.{left, again, renewed, reworked_from};
 ghost use Rattle.reworking.specs.Workable.{Workable, Stands, Kept};
-ghost use Rattle.refusals.specs.Lists.{held, SameLists};
 
 use adding::MonthAdded;
 use door::MonthKinds;
@@ -32,35 +32,23 @@ pub fn rework(
     p: u32,
     pe: u32,
     kind: u8,
-    lists: &mut Lists,
+    x1: &mut [i32],
+    x2: &mut [i32],
+    x3: &mut [i32],
+    index: &mut [i32],
+    mark: &mut [u8],
+    records: &mut [RecordNumbers],
+    v: &mut [i64],
 ) -> Progress
-    requires workable { Workable (run_of at constants.now) (held lists.old) i }
+    requires workable { Workable (run_of at constants.now) (book x1.old x2.old x3.old index.old mark.old records.old v.old) i }
     requires p_le_most_reading { (p ≤ most_reading) × (pe ≤ most_reading) × (kind ≤ measured) }
-    ensures same { SameLists lists.old lists.new }
-    ensures outcome { left (run_of result constants.now) (held lists.new) ≡ reworked_from (run_of at constants.now) i p pe kind (held lists.old) }
+    ensures { left (run_of result constants.now) (book x1.new x2.new x3.new index.new mark.new records.new v.new) ≡ reworked_from (run_of at constants.now) i p pe kind (book x1.old x2.old x3.old index.old mark.old records.old v.old) }
 {
-    let opens = reopening::reopen(
-        i as usize,
-        lists.x1,
-        lists.x2,
-        lists.x3,
-        lists.index,
-        lists.mark,
-        lists.v,
-    );
-    let mut s = reopening::run_before(
-        at,
-        i,
-        opens as u32,
-        lists.x1,
-        lists.x2,
-        lists.x3,
-        lists.records,
-        lists.v,
-    );
-    renew(i as usize, p, pe, kind, lists.records);
+    let opens = reopening::reopen(i as usize, x1, x2, x3, index, mark, v);
+    let mut s = reopening::run_before(at, i, opens as u32, x1, x2, x3, records, v);
+    renew(i as usize, p, pe, kind, records);
     for _ in i..at.months {
-        let t = add_again(s, constants, lists);
+        let t = add_again(s, constants, x1, x2, x3, index, mark, records, v);
         s = t.progress;
     }
     s
@@ -93,19 +81,37 @@ fn renew(i: usize, p: u32, pe: u32, kind: u8, records: &mut [RecordNumbers])
 }
 
 // The run's next month again, from the record that stands at its place.
-fn add_again(at: Progress, constants: &[i32; MANY_CONSTANTS], lists: &mut Lists) -> MonthAdded
-    requires stands { Stands (run_of at constants.now) (held lists.old) }
-    requires months_in_bounds { (at.months < length lists.old.x1.now) × Kept (record_at lists.old.records.now at.months) }
-    ensures same { SameLists lists.old lists.new }
-    ensures outcome { result_of (added_of result constants.now) (held lists.new) ≡ again (run_of at constants.now) (record_at lists.old.records.now at.months) (held lists.old) }
+fn add_again(
+    at: Progress,
+    constants: &[i32; MANY_CONSTANTS],
+    x1: &mut [i32],
+    x2: &mut [i32],
+    x3: &mut [i32],
+    index: &mut [i32],
+    mark: &mut [u8],
+    records: &mut [RecordNumbers],
+    v: &mut [i64],
+) -> MonthAdded
+    requires stands { Stands (run_of at constants.now) (book x1.old x2.old x3.old index.old mark.old records.old v.old) }
+    requires months_in_bounds { (at.months < length x1.old) × Kept (record_at records.old at.months) }
+    ensures { result_of (added_of result constants.now) (book x1.new x2.new x3.new index.new mark.new records.new v.new) ≡ again (run_of at constants.now) (record_at records.old at.months) (book x1.old x2.old x3.old index.old mark.old records.old v.old) }
 {
-    let m = records::record_at(lists.records, at.months as usize);
+    let m = records::record_at(records, at.months as usize);
+    let mut lists = Lists {
+        x1,
+        x2,
+        x3,
+        index,
+        mark,
+        records,
+        v,
+    };
     if m.water != HAD_WATER {
-        return taking::add_z(at, m.z, lists);
+        return taking::add_z(at, m.z, &mut lists);
     }
     let kinds = MonthKinds {
         p: m.kind as u8,
         pe: 0,
     };
-    taking::add_measured(at, constants, m.p as u32, m.pe as u32, kinds, lists)
+    taking::add_measured(at, constants, m.p as u32, m.pe as u32, kinds, &mut lists)
 }

@@ -14,7 +14,6 @@ use Rattle.refusals.specs.Refusals.{run_refusal}
 use Rattle.refusals.specs.Lent.{lent_long}
 use Rattle.refusals.proofs.Refused.{run-passes, columns_are}
 use Rattle.refusals.proofs.Lent.{lent-records, run_lent}
-use Rattle.refusals.specs.Lists.{read}
 use Rattle.adding.proofs.Readiness.{run_is}
 use Rattle.repair.proofs.Passes.{with-water, without-water, lists-refuse, run-refuses, rows-refuse, row-refuses, water-refuses, readings-refuse}
 use Rattle.repair.proofs.repair_refusal.Goals as goal
@@ -23,20 +22,20 @@ pub returns-then-n-long : goal.returns-then-n-long
 returns-then-n-long c =
     let a = c.args in
     let r = run_of a.at a.constants.now in
-    let cs = read a.rows.now in
+    let cs = book a.x1.now a.x2.now a.x3.now a.index.now a.mark.now a.records.now a.v.now in
     let l = c.lent_length-long.ensures in
     lists-refuse r a.i cs a.n 0 (λ e. c.if-n-long.true (e ∙ sym l))
 
 pub run_refusal-requires : goal.run_refusal-requires
 run_refusal-requires c =
     let a = c.args in
-    rw c.lent_length-long.ensures (lent-records (read a.rows.now))
+    rw c.lent_length-long.ensures (lent-records (book a.x1.now a.x2.now a.x3.now a.index.now a.mark.now a.records.now a.v.now))
 
 pub returns-in_err-run_refusal : goal.returns-in_err-run_refusal
 returns-in_err-run_refusal c =
     let a = c.args in
     let r = run_of a.at a.constants.now in
-    let cs = read a.rows.now in
+    let cs = book a.x1.now a.x2.now a.x3.now a.index.now a.mark.now a.records.now a.v.now in
     let long_is : a.n ≡ lent_long cs = omega (arith, c.if-n-long.false, c.lent_length-long.ensures) in
     let p = err_from_is_err_and c.from_residual.result c.from_residual.ensures.1 in
     let number_is = (rw c.lent_length-long.ensures at c.in_err-run_refusal.ensures) ∙ run_lent cs r in
@@ -47,7 +46,7 @@ pub rows_fit-requires : goal.rows_fit-requires
 rows_fit-requires c =
     let a = c.args in
     let r = run_of a.at a.constants.now in
-    let cs = read a.rows.now in
+    let cs = book a.x1.now a.x2.now a.x3.now a.index.now a.mark.now a.records.now a.v.now in
     let number_is : 0 ≡ run_refusal r cs = (rw c.lent_length-long.ensures at c.in_ok-run_refusal.ensures) ∙ run_lent cs r in
     let good = run-passes r cs (sym number_is) in
     let l = columns_are cs good.fit in
@@ -61,7 +60,7 @@ pub returns-then-not-rows_fit : goal.returns-then-not-rows_fit
 returns-then-not-rows_fit c =
     let a = c.args in
     let r = run_of a.at a.constants.now in
-    let cs = read a.rows.now in
+    let cs = book a.x1.now a.x2.now a.x3.now a.index.now a.mark.now a.records.now a.v.now in
     let long_is : a.n ≡ lent_long cs = omega (arith, c.if-n-long.false, c.lent_length-long.ensures) in
     let number_is : 0 ≡ run_refusal r cs = (rw c.lent_length-long.ensures at c.in_ok-run_refusal.ensures) ∙ run_lent cs r in
     let good = run-passes r cs (sym number_is) in
@@ -72,7 +71,7 @@ pub returns-then-i-at : goal.returns-then-i-at
 returns-then-i-at c =
     let a = c.args in
     let r = run_of a.at a.constants.now in
-    let cs = read a.rows.now in
+    let cs = book a.x1.now a.x2.now a.x3.now a.index.now a.mark.now a.records.now a.v.now in
     let long_is : a.n ≡ lent_long cs = omega (arith, c.if-n-long.false, c.lent_length-long.ensures) in
     let number_is : 0 ≡ run_refusal r cs = (rw c.lent_length-long.ensures at c.in_ok-run_refusal.ensures) ∙ run_lent cs r in
     let good = run-passes r cs (sym number_is) in
@@ -83,7 +82,7 @@ pub record_at-m-requires : goal.record_at-m-requires
 record_at-m-requires c =
     let a = c.args in
     let r = run_of a.at a.constants.now in
-    let cs = read a.rows.now in
+    let cs = book a.x1.now a.x2.now a.x3.now a.index.now a.mark.now a.records.now a.v.now in
     let number_is : 0 ≡ run_refusal r cs = (rw c.lent_length-long.ensures at c.in_ok-run_refusal.ensures) ∙ run_lent cs r in
     let good = run-passes r cs (sym number_is) in
     omega (arith, c.if-i-at.false, (run_is r cs good).months, (columns_are cs good.fit).records_is)
@@ -93,7 +92,7 @@ pub returns-then-m-ne-HAD_WATER : goal.returns-then-m-ne-HAD_WATER
 returns-then-m-ne-HAD_WATER c =
     let a = c.args in
     let r = run_of a.at a.constants.now in
-    let cs = read a.rows.now in
+    let cs = book a.x1.now a.x2.now a.x3.now a.index.now a.mark.now a.records.now a.v.now in
     let long_is : a.n ≡ lent_long cs = omega (arith, c.if-n-long.false, c.lent_length-long.ensures) in
     let number_is : 0 ≡ run_refusal r cs = (rw c.lent_length-long.ensures at c.in_ok-run_refusal.ensures) ∙ run_lent cs r in
     let good = run-passes r cs (sym number_is) in
@@ -106,7 +105,7 @@ pub returns : goal.returns
 returns c =
     let a = c.args in
     let r = run_of a.at a.constants.now in
-    let cs = read a.rows.now in
+    let cs = book a.x1.now a.x2.now a.x3.now a.index.now a.mark.now a.records.now a.v.now in
     let long_is : a.n ≡ lent_long cs = omega (arith, c.if-n-long.false, c.lent_length-long.ensures) in
     let number_is : 0 ≡ run_refusal r cs = (rw c.lent_length-long.ensures at c.in_ok-run_refusal.ensures) ∙ run_lent cs r in
     let good = run-passes r cs (sym number_is) in

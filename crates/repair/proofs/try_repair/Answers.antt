@@ -14,7 +14,6 @@ use Rattle.drought.proofs.Readings.{amount-number}
 use Rattle.runs.specs.Progress.{run_of}
 use Rattle.refusals.specs.Book.{book}
 use Rattle.refusals.proofs.Refused.{columns_are}
-use Rattle.refusals.specs.Lists.{held}
 use Rattle.adding.proofs.Readiness.{run_is}
 use Rattle.reworking.specs.Reworked.{left, reworked_from}
 use Rattle.repair.specs.Repair.{repair}
@@ -33,7 +32,7 @@ unfolding repair
 returns-in_err-repair_refusal c =
     let a = c.args in
     let r = run_of a.at a.constants.now in
-    let cs = held a.lists.now in
+    let cs = book a.x1.now a.x2.now a.x3.now a.index.now a.mark.now a.records.now a.v.now in
     let p = err_from_is_err_and c.from_residual.result c.from_residual.ensures.1 in
     rw (p.1, p.2) (first-refuses r a.i (reading a.p) (reading a.pe) cs a.report.now _ c.in_err-repair_refusal.ensures)
 
@@ -42,7 +41,7 @@ unfolding repair
 returns-in_err-first c =
     let a = c.args in
     let r = run_of a.at a.constants.now in
-    let cs = held a.lists.now in
+    let cs = book a.x1.now a.x2.now a.x3.now a.index.now a.mark.now a.records.now a.v.now in
     let p = err_from_is_err_and c.from_residual-in_err-first.result c.from_residual-in_err-first.ensures.1 in
     rw (p.1, p.2) (p-refuses r a.i (reading a.p) (reading a.pe) cs a.report.now c.in_ok-repair_refusal.ensures _ c.in_err-first.ensures)
 
@@ -51,7 +50,7 @@ unfolding repair
 returns-in_err-second c =
     let a = c.args in
     let r = run_of a.at a.constants.now in
-    let cs = held a.lists.now in
+    let cs = book a.x1.now a.x2.now a.x3.now a.index.now a.mark.now a.records.now a.v.now in
     let p = err_from_is_err_and c.from_residual-in_err-second.result c.from_residual-in_err-second.ensures.1 in
     rw (p.1, p.2)
     (pe-refuses r a.i (reading a.p) (reading a.pe) cs a.report.now c.in_ok-repair_refusal.ensures (is-water a.p c.in_ok-first.first c.in_ok-first.ensures) _ c.in_err-second.ensures)
@@ -62,7 +61,7 @@ pub hold-requires : goal.hold-requires
 hold-requires c =
     let a = c.args in
     let r = run_of a.at a.constants.now in
-    let cs = held a.lists.now in
+    let cs = book a.x1.now a.x2.now a.x3.now a.index.now a.mark.now a.records.now a.v.now in
     let able = passes r a.i cs (length a.report.now) 0 0 (sym c.in_ok-repair_refusal.ensures) in
     let lengths = columns_are cs able.0.good.fit in
     (omega (arith, able.1, lengths.index_is), omega (arith, able.1, lengths.mark_is), omega (arith, able.1, lengths.most))
@@ -71,7 +70,7 @@ pub overflow_cast-i : goal.overflow_cast-i
 overflow_cast-i c =
     let a = c.args in
     let r = run_of a.at a.constants.now in
-    let cs = held a.lists.now in
+    let cs = book a.x1.now a.x2.now a.x3.now a.index.now a.mark.now a.records.now a.v.now in
     let able = passes r a.i cs (length a.report.now) 0 0 (sym c.in_ok-repair_refusal.ensures) in
     let lengths = columns_are cs able.0.good.fit in
     let f = run_is r cs able.0.good in
@@ -81,7 +80,7 @@ pub rework-s-requires : goal.rework-s-requires
 rework-s-requires c =
     let a = c.args in
     let r = run_of a.at a.constants.now in
-    let cs = held a.lists.now in
+    let cs = book a.x1.now a.x2.now a.x3.now a.index.now a.mark.now a.records.now a.v.now in
     let able = passes r a.i cs (length a.report.now) 0 0 (sym c.in_ok-repair_refusal.ensures) in
     record {
       workable = able.0;
@@ -92,7 +91,7 @@ pub tell-k-requires : goal.tell-k-requires
 tell-k-requires c =
     let a = c.args in
     let r = run_of a.at a.constants.now in
-    let cs = held a.lists.now in
+    let cs = book a.x1.now a.x2.now a.x3.now a.index.now a.mark.now a.records.now a.v.now in
     let able = passes r a.i cs (length a.report.now) 0 0 (sym c.in_ok-repair_refusal.ensures) in
     let lengths = columns_are cs able.0.good.fit in
     let f = run_is r cs able.0.good in
@@ -104,7 +103,7 @@ pub overflow_cast-result : goal.overflow_cast-result
 overflow_cast-result c =
     let a = c.args in
     let r = run_of a.at a.constants.now in
-    let cs = held a.lists.now in
+    let cs = book a.x1.now a.x2.now a.x3.now a.index.now a.mark.now a.records.now a.v.now in
     let able = passes r a.i cs (length a.report.now) 0 0 (sym c.in_ok-repair_refusal.ensures) in
     let lengths = columns_are cs able.0.good.fit in
     let f = run_is r cs able.0.good in
@@ -114,12 +113,12 @@ overflow_cast-result c =
     let m = since-most r a.i (reading a.p) (reading a.pe) cs a.report.now c.hold.new.report c.hold.ensures months-fit left_by in
     record { fits = omega (arith, m, c.tell-k.ensures.value, f.months, lengths.most) }
 
-pub returns-clause-outcome : goal.returns-clause-outcome
+pub returns : goal.returns
 unfolding repair
-returns-clause-outcome c =
+returns c =
     let a = c.args in
     let r = run_of a.at a.constants.now in
-    let cs = held a.lists.now in
+    let cs = book a.x1.now a.x2.now a.x3.now a.index.now a.mark.now a.records.now a.v.now in
     let able = passes r a.i cs (length a.report.now) 0 0 (sym c.in_ok-repair_refusal.ensures) in
     let lengths = columns_are cs able.0.good.fit in
     let f = run_is r cs able.0.good in

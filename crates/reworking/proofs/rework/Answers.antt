@@ -7,7 +7,6 @@ use Rattle.runs.specs.Progress.{run_of}
 use Rattle.runs.specs.declared.Run.{Run}
 use Rattle.records.specs.Record.{record_at}
 use Rattle.refusals.specs.Book.{book, long}
-use Rattle.refusals.specs.Lists.{held}
 use Rattle.adding.specs.Progress.{added_of}
 use Rattle.adding.specs.Taken.{result_of}
 use Rattle.reopening.proofs.Laws.{opens-most}
@@ -21,7 +20,7 @@ pub reopen-opens-requires : goal.reopen-opens-requires
 reopen-opens-requires c =
     let a = c.args in
     let r = run_of a.at a.constants.now in
-    let cs = held a.lists.now in
+    let cs = book a.x1.now a.x2.now a.x3.now a.index.now a.mark.now a.records.now a.v.now in
     let w = c.requires.workable in
     let l = lengths r cs a.i w in
     let f = run_fits r cs a.i w in
@@ -36,17 +35,17 @@ pub overflow_cast-opens : goal.overflow_cast-opens
 overflow_cast-opens c =
     let a = c.args in
     let r = run_of a.at a.constants.now in
-    let cs = held a.lists.now in
+    let cs = book a.x1.now a.x2.now a.x3.now a.index.now a.mark.now a.records.now a.v.now in
     let w = c.requires.workable in
     let l = lengths r cs a.i w in
     let f = run_fits r cs a.i w in
-    record { fits = omega (arith, c.reopen-opens.ensures.value a.lists.now.records.now, opens-most cs a.i, w.row, f.months, l.most) }
+    record { fits = omega (arith, c.reopen-opens.ensures.value a.records.now, opens-most cs a.i, w.row, f.months, l.most) }
 
 pub run_before-s-requires : goal.run_before-s-requires
 run_before-s-requires c =
     let a = c.args in
     let r = run_of a.at a.constants.now in
-    let cs = held a.lists.now in
+    let cs = book a.x1.now a.x2.now a.x3.now a.index.now a.mark.now a.records.now a.v.now in
     let w = c.requires.workable in
     let l = lengths r cs a.i w in
     let f = run_fits r cs a.i w in
@@ -60,7 +59,7 @@ pub renew-requires : goal.renew-requires
 renew-requires c =
     let a = c.args in
     let r = run_of a.at a.constants.now in
-    let cs = held a.lists.now in
+    let cs = book a.x1.now a.x2.now a.x3.now a.index.now a.mark.now a.records.now a.v.now in
     let w = c.requires.workable in
     let l = lengths r cs a.i w in
     let f = run_fits r cs a.i w in
@@ -70,14 +69,14 @@ pub loop-init : goal.loop-init
 loop-init c =
     let a = c.args in
     let r = run_of a.at a.constants.now in
-    let cs = held a.lists.now in
+    let cs = book a.x1.now a.x2.now a.x3.now a.index.now a.mark.now a.records.now a.v.now in
     let w = c.requires.workable in
     let l = lengths r cs a.i w in
     let f = run_fits r cs a.i w in
     let q = c.requires.p_le_most_reading in
     let o = c.reopen-opens.new in
-    let e = c.run_before-s.ensures a.lists.now.index.now a.lists.now.mark.now a.constants.now (c.reopen-opens.ensures.value a.lists.now.records.now) in
-    let g = begins r cs a.i w a.p a.pe a.kind q o.index o.mark c.renew.new.records (c.reopen-opens.ensures.v_after a.lists.now.records.now) c.renew.ensures in (
+    let e = c.run_before-s.ensures a.index.now a.mark.now a.constants.now (c.reopen-opens.ensures.value a.records.now) in
+    let g = begins r cs a.i w a.p a.pe a.kind q o.index o.mark c.renew.new.records (c.reopen-opens.ensures.v_after a.records.now) c.renew.ensures in (
       ap (λ (r : Run). r.months) e,
       refl,
       stands-first a.at.months e g (stands-begun r cs a.i w a.p a.pe a.kind q),
@@ -90,7 +89,7 @@ pub add_again-t-requires : goal.add_again-t-requires
 add_again-t-requires c =
     let a = c.args in
     let r = run_of a.at a.constants.now in
-    let cs = held a.lists.now in
+    let cs = book a.x1.now a.x2.now a.x3.now a.index.now a.mark.now a.records.now a.v.now in
     let l = c.loop in
     let v = l.invariant in
     let q = run_of l.s a.constants.now in
@@ -103,7 +102,7 @@ pub loop-preserved : goal.loop-preserved
 loop-preserved c =
     let a = c.args in
     let r = run_of a.at a.constants.now in
-    let cs = held a.lists.now in
+    let cs = book a.x1.now a.x2.now a.x3.now a.index.now a.mark.now a.records.now a.v.now in
     let l = c.loop in
     let v = l.invariant in
     let q = run_of l.s a.constants.now in
@@ -116,7 +115,7 @@ loop-preserved c =
     let again_is : result_of m then ≡ again q (record_at l.records l.s.months) so_far = s.ensures in
     let e : s.result.progress.months ≡ suc l.s.months = months-next a.at.months q so_far v.2 due places v.3 m then again_is in
     let k = s.auto in
-    let begun = book a.lists.now.x1.now a.lists.now.x2.now a.lists.now.x3.now c.reopen-opens.new.index c.reopen-opens.new.mark c.renew.new.records a.lists.now.v.now in (
+    let begun = book a.x1.now a.x2.now a.x3.now c.reopen-opens.new.index c.reopen-opens.new.mark c.renew.new.records a.v.now in (
       omega (arith, v.0, e),
       reworks-next a.at.months q so_far v.2 due places v.3 m then again_is v.1,
       stands-next a.at.months q so_far v.2 due places v.3 m then again_is,
@@ -125,16 +124,16 @@ loop-preserved c =
     )
 
 -- ---- after the last month
-pub returns-clause-outcome : goal.returns-clause-outcome
+pub returns : goal.returns
 unfolding reworked_from
-returns-clause-outcome c =
+returns c =
     let a = c.args in
     let r = run_of a.at a.constants.now in
-    let cs = held a.lists.now in
+    let cs = book a.x1.now a.x2.now a.x3.now a.index.now a.mark.now a.records.now a.v.now in
     let w = c.requires.workable in
     let q = c.requires.p_le_most_reading in
     let o = c.reopen-opens.new in
     let l = c.loop in
-    let e = c.run_before-s.ensures a.lists.now.index.now a.lists.now.mark.now a.constants.now (c.reopen-opens.ensures.value a.lists.now.records.now) in
-    let g = begins r cs a.i w a.p a.pe a.kind q o.index o.mark c.renew.new.records (c.reopen-opens.ensures.v_after a.lists.now.records.now) c.renew.ensures in
+    let e = c.run_before-s.ensures a.index.now a.mark.now a.constants.now (c.reopen-opens.ensures.value a.records.now) in
+    let g = begins r cs a.i w a.p a.pe a.kind q o.index o.mark c.renew.new.records (c.reopen-opens.ensures.v_after a.records.now) c.renew.ensures in
     sym (ends a.at.months (run_of l.s a.constants.now) (book l.x1 l.x2 l.x3 l.index l.mark l.records l.v) (omega (arith, c.loop-test.false, l.invariant.0))) ∙ l.invariant.1 ∙ reworks-first a.at.months e g
