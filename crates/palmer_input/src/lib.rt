@@ -8,9 +8,13 @@ ghost use Rattle.std.specs.Prelude.{◌≡◌, true};
 ghost use mathlib.Core.List.{foldl};
 ghost use Rattle.lines.specs.Line.{begun};
 ghost use Rattle.starts.specs.Start.{run_for_z};
+ghost use Rattle.refusals.specs.Book.{book};
+ghost use Rattle.adding.specs.Taken.{result_of};
+ghost use Rattle.drought.specs.Calls.{add_z};
 ghost use Rattle.palmer_input.specs.ByLines.{state_of, columns_of, fresh, number_of, of_added, percent_kept, with_z};
 ghost use Rattle.palmer_input.specs.Input.{is_blank, line_closed, byte_fed, input_ended};
 
+use adding::Added;
 use lines::Line;
 use outline::{MANY_CONSTANTS, Refusal};
 use ranges::LEAST_CAPACITY;
@@ -105,6 +109,33 @@ fn is_blank(line: Line) -> bool
     !(line.minus || line.digits || line.spoiled)
 }
 
+// Adds a Z to the run that these lists hold. The lists are lent one by one, since the proof of a call with borrows of a value's own
+// arrays in one struct doesn't close.
+fn add_z(
+    run: Run,
+    z: i32,
+    x1: &mut [i32],
+    x2: &mut [i32],
+    x3: &mut [i32],
+    index: &mut [i32],
+    mark: &mut [u8],
+    records: &mut [RecordNumbers],
+    v: &mut [i64],
+) -> Added
+    ensures { result_of result (book x1.new x2.new x3.new index.new mark.new records.new v.new) ≡ add_z run z (book x1.old x2.old x3.old index.old mark.old records.old v.old) }
+{
+    let mut lists = Lists {
+        x1,
+        x2,
+        x3,
+        index,
+        mark,
+        records,
+        v,
+    };
+    drought::add_z(run, z, &mut lists)
+}
+
 impl<const N: usize> Heard<N> {
     // Some bytes more. After a refusal nothing more is looked at.
     pub fn take(&mut self, bytes: &[u8])
@@ -146,16 +177,17 @@ impl<const N: usize> Heard<N> {
         ensures { state_of self.new ≡ with_z self.old.session.run z (columns_of self.old) self.old.percent }
     {
         let at = self.session.run.months as usize;
-        let mut lists = Lists {
-            x1: &mut self.x1,
-            x2: &mut self.x2,
-            x3: &mut self.x3,
-            index: &mut self.index,
-            mark: &mut self.mark,
-            records: &mut self.records,
-            v: &mut self.v,
-        };
-        let a = drought::add_z(self.session.run, z, &mut lists);
+        let a = add_z(
+            self.session.run,
+            z,
+            &mut self.x1,
+            &mut self.x2,
+            &mut self.x3,
+            &mut self.index,
+            &mut self.mark,
+            &mut self.records,
+            &mut self.v,
+        );
         let refused = refusal_of(a.number);
         put_percent(refused, at, a.figures.percent, &mut self.percent);
         self.session = after_line(refused, a.run);
