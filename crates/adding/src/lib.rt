@@ -104,7 +104,16 @@ pub fn add_spells(
 {
     let month = spells::step::<true>(values, z);
     let modified = modified::modified(values, z, month);
-    let added = history::add(x1, x2, x3, index, mark, months as usize, opens as usize, month);
+    let added = history::add(
+        x1,
+        x2,
+        x3,
+        index,
+        mark,
+        months as usize,
+        opens as usize,
+        month,
+    );
     Spelled {
         settled: added.settled as u32,
         opens: added.opens as u32,

@@ -77,20 +77,16 @@ pub extern "C" fn card_add_water(
 {
     let a = kinds::reading_of(p);
     let b = kinds::reading_of(pe);
-    drought::add_water(
-        run,
-        a,
-        b,
-        &mut Lists {
-            x1,
-            x2,
-            x3,
-            index,
-            mark,
-            records,
-            v,
-        },
-    )
+    let mut lists = Lists {
+        x1,
+        x2,
+        x3,
+        index,
+        mark,
+        records,
+        v,
+    };
+    drought::add_water(run, a, b, &mut lists)
 }
 
 // Adds a month of water, from two binary32 inches: 1, 7, 9, 10.
@@ -108,19 +104,16 @@ pub extern "C" fn card_add_inches(
 ) -> Added
     ensures { result_of result (book x1.new x2.new x3.new index.new mark.new records.new v.new) ≡ add_inches run q (book x1.old x2.old x3.old index.old mark.old records.old v.old) }
 {
-    drought::add_inches(
-        run,
-        q,
-        &mut Lists {
-            x1,
-            x2,
-            x3,
-            index,
-            mark,
-            records,
-            v,
-        },
-    )
+    let mut lists = Lists {
+        x1,
+        x2,
+        x3,
+        index,
+        mark,
+        records,
+        v,
+    };
+    drought::add_inches(run, q, &mut lists)
 }
 
 // Adds a Z: 1, 7, 12, 10.
@@ -138,19 +131,16 @@ pub extern "C" fn card_add_z(
 ) -> Added
     ensures { result_of result (book x1.new x2.new x3.new index.new mark.new records.new v.new) ≡ add_z run z (book x1.old x2.old x3.old index.old mark.old records.old v.old) }
 {
-    drought::add_z(
-        run,
-        z,
-        &mut Lists {
-            x1,
-            x2,
-            x3,
-            index,
-            mark,
-            records,
-            v,
-        },
-    )
+    let mut lists = Lists {
+        x1,
+        x2,
+        x3,
+        index,
+        mark,
+        records,
+        v,
+    };
+    drought::add_z(run, z, &mut lists)
 }
 
 // Adds months of water in whole thousandths, -1 for missing, in order until one is refused: 1, 7, then as each
@@ -170,20 +160,16 @@ pub extern "C" fn card_add_season(
 ) -> Season
     ensures { season_result result (book x1.new x2.new x3.new index.new mark.new records.new v.new) ≡ add_season run p.now pe.now (book x1.old x2.old x3.old index.old mark.old records.old v.old) }
 {
-    season::add_season(
-        run,
-        p,
-        pe,
-        &mut Lists {
-            x1,
-            x2,
-            x3,
-            index,
-            mark,
-            records,
-            v,
-        },
-    )
+    let mut lists = Lists {
+        x1,
+        x2,
+        x3,
+        index,
+        mark,
+        records,
+        v,
+    };
+    season::add_season(run, p, pe, &mut lists)
 }
 
 // Repairs the month at a row, from 0 on, with two readings, and reports the months whose index or mark changed: 1, 7, 11, 17, 8 or 9.
@@ -207,20 +193,7 @@ pub extern "C" fn card_repair(
     let rain = kinds::reading_of(p);
     let demand = kinds::reading_of(pe);
     repair::repair(
-        run,
-        i,
-        rain,
-        demand,
-        &mut Lists {
-            x1,
-            x2,
-            x3,
-            index,
-            mark,
-            records,
-            v,
-        },
-        report,
+        run, i, rain, demand, x1, x2, x3, index, mark, records, v, report,
     )
 }
 
@@ -239,19 +212,16 @@ pub extern "C" fn card_row(
 ) -> Shown
     ensures { result ≡ row_of_run run i (book x1.now x2.now x3.now index.now mark.now records.now v.now) }
 {
-    drought::row(
-        run,
-        i,
-        &Rows {
-            x1,
-            x2,
-            x3,
-            index,
-            mark,
-            records,
-            v,
-        },
-    )
+    let rows = Rows {
+        x1,
+        x2,
+        x3,
+        index,
+        mark,
+        records,
+        v,
+    };
+    drought::row(run, i, &rows)
 }
 
 // The whole series of a list of Z: fills indexes and marks. 1, 12.

@@ -197,7 +197,8 @@ pub fn step<const CHANCE: bool>(s: Running, z: i32) -> SpellMonth
             if CHANCE {
                 percent = ending::chance(wet, s.x3, s.v, z);
             }
-            return abating(s, ending::kept_v(wet, s.v, z), z, percent);
+            let v = ending::kept_v(wet, s.v, z);
+            return abating(s, v, z, percent);
         }
         if CHANCE {
             percent = 100;

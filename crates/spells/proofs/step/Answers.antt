@@ -28,10 +28,10 @@ returns-then-not-has_ended g c =
     let fx : SFits w32 c.args.s.x3 = search rules in
     let fv : SFits w64 c.args.s.v = search rules in
     let fz = c.ranges.z in
-    let fk : SFits w64 c.kept_v.result = record { sfits = c.kept_v.type_inv } in
+    let fk : SFits w64 c.kept_v-v.result = record { sfits = c.kept_v-v.type_inv } in
     (simp to_z-of_z at c.abating.ensures)
     ∙ ap (λ (v : ℤ). abating_month c.args.s v c.args.z c.if-this-ne0.percent)
-    (v-is c.args.s c.args.z _ _ fx fv fz c.is_wet-wet.ensures c.is_dry.ensures _ c.kept_v.ensures)
+    (v-is c.args.s c.args.z _ _ fx fv fz c.is_wet-wet.ensures c.is_dry.ensures _ c.kept_v-v.ensures)
     ∙ elim c.if-this-ne0.branch [
       | then-this-ne0 w ↦ (
           ap (abating_month c.args.s _ c.args.z)
