@@ -157,6 +157,16 @@ fn arguments(env: &impl Env) -> Option<(u32, u32)> {
     Some((argument(env, 1)?, argument(env, 2)?))
 }
 
+// Reads and writes with what it lends. The room stands here and not in `main`, where it would be zeroed twice.
+fn run(stdin: &mut impl Read, stdout: &impl Print, stderr: &impl Print, state: u32, division: u32) {
+    let mut out = rows::make_room::<ROOM>();
+    let reading = Reading {
+        session: Session::begin(state, division),
+        out: &mut out,
+    };
+    run_with(stdin, stdout, stderr, reading);
+}
+
 fn main(rt: HostRuntime) {
     let stderr = rt.stderr();
     let Some((state, division)) = arguments(&rt) else {
@@ -165,10 +175,5 @@ fn main(rt: HostRuntime) {
         );
         return;
     };
-    let mut out = rows::make_room::<ROOM>();
-    let reading = Reading {
-        session: Session::begin(state, division),
-        out: &mut out,
-    };
-    run_with(&mut rt.stdin(), &rt.stdout(), &stderr, reading);
+    run(&mut rt.stdin(), &rt.stdout(), &stderr, state, division);
 }
