@@ -63,6 +63,7 @@ struct WholeYears {
 }
 
 // Works the sixty constants out again from a run's whole years, with twelve first weights: 1, 7, 2 or 3, 18, 19, 20, 21.
+// The lists come one by one, as C lends them.
 pub fn work_out<'a>(
     run: Run,
     weights: &[i32],
@@ -117,6 +118,7 @@ fn set_worked_out(run: Run, weights: &[i32], rows: &Rows) -> Result<Set, Refusal
 }
 
 // Sums a calendar month, 1 to 12, over a run's whole years: 1, 7, 6, 18.
+// The lists come one by one, as C lends them.
 pub fn sum_month<'a>(
     run: Run,
     month: i32,
@@ -281,7 +283,7 @@ fn set_of(
     })
 }
 
-// A refusal: its number, and all else 0.
+// A refusal: its number, and all else 0, field by field: an array of sixty has no `Default`.
 fn not_worked_out(refusal: Refusal) -> WorkedOut
     ensures { result ≡ not_worked_out (refusal_number refusal) }
 {

@@ -45,6 +45,7 @@ fn take_line(session: &mut Session, part: &[u8], ends: bool, out: &mut [u8])
 }
 
 // A piece of the input more. Whatever was lent is lent again.
+// By lines and not by bytes: no `for` counts that, and a line's end is found by `memchr`.
 pub fn take(session: &mut Session, piece: &[u8], out: &mut [u8])
     requires { Held (seen session.old) session.old.kept.line out.old }
     ensures out_after { state_of session.new out.new ≡ foldl byte_fed (state_of session.old out.old) piece.now }

@@ -13,6 +13,7 @@ ghost use Rattle.ending.specs.Bounds.{most_v};
 use outline::{E_OFFSET, U_OFFSET, WEIGHT_OF_X, WEIGHT_OF_Z};
 
 // A wet spell's number with its sign turned, a drought's as it is.
+// `wet` is a bool here and below, as in the definitions: there are two kinds of spell and no third.
 pub fn turned(wet: bool, n: i64) -> i64
     requires { nat_abs n ≤ 2 * most_v }
     ensures { result ≡ turn wet n }

@@ -74,6 +74,7 @@ fn row_given(capacity: u32, i: usize, records: &[RecordNumbers]) -> bool
 }
 
 // What an add can start from: its readings and both storages are in their ranges.
+// `kept_rows` asks ten figures, eight of them at once; these are four, with a way out after each.
 fn addable(capacity: u32, m: Record) -> bool
     requires { capacity ≤ most_capacity }
     ensures { result ≡ addable capacity m }

@@ -74,6 +74,7 @@ fn answer_all(stdout: &impl Print, input: &[u8]) {
 }
 
 // Reads until the buffer is full, the input ends or a read fails, and answers how many bytes there are at its start.
+// Each read says how far it came, which no `for` counts.
 fn read_full(stdin: &mut impl Read, buffer: &mut [u8]) -> usize
     ensures { result ≤ length buffer.new }
 {

@@ -15,12 +15,9 @@ ghost use Rattle.repair.specs.Tried.{repaired_of};
 
 use door::Reading;
 use outline::{MANY_CONSTANTS, Refusal};
-use records::RecordNumbers;
+use records::{RecordNumbers, WATER};
 use report::ChangeNumbers;
 use runs::{Progress, Run};
-
-// What a record's `water` says of a month that had water.
-const HAD_WATER: i32 = 1;
 
 // What a repair answers: 0 or its refusal, how many months are reported, and the run.
 #[repr(C)]
@@ -177,7 +174,7 @@ fn repair_refusal(
         return Err(Refusal::NoSuchRow);
     }
     let m = records::record_at(records, i);
-    if m.water != HAD_WATER {
+    if m.water != WATER {
         return Err(Refusal::Waterless);
     }
     Ok(())

@@ -19,6 +19,7 @@ pub type ChangeNumbers = [i32; CHANGE_NUMBERS];
 const NO_CHANGE: ChangeNumbers = [0; CHANGE_NUMBERS];
 
 // Holds index and mark of each month, at its place.
+// By `enumerate` and not `zip`: of what a `zip` lends for writing a proof knows nothing.
 pub fn hold(index: &[i32], mark: &[u8], report: &mut [ChangeNumbers])
     requires { (length index.now ≡ length report.old) × (length mark.now ≡ length report.old) × (length report.old ≤ most_months) }
     ensures { report.new ≡ held index.now mark.now (length report.old) }

@@ -17,12 +17,9 @@ ghost use Rattle.reworking.specs.Workable.{Workable, Stands, Kept};
 use adding::MonthAdded;
 use door::MonthKinds;
 use outline::MANY_CONSTANTS;
-use records::{Record, RecordNumbers};
+use records::{Record, RecordNumbers, WATER};
 use refusals::Lists;
 use runs::Progress;
-
-// What a record's `water` says of a month that had water.
-const HAD_WATER: i32 = 1;
 
 // The month at place i with precipitation p, of this kind, and PE pe, and all months after it, each from its record.
 pub fn rework(
@@ -106,7 +103,7 @@ fn add_again(
         records,
         v,
     };
-    if m.water != HAD_WATER {
+    if m.water != WATER {
         return taking::add_z(at, m.z, &mut lists);
     }
     let kinds = MonthKinds {

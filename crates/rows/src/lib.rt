@@ -170,7 +170,7 @@ pub fn lay_refusal(line: u32, refusal: Refusal, at: usize, out: &mut [u8]) -> us
     put_byte(b'\n', number_end, out)
 }
 
-// Puts a space and a month's amount, or a dash where its bit says that the month is missing.
+// Puts a space and a month's amount, or a dash where its bit, the set's lowest as in the definition, says that the month is missing.
 #[tactic(auto, unfolding(crate::specs::Text::month_text))]
 fn put_month(amount: u32, bit: u32, at: usize, out: &mut [u8]) -> usize
     requires { at + 11 ≤ length out.old }

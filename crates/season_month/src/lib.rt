@@ -39,6 +39,7 @@ pub fn add_listed(
 }
 
 // A month of a list as a reading.
+// By `if` and not `match`, which tells a proof nothing of a number that is not the constant.
 fn reading_of(n: i32) -> Reading
     ensures { result ≡ listed n }
 {

@@ -53,6 +53,7 @@ fn put_four(set: &mut [i32; MANY_CONSTANTS], at: usize, k: Constants)
 }
 
 // Four of each month's five constants and D of each month, unless a gamma is out of its range: 19.
+// It writes the two arrays in place, as `read_exact` does its buffer.
 pub fn put_shares(
     capacity: u32,
     first: usize,

@@ -88,8 +88,8 @@ record_at-m-requires c =
     omega (arith, c.if-i-at.false, (run_is r cs good).months, (columns_are cs good.fit).records_is)
 
 -- by the mark of its water: the month without water and with it
-pub returns-then-m-ne-HAD_WATER : goal.returns-then-m-ne-HAD_WATER
-returns-then-m-ne-HAD_WATER c =
+pub returns-then-m-ne-WATER : goal.returns-then-m-ne-WATER
+returns-then-m-ne-WATER c =
     let a = c.args in
     let r = run_of a.at a.constants.now in
     let cs = book a.x1.now a.x2.now a.x3.now a.index.now a.mark.now a.records.now a.v.now in
@@ -99,7 +99,7 @@ returns-then-m-ne-HAD_WATER c =
     let rows = passes c.rows_fit.ensures c.if-not-rows_fit.false-raw in
     let f : SFits w32 c.record_at-m.result.water = record { sfits = c.struct_told-1.given.1.1.1.1.1.1.1.1.1.1.1.0.1 } in
     water-refuses r a.i cs a.n 0 long_is good rows c.if-i-at.false
-    (without-water c.record_at-m.result (record_at cs.records a.i) c.record_at-m.ensures f c.if-m-ne-HAD_WATER.true)
+    (without-water c.record_at-m.result (record_at cs.records a.i) c.record_at-m.ensures f c.if-m-ne-WATER.true)
 
 pub returns : goal.returns
 returns c =
@@ -112,4 +112,4 @@ returns c =
     let rows = passes c.rows_fit.ensures c.if-not-rows_fit.false-raw in
     let f : SFits w32 c.record_at-m.result.water = record { sfits = c.struct_told-1.given.1.1.1.1.1.1.1.1.1.1.1.0.1 } in
     readings-refuse r a.i cs a.n 0 long_is good rows c.if-i-at.false
-    (with-water c.record_at-m.result (record_at cs.records a.i) c.record_at-m.ensures f c.if-m-ne-HAD_WATER.false)
+    (with-water c.record_at-m.result (record_at cs.records a.i) c.record_at-m.ensures f c.if-m-ne-WATER.false)

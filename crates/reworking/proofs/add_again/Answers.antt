@@ -49,8 +49,8 @@ add_z-requires c =
       z_bound = (rw (to_z-of_z (z-fits _ k)) k.z, w.calendar, w.soil);
     }
 
-pub returns-then-m-ne-HAD_WATER : goal.returns-then-m-ne-HAD_WATER
-returns-then-m-ne-HAD_WATER c =
+pub returns-then-m-ne-WATER : goal.returns-then-m-ne-WATER
+returns-then-m-ne-WATER c =
     let a = c.args in
     let r = run_of a.at a.constants.now in
     let cs = book a.x1.now a.x2.now a.x3.now a.index.now a.mark.now a.records.now a.v.now in
@@ -58,7 +58,7 @@ returns-then-m-ne-HAD_WATER c =
     let l = c.add_z.new in
     let t = result_of (added_of c.add_z.result a.constants.now) (lent l.lists) in
     let done =
-    without-water r cs c.record_at-m.result (record_at cs.records r.months) c.record_at-m.ensures (record { sfits = c.struct_told-1.given.1.1.1.1.1.1.1.1.1.1.1.0.1 }) t c.if-m-ne-HAD_WATER.true
+    without-water r cs c.record_at-m.result (record_at cs.records r.months) c.record_at-m.ensures (record { sfits = c.struct_told-1.given.1.1.1.1.1.1.1.1.1.1.1.0.1 }) t c.if-m-ne-WATER.true
     (rw (to_z-of_z (z-fits _ k)) at (c.add_z.ensures.outcome a.constants.now))
     in search rules
 
@@ -100,6 +100,6 @@ returns c =
     let l = c.add_measured.new in
     let t = result_of (added_of c.add_measured.result a.constants.now) (lent l.lists) in
     let done =
-    with-water r cs c.record_at-m.result (record_at cs.records r.months) c.record_at-m.ensures (record { sfits = c.struct_told-1.given.1.1.1.1.1.1.1.1.1.1.1.0.1 }) t c.if-m-ne-HAD_WATER.false
+    with-water r cs c.record_at-m.result (record_at cs.records r.months) c.record_at-m.ensures (record { sfits = c.struct_told-1.given.1.1.1.1.1.1.1.1.1.1.1.0.1 }) t c.if-m-ne-WATER.false
     (rw (to_z-of_z (p-fits _ k), to_z-of_z (pe-fits _ k), to_z-of_z (kind_fits _ k)) at c.add_measured.ensures.outcome)
     in search rules
