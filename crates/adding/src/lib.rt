@@ -196,23 +196,20 @@ pub fn month_added(at: Progress, soil: Soil, water: WaterFigures, z: i32, s: Spe
 pub fn answer_of(
     t: Result<MonthAdded, Refusal>,
     at: Progress,
-    constants: [i32; MANY_CONSTANTS],
+    constants: &[i32; MANY_CONSTANTS],
 ) -> Added
-    ensures { result ≡ answer_of t at constants }
+    ensures { result ≡ answer_of t at constants.now }
 {
-    match t {
-        Ok(month) => Added {
-            number: 0,
-            settled: month.settled,
-            figures: same_figures(month.figures),
-            run: runs::run_of(month.progress, constants),
-        },
-        Err(refusal) => Added {
-            number: refusal.number(),
-            settled: 0,
-            figures: Figures::default(),
-            run: runs::run_of(at, constants),
-        },
+    // Put together once: an answer for each way would be copied where the two meet.
+    let (number, settled, figures, progress) = match t {
+        Ok(month) => (0, month.settled, month.figures, month.progress),
+        Err(refusal) => (refusal.number(), 0, Figures::default(), at),
+    };
+    Added {
+        number,
+        settled,
+        figures: same_figures(figures),
+        run: runs::run_of(progress, *constants),
     }
 }
 

@@ -63,9 +63,8 @@ pub fn add_water(run: Run, p: Reading, pe: Reading, lists: &mut Lists) -> Added
     ensures outcome { result_of result (held lists.new) ≡ add_water run p pe (held lists.old) }
 {
     let at = runs::progress_of(run);
-    let constants = run.constants;
-    let t = try_water(at, &constants, p, pe, lists);
-    adding::answer_of(t, at, constants)
+    let t = try_water(at, &run.constants, p, pe, lists);
+    adding::answer_of(t, at, &run.constants)
 }
 
 // Adds a month of water, from two binary32 inches: 1, 7, 9, 10.
@@ -124,9 +123,8 @@ pub fn add_z(run: Run, z: i32, lists: &mut Lists) -> Added
     ensures outcome { result_of result (held lists.new) ≡ add_z run z (held lists.old) }
 {
     let at = runs::progress_of(run);
-    let constants = run.constants;
-    let t = try_z(at, &constants, z, lists);
-    adding::answer_of(t, at, constants)
+    let t = try_z(at, &run.constants, z, lists);
+    adding::answer_of(t, at, &run.constants)
 }
 
 // A Z, added or refused.
