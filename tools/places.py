@@ -18,14 +18,13 @@ KINDS = {
     '1 fields number, refused, failed, ended beside values': r'^    (pub )?(number|refused|failed|ended): (u8|bool),$',
     '1 parameters that are a refusal or a kind by number': r'\b(number|refused|reading|given|by|side|mark|kind|fault): (u8|u32)\b(?=[,)])',
     '1 constants that number a kind or a refusal': r'^(pub )?const (NONE|TRACE|MEASURED|SETTLED|OPEN|HAD_WATER|NO_WATER|WATER|MISSING|WHOLE|INCHES|MILLIMETRES|NO_KIND|NO_LINE|BAD_\w+|NOT_\w+|NO_READING|NO_SUCH_ROW|FULL|WATERLESS|FEW_YEARS|ZERO_K|MALFORMED|OTHER_LINE|UNFIT|NO_ROOM): ',
-    '1 functions whose 0 stands for none': r'^(pub )?fn (year_of|first_missing|first_column|fault|months_fault|rest_fault|lent_length|line_at_fault)\b',
+    '1 functions whose 0 stands for none': r'NONE',
     # ---- 3: loops that count by hand
     "3 while loops": r"^\s*('\w+: )?while ",
     # ---- 4: written by hand
-    '4 functions that copy, compare, convert or take the smaller by hand': r'^(pub )?(extern "C" )?fn (same_figures|smaller|later|with_number|decision_number|number_of|tell|reading_of|run_of|progress_of|record_at|put|shown|hundredths_of|letter_of|last_digit|kind_of_water|told|is_mark)\b',
+    '4 functions that copy, compare, convert or take the smaller by hand': r'^ *(pub )?(extern "C" )?fn (same_figures|smaller|later|with_number|decision_number|number_of|tell|reading_of|run_of|progress_of|record_at|put|shown|hundredths_of|letter_of|last_digit|kind_of_water|told|is_mark)\b',
     '4 literals all of whose fields are 0': r'ZERO',
     '4 literals that hand on three fields or more as they were': r'COPIED',
-    '4 structs and enums without a derive but Drop': r'BARE',
     # ---- 5
     '5 clauses that stand in three functions or more': r'CLAUSES',
     '5 functions that take the seven lists one by one': r'LISTS',
@@ -35,6 +34,9 @@ KINDS = {
     '7 fn pointers, tables of functions': r'\bfn\(|\[fn',
     '7 branches on a step handed in by number': r'^\s*(if|\} else \{ if) (by|kind|number) (==|<) ',
 }
+
+
+NONE = {'year_of', 'first_missing', 'first_column', 'fault', 'months_fault', 'rest_fault', 'lent_length', 'line_at_fault', 'found_fault'}
 
 
 def literals(text):
@@ -79,16 +81,15 @@ def places(root):
             handed = [f for f in fields if re.fullmatch(r'(\w+): \w+\.\1', f)]
             if len(handed) >= 3:
                 found['4 literals that hand on three fields or more as they were'].append(f'{name}:{i}')
-        for m in re.finditer(r'((?:^#\[.*\]\n)*)^(?:pub )?(?:struct|enum) (\w+)', text, re.M):
-            if not re.search(r'derive\(.*(Clone|PartialEq|Default|Debug)', m.group(1)):
-                found['4 structs and enums without a derive but Drop'].append(f'{name}:{text.count(chr(10), 0, m.start(2)) + 1} {m.group(2)}')
         for i, function, head in functions(text):
             for c in re.findall(r'(?:requires|ensures)(?: \w+)? \{ (.*?) \}$', head, re.M):
                 for part in re.split(r' × ', c):
                     part = part.strip('() ')
                     if 'result' not in part and not part.startswith(('Rattle', '→')):
                         clauses[part].append(f'{name}:{i} {function}')
-            if re.search(r'\bx1: &(mut )?\[i32\],.*\bv: &(mut )?\[i64\]', head, re.S):
+            if function in NONE and re.search(r'-> (u32|usize)', head):
+                found['1 functions whose 0 stands for none'].append(f'{name}:{i} {function}')
+            if re.search(r'\bx1: &(\'a )?(mut )?\[i32\],.*\bv: &(\'a )?(mut )?\[i64\]', head, re.S):
                 found['5 functions that take the seven lists one by one'].append(f'{name}:{i} {function}')
     for part, where in sorted(clauses.items(), key=lambda c: -len(c[1])):
         if len(where) >= 3:
