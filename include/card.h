@@ -90,21 +90,21 @@
  *
  *     card_read                    8
  *     card_start                 360
- *     card_add_water             808
- *     card_add_inches            824
- *     card_add_z                 584
- *     card_add_season           1144
- *     card_repair                776
- *     card_row                   408
- *     card_sum_month             392
- *     card_work_out             1352
+ *     card_add_water            1368
+ *     card_add_inches           1256
+ *     card_add_z                 936
+ *     card_add_season           1544
+ *     card_repair               1672
+ *     card_row                   392
+ *     card_sum_month             488
+ *     card_work_out             2344
  *     card_whole_series          104
- *     card_write_index_line      648
- *     card_write_z_line          648
- *     card_write_modified_line   648
- *     card_read_index_line       328
- *     card_read_z_line           328
- *     card_read_modified_line    328
+ *     card_write_index_line      712
+ *     card_write_z_line          712
+ *     card_write_modified_line   712
+ *     card_read_index_line       472
+ *     card_read_z_line           472
+ *     card_read_modified_line    472
  *
  * It is counted from the return address, which is included, down to the lowest word of 8 bytes that was
  * written by the call or by what it calls, memcpy and memset included. Not counted is what the caller
