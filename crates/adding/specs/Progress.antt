@@ -1,12 +1,13 @@
 -- A run without its constants, which no month changes, and what an add answers without them: put together again they are the run and the
 -- answer of the single add. Assumes nothing.
-use Rattle.std.specs.Prelude.{◌≡◌, List, suc, ℤ, Result, Ok, Err}
+use Rattle.std.specs.Prelude.{◌≡◌, ℕ, List, suc, ℤ, Result, Ok, Err}
 use Rattle.outline.specs.Refused.{refusal_number}
 use Rattle.outline.specs.declared.Refusal.{Refusal}
 use Rattle.water.specs.declared.Soil.{Soil}
 use Rattle.calendar.specs.Calendar.{next_calendar}
 use Rattle.records.specs.declared.Record.{Record}
 use Rattle.refusals.specs.Book.{Book}
+use Rattle.adding.specs.Figures.{no_figures}
 use Rattle.adding.specs.Taken.{result_of, taken, refusal}
 use Rattle.adding.specs.declared.WaterFigures.{WaterFigures}
 use Rattle.adding.specs.declared.Added.{Added}
@@ -18,6 +19,14 @@ use Rattle.adding.specs.declared.MonthAdded.{MonthAdded}
 -- a month that is added, put together with the constants
 abbrev pub added_of : MonthAdded → List ℤ → Added
 added_of t k = record { number = 0; settled = t.settled; figures = t.figures; run = run_of t.progress k }
+
+-- and with any number, for one that may have been refused
+abbrev pub numbered : ℕ → MonthAdded → List ℤ → Added
+numbered n t k = record { number = n; settled = t.settled; figures = t.figures; run = run_of t.progress k }
+
+-- a month that is refused, without its number
+abbrev pub not_added : Progress → MonthAdded
+not_added at = record { settled = 0; figures = no_figures; progress = at }
 
 -- a month that is added, of its storages at the end, its water, its Z and what its spells leave
 abbrev pub month_added : Progress → Soil → WaterFigures → ℤ → Spelled → MonthAdded

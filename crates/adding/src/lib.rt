@@ -12,11 +12,11 @@ ghost use Rattle.refusals.specs.Columns.{columns};
 ghost use Rattle.adding.specs.Figures.{water_figures};
 ghost use Rattle.adding.specs.Taken.{soil_after};
 ghost use Rattle.adding.specs.Ready.{Ready};
-ghost use Rattle.adding.specs.Progress.{answer_of, month_added};
+ghost use Rattle.adding.specs.Progress.{numbered, not_added, month_added};
 ghost use Rattle.adding.specs.Spelled.{Spells};
 
 use door::MonthKinds;
-use outline::{MANY_CONSTANTS, Refusal};
+use outline::MANY_CONSTANTS;
 use runs::{Progress, Run};
 use spells::Running;
 use water::{Month, Soil};
@@ -192,24 +192,29 @@ pub fn month_added(at: Progress, soil: Soil, water: WaterFigures, z: i32, s: Spe
     }
 }
 
-// The answer to a run that stood so, with these constants: the month added, or a refusal's number, all figures 0, and the run given.
-pub fn answer_of(
-    t: Result<MonthAdded, Refusal>,
-    at: Progress,
-    constants: &[i32; MANY_CONSTANTS],
-) -> Added
-    ensures { result ≡ answer_of t at constants.now }
+// A month that is refused: nothing settled, all figures 0, and the run given.
+pub fn not_added(at: Progress) -> MonthAdded
+    ensures { result ≡ not_added at }
 {
-    // Put together once: an answer for each way would be copied where the two meet.
-    let (number, settled, figures, progress) = match t {
-        Ok(month) => (0, month.settled, month.figures, month.progress),
-        Err(refusal) => (refusal.number(), 0, Figures::default(), at),
-    };
+    MonthAdded {
+        settled: 0,
+        figures: Figures::default(),
+        progress: at,
+    }
+}
+
+// The answer to a run with these constants: 0 and the month that was added, or the number of its refusal and the month that was not.
+pub fn answer_of(number: u8, month: MonthAdded, constants: [i32; MANY_CONSTANTS]) -> Added
+    ensures { result ≡ numbered number month constants }
+{
+    let figures = same_figures(month.figures);
+    let progress = month.progress;
+    let next = runs::run_of(progress, constants);
     Added {
         number,
-        settled,
-        figures: same_figures(figures),
-        run: runs::run_of(progress, *constants),
+        settled: month.settled,
+        figures,
+        run: next,
     }
 }
 

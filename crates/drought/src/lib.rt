@@ -6,10 +6,10 @@
 // A call asks `refusals` first; where nothing is refused, `taking` does the month's work.
 #![tactic(auto)]
 
-ghost use Rattle.std.specs.Prelude.{◌≡◌};
+ghost use Rattle.std.specs.Prelude.{◌≡◌, ◌≤◌};
 ghost use Rattle.outline.specs.Refused.{refusal_number, answer_number};
 ghost use Rattle.door.specs.Outcome.{outcome};
-ghost use Rattle.door.specs.Readings.{reading};
+ghost use Rattle.door.specs.Readings.{reading, most_reading};
 ghost use Rattle.starts.specs.Start.{start_of};
 ghost use Rattle.series.specs.Series.{filled, whole_series};
 ghost use Rattle.refusals.specs.Lists.{held, read, SameLists};
@@ -17,8 +17,8 @@ ghost use Rattle.refusals.specs.Good.{Good};
 ghost use Rattle.refusals.specs.Lent.{row_number_for};
 ghost use Rattle.runs.specs.Progress.{run_of};
 ghost use Rattle.adding.specs.Taken.{result_of};
-ghost use Rattle.adding.specs.Progress.{answer_of};
-ghost use Rattle.drought.specs.Calls.{add_water, add_inches, add_z, not_shown, row_of_run};
+ghost use Rattle.adding.specs.Progress.{answer_of, numbered};
+ghost use Rattle.drought.specs.Calls.{add_outcomes, add_water, add_inches, add_z, not_shown, row_of_run};
 
 use adding::{Added, MonthAdded};
 use door::{Amount, MonthInches, MonthKinds, Reading};
@@ -57,14 +57,21 @@ pub fn start(constants: &[i32], capacity: i32, surface: i32, underlying: i32, mo
 }
 
 // Adds a month of water, from two readings: 1, 7, 8 or 9, 10.
-#[inline(always)]
 pub fn add_water(run: Run, p: Reading, pe: Reading, lists: &mut Lists) -> Added
     ensures same { SameLists lists.old lists.new }
     ensures outcome { result_of result (held lists.new) ≡ add_water run p pe (held lists.old) }
 {
+    let a = door::tell(door::read(p));
+    let b = door::tell(door::read(pe));
+    let kinds = MonthKinds {
+        p: a.kind,
+        pe: b.kind,
+    };
     let at = runs::progress_of(run);
-    let t = try_water(at, &run.constants, p, pe, lists);
-    adding::answer_of(t, at, &run.constants)
+    let constants = run.constants;
+    let reading = refusals::reading_refusal(a.number, b.number);
+    let t = try_water(at, &constants, reading, a.water, b.water, kinds, lists);
+    adding::answer_of(t.number, t.month, constants)
 }
 
 // Adds a month of water, from two binary32 inches: 1, 7, 9, 10.
@@ -72,25 +79,55 @@ pub fn add_inches(run: Run, q: MonthInches, lists: &mut Lists) -> Added
     ensures same { SameLists lists.old lists.new }
     ensures outcome { result_of result (held lists.new) ≡ add_inches run q (held lists.old) }
 {
-    let p = Reading::Inches(q.p);
-    let pe = Reading::Inches(q.pe);
-    add_water(run, p, pe, lists)
+    let both = door::read_month(q);
+    let a = both.p;
+    let b = both.pe;
+    let kinds = MonthKinds {
+        p: a.kind,
+        pe: b.kind,
+    };
+    let at = runs::progress_of(run);
+    let constants = run.constants;
+    let reading = refusals::reading_refusal(a.number, b.number);
+    let t = try_water(at, &constants, reading, a.water, b.water, kinds, lists);
+    adding::answer_of(t.number, t.month, constants)
 }
 
-// A month of water, added or refused.
+// A month that was tried: 0 or the number of its refusal, and the month that was added or was not. In a `Result` with the month in it
+// the month is copied where it is taken apart.
+#[derive(Drop)]
+struct Tried {
+    number: u8,
+    month: MonthAdded,
+}
+
+// A month of water by the number, the thousandths and the kinds that its two readings come to, added or refused.
 fn try_water(
     at: Progress,
     constants: &[i32; MANY_CONSTANTS],
-    p: Reading,
-    pe: Reading,
+    reading: u8,
+    p: u32,
+    pe: u32,
+    kinds: MonthKinds,
     lists: &mut Lists,
-) -> Result<MonthAdded, Refusal>
+) -> Tried
+    requires { (p ≤ most_reading) × (pe ≤ most_reading) }
     ensures same { SameLists lists.old lists.new }
-    ensures outcome { result_of (answer_of result at constants.now) (held lists.new) ≡ add_water (run_of at constants.now) p pe (held lists.old) }
+    ensures outcome { result_of (numbered result.number result.month constants.now) (held lists.new) ≡ add_outcomes (run_of at constants.now) (record { number = reading; water = p; kind = kinds.p }) (record { number = 0; water = pe; kind = kinds.pe }) (held lists.old) }
 {
     let rows = lists.rows();
-    refusals::run_refusal(rows.lent_length(), at, constants, rows.records)?;
-    add_readings(at, constants, p, pe, lists)
+    let number =
+        refusals::water_refusal(rows.lent_length(), at, constants, reading, rows.records);
+    if number != 0 {
+        return Tried {
+            number,
+            month: adding::not_added(at),
+        };
+    }
+    Tried {
+        number,
+        month: taking::add_measured(at, constants, p, pe, kinds, lists),
+    }
 }
 
 // A month of water, added or refused, to a run and lists that have been asked for 1 and 7.
@@ -123,23 +160,29 @@ pub fn add_z(run: Run, z: i32, lists: &mut Lists) -> Added
     ensures outcome { result_of result (held lists.new) ≡ add_z run z (held lists.old) }
 {
     let at = runs::progress_of(run);
-    let t = try_z(at, &run.constants, z, lists);
-    adding::answer_of(t, at, &run.constants)
+    let constants = run.constants;
+    let t = try_z(at, &constants, z, lists);
+    adding::answer_of(t.number, t.month, constants)
 }
 
 // A Z, added or refused.
-fn try_z(
-    at: Progress,
-    constants: &[i32; MANY_CONSTANTS],
-    z: i32,
-    lists: &mut Lists,
-) -> Result<MonthAdded, Refusal>
+fn try_z(at: Progress, constants: &[i32; MANY_CONSTANTS], z: i32, lists: &mut Lists) -> Tried
     ensures same { SameLists lists.old lists.new }
-    ensures outcome { result_of (answer_of result at constants.now) (held lists.new) ≡ add_z (run_of at constants.now) z (held lists.old) }
+    ensures outcome { result_of (numbered result.number result.month constants.now) (held lists.new) ≡ add_z (run_of at constants.now) z (held lists.old) }
 {
     let rows = lists.rows();
-    refusals::z_refusal(rows.lent_length(), at, constants, z, rows.records)?;
-    Ok(taking::add_z(at, z, lists))
+    let asked = refusals::z_refusal(rows.lent_length(), at, constants, z, rows.records);
+    let number = outline::number(asked);
+    if number != 0 {
+        return Tried {
+            number,
+            month: adding::not_added(at),
+        };
+    }
+    Tried {
+        number,
+        month: taking::add_z(at, z, lists),
+    }
 }
 
 // Shows a month's row, from 0 on: 1, 7, 11.

@@ -91,20 +91,25 @@ impl Rows<'_> {
     }
 }
 
-// An add of water, by the refusal of its readings: 1, 7, that refusal, 10.
+// An add of water, by the number of its readings: 1, 7, that number, 10.
 pub fn water_refusal(
     n: usize,
     at: Progress,
     constants: &[i32; MANY_CONSTANTS],
-    reading: Result<(), Refusal>,
+    reading: u8,
     records: &[RecordNumbers],
-) -> Result<(), Refusal>
+) -> u8
     requires { n ≤ length records.now }
-    ensures { answer_number result ≡ water_refusal_for n (run_of at constants.now) (answer_number reading) records.now }
+    ensures { result ≡ water_refusal_for n (run_of at constants.now) reading records.now }
 {
-    run_refusal(n, at, constants, records)?;
-    reading?;
-    room_refusal(n, at.months)
+    let number = outline::number(run_refusal(n, at, constants, records));
+    if number != 0 {
+        return number;
+    }
+    if reading != 0 {
+        return reading;
+    }
+    outline::number(room_refusal(n, at.months))
 }
 
 // An add of Z: 1, 7, 12, 10.
@@ -147,7 +152,8 @@ pub fn row_refusal(
     }
 }
 
-// 1 and 7, which every call on a run asks first.
+// 1 and 7, which every call on a run asks first. Compiled in place: as a function of its own it is handed the run in memory.
+#[inline(always)]
 #[tactic(auto, unfolding(crate::specs::Lent::run_refusal_for))]
 pub fn run_refusal(
     n: usize,
@@ -223,11 +229,11 @@ pub fn lengths_fit(
         && ranges::length_fits(x1)
 }
 
-// The refusal of a month's two readings: precipitation's, or else PE's.
-pub fn reading_refusal(p: Result<(), Refusal>, pe: Result<(), Refusal>) -> Result<(), Refusal>
-    ensures { answer_number result ≡ reading_refusal (answer_number p) (answer_number pe) }
+// The number of a month's two readings: precipitation's, or else PE's. They come as the numbers that `door::Told` has.
+pub fn reading_refusal(p: u8, pe: u8) -> u8
+    ensures { result ≡ reading_refusal p pe }
 {
-    p.and(pe)
+    if p != 0 { p } else { pe }
 }
 
 // 10, which every add asks last, of columns of length n.

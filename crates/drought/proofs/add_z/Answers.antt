@@ -5,4 +5,4 @@ use Rattle.drought.proofs.add_z.Goals as goal
 pub returns-clause-outcome : goal.returns-clause-outcome
 returns-clause-outcome c =
     let f = c.ranges.z in
-    rw (c.answer_of.ensures, c.progress_of-at.ensures) (rw (c.progress_of-at.ensures, to_z-of_z f) at c.try_z-t.ensures.outcome)
+    rw c.answer_of.ensures (rw (c.progress_of-at.ensures, to_z-of_z f) at c.try_z-t.ensures.outcome)

@@ -1,19 +1,17 @@
 -- `refusals::water_refusal`: the lists and the run, the readings, room. Assumes nothing.
-use Rattle.outline.proofs.Refusals.{or-second}
-use Rattle.outline.proofs.Refused.{or-refusal}
-use Rattle.std.proofs.lemmas.Grind.{common_steps}
-use native.Mathlib.Omega.{arith}
+use mathlib.Core.Path.{sym, ◌∙◌}
+use Rattle.outline.proofs.Refusals.{or-first, or-second}
 use Rattle.refusals.specs.Lent.{water_refusal_for}
 use Rattle.refusals.proofs.water_refusal.Goals as goal
 
-pub returns-in_err-run_refusal : goal.returns-in_err-run_refusal
+pub returns-then-number-ne0 : goal.returns-then-number-ne0
 unfolding water_refusal_for
-returns-in_err-run_refusal c = grind (arith, common_steps, or-refusal)
+returns-then-number-ne0 c = rw (← c.run_refusal.ensures, ← c.number-number.ensures) (sym (or-first _ _ c.if-number-ne0.true))
 
-pub returns-in_err-reading : goal.returns-in_err-reading
+pub returns-then-reading-ne0 : goal.returns-then-reading-ne0
 unfolding water_refusal_for
-returns-in_err-reading c = grind (arith, common_steps, or-refusal, or-second)
+returns-then-reading-ne0 c = rw (← c.run_refusal.ensures, ← c.number-number.ensures) (sym (or-second _ _ c.if-number-ne0.false ∙ or-first _ _ c.if-reading-ne0.true))
 
 pub returns : goal.returns
 unfolding water_refusal_for
-returns c = grind (arith, common_steps, or-second)
+returns c = rw (← c.run_refusal.ensures, ← c.number-number.ensures) (c.number.ensures ∙ c.room_refusal.ensures ∙ sym (or-second _ _ c.if-number-ne0.false ∙ or-second _ _ c.if-reading-ne0.false))
