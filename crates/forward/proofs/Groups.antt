@@ -16,9 +16,9 @@ use Rattle.hindsight.specs.Rule.{X, Row, side_from, nonzero, one_of, value_on}
 use Rattle.hindsight.specs.Adding.{settled_all}
 use Rattle.hindsight.specs.Columns.{rows_of}
 use Rattle.hindsight.specs.Months.{next_values, row_of_z}
-use Rattle.hindsight.specs.Coded.{state_of}
+use Rattle.hindsight.specs.Coded.{state_of, side_by}
 use Rattle.hindsight_laws.proofs.Hindsight.{x_of, shown_of, Wait}
-use Rattle.sides.specs.Sides.{sides_of, code, codes}
+use Rattle.sides.specs.Sides.{sides_of, code, codes, with_side}
 use Rattle.forward.specs.Groups.{group_indexes}
 use Rattle.std.specs.Prelude.{Some}
 
@@ -28,6 +28,18 @@ rows v zs = rows_of next_values row_of_z v zs
 
 abbrev pub values_after : Running → List ℤ → Running
 values_after v zs = state_of next_values v zs
+
+-- ---- what a decision leaves of a group
+
+pub by-sides : (by : With) (shown : List ℤ) (sides : List X) → (by ≡ X3 → ⊥) → group_indexes (Some by) shown sides ≡ settled_all (with_side (side_by by)) sides
+by-sides X1 shown sides h = refl
+by-sides X2 shown sides h = refl
+by-sides X3 shown sides h = absurd (h refl)
+
+pub by-x3 : (by : With) (shown : List ℤ) (sides : List X) → by ≡ X3 → group_indexes (Some by) shown sides ≡ shown
+by-x3 X1 shown sides h = cc
+by-x3 X2 shown sides h = cc
+by-x3 X3 shown sides h = refl
 
 -- ---- the sides: of months that decide nothing X1 and X2 are those of `sides_of`, and X3 has no part in it
 

@@ -1,6 +1,7 @@
--- The loop over the months: what it holds of the groups before and of the group that is open is a record each, with laws for its first turn, the
--- next and the end. Assumes nothing.
+-- The loop over the groups, and the scan for the month that decides one: what both hold is a record each, with laws for its first turn, the next
+-- and the ways out. Assumes nothing.
 use mathlib.Core.Path.{◌≡◌, refl, sym, ap, ◌∙◌}
+use mathlib.Core.Bool.{true, false}
 use mathlib.Core.List.{List, [], ◌∷◌, ◌++◌, map, append-nil}
 use Prim.Native.Nat.{ℕ, suc, ◌+◌, ◌-◌, ◌*◌, ◌≤◌, ◌<◌}
 use native.Mathlib.Numerals.{add-one}
@@ -26,12 +27,12 @@ use Rattle.hindsight_laws.proofs.Steps.{rows_long, rows_append, state-append}
 use Rattle.sides.specs.Sides.{EachFits, sides_of, code, codes, side_mark}
 use Rattle.sides.proofs.Rewriting.{part}
 use Rattle.forward.specs.Groups.{group_indexes}
-use Rattle.forward.proofs.Parts.{part-rest, part-kept, part_length, part-more, Column, column-front, column-part, column-tail, column-set, column-more, rewritten}
+use Rattle.forward.proofs.Parts.{part-rest, part_length, part-more, Column, column-front, column-part, column-tail, column-set, column-more, rewritten}
 use Rattle.forward.proofs.Groups.{rows, values_after, group-codes, group-indexes}
-use Rattle.std.specs.Prelude.{Option, None, Some}
+use Rattle.std.specs.Prelude.{Option, None, Some, is_some}
 use Rattle.spells.specs.declared.With.{With}
 
--- ---- the groups before `from`, where one begins with the values v
+-- ---- the loop over the groups, where one begins at `from` with the values v
 
 pub record Months (zs index : List ℤ) (mark : List ℕ) (v : Running) (from : ℕ) : Type 0 where
   pub index_is : take from index ++ forward_indexes (rows v (drop from zs)) ≡ forward_indexes (rows_of_z zs)
@@ -58,14 +59,15 @@ months-out {zs} {index} {mark} {v} {from} g h =
       rw (e, take_all from mark (omega (arith, g.mark_long)), append-nil mark) at g.mark_is,
     )
 
--- ---- the group from there on, up to the month `at`: none of its months decides
+-- ---- the scan from there on, at the month `at`: none that it has passed decides
 
--- its rows
+-- the rows that it has passed
 abbrev pub passed : Running → List ℤ → ℕ → ℕ → List Row
 passed v₀ zs from at = rows v₀ (part from at zs)
 
-pub record Scanning (zs index₀ : List ℤ) (mark₀ : List ℕ) (v₀ : Running) (from : ℕ) (index : List ℤ) (mark : List ℕ) (v : Running) (at : ℕ) : Type 0 where
+pub record Scanning (zs index₀ : List ℤ) (mark₀ : List ℕ) (v₀ : Running) (from : ℕ) (index : List ℤ) (mark : List ℕ) (v : Running) (by : Option With) (at : ℕ) : Type 0 where
   pub high : at ≤ length zs
+  pub none : by ≡ None
   pub state : v ≡ values_after v₀ (part from at zs)
   pub wait : Wait (passed v₀ zs from at)
   pub fits : FitsWithin (most_u * at) v
@@ -74,7 +76,7 @@ pub record Scanning (zs index₀ : List ℤ) (mark₀ : List ℕ) (v₀ : Runnin
   pub index_long : length index ≡ length zs
   pub mark_long : length mark ≡ length zs
 
--- where the group ends: the month `at` decides so, or with None the series ends there. Before the group X1 and X2 were a and b
+-- where the scan is left: the month `at` decides so, or with None the series ends there. Before the group X1 and X2 were a and b
 pub record Left (zs index : List ℤ) (mark : List ℕ) (a b : ℤ) (v : Running) (from : ℕ) (by : Option With) (at : ℕ) : Type 0 where
   pub low : from ≤ at
   pub high : at ≤ length zs
@@ -86,11 +88,12 @@ pub record Left (zs index : List ℤ) (mark : List ℕ) (a b : ℤ) (v : Running
   pub mark_all : take from mark ++ (replicate (at - from) (mark_for by) ++ (take 1 (drop at mark) ++ forward_marks (rows v (drop (at + 1) zs)))) ≡ forward_marks (rows_of_z zs)
 
 module _ {zs index₀ : List ℤ} {mark₀ : List ℕ} {v₀ : Running} {from : ℕ} (g₀ : Months zs index₀ mark₀ v₀ from) where
-  pub scan-first : from ≤ length zs → Scanning zs index₀ mark₀ v₀ from index₀ mark₀ v₀ from
+  pub scan-first : from ≤ length zs → Scanning zs index₀ mark₀ v₀ from index₀ mark₀ v₀ None from
   scan-first m =
       let e : from - from ≡ 0 = omega arith in
       record {
         high = omega arith;
+        none = refl;
         state = rw e refl;
         wait = rw e tt;
         fits = g₀.fits;
@@ -100,7 +103,7 @@ module _ {zs index₀ : List ℤ} {mark₀ : List ℕ} {v₀ : Running} {from : 
         mark_long = g₀.mark_long;
       }
 
-  module _ {index : List ℤ} {mark : List ℕ} {v : Running} {at : ℕ} (g : Scanning zs index₀ mark₀ v₀ from index mark v at) where
+  module _ {index : List ℤ} {mark : List ℕ} {v : Running} {by : Option With} {at : ℕ} (g : Scanning zs index₀ mark₀ v₀ from index mark v by at) where
     -- the step may be asked
     pub scan-fits : length zs ≤ most_months → ValuesFit v
     scan-fits h = fits_in (most_u * at) most_v v g.fits (omega (arith, g.fits.v_size, g.high))
@@ -131,7 +134,7 @@ module _ {zs index₀ : List ℤ} {mark₀ : List ℕ} {v₀ : Running} {from : 
         }
 
     -- nobody decides
-    pub left_out : length zs ≤ at → Left zs index mark v₀.x1 v₀.x2 v from None at
+    pub left_out : length zs ≤ at → Left zs index mark v₀.x1 v₀.x2 v from by at
     left_out o =
         let d : drop (at + 1) zs ≡ [] = drop_of_length-le zs {i = at + 1} (omega arith) in
         let i : drop at index₀ ≡ [] = drop_of_length-le index₀ {i = at} (omega (arith, g₀.index_long)) in
@@ -139,8 +142,8 @@ module _ {zs index₀ : List ℤ} {mark₀ : List ℕ} {v₀ : Running} {from : 
         let last : part from at zs ++ drop at zs ≡ part from at zs = rw (drop_of_length-le zs o) (append-nil (part from at zs)) in
         let all : rows v₀ (drop from zs) ≡ t = ap (rows v₀) (part-rest zs from at g.index_is.low ∙ last) in
         left g.index_is g.mark_is g.index_long g.mark_long (fits_in (most_u * at) (most_u * (at + 1)) v g.fits (omega (arith, g.fits.v_size)))
-        (rw (d, i, all, append-nil (map shown_of t)) (sym (forward-waits t g.wait)))
-        (rw (d, m, all, append-nil (replicate {A = ℕ} (at - from) 1)) (sym (ones t g.wait ∙ ap (λ (n : ℕ). replicate n 1) long)))
+        (rw (g.none, d, i, all, append-nil (map shown_of t)) (sym (forward-waits t g.wait)))
+        (rw (g.none, d, m, all, append-nil (replicate {A = ℕ} (at - from) 1)) (sym (ones t g.wait ∙ ap (λ (n : ℕ). replicate n 1) long)))
 
     -- a step from there
     module _ (ok : EachFits zs) (l : at < length zs) where
@@ -167,15 +170,20 @@ module _ {zs index₀ : List ℤ} {mark₀ : List ℕ} {v₀ : Running} {from : 
           ap (rows v₀) (part-rest zs from at g.index_is.low)
           ∙ rw (drop-cons zs at (pos 0) l, rows_append next_values row_of_z v₀ (part from at zs) (z ∷ drop (suc at) zs), ← g.state, add-one at) refl
 
-      -- a month that decides nothing is one more of the group
-      pub scan-next : (m : SpellMonth) (a : ℕ) → m ≡ without_chance r → m.decision ≡ None → a ≡ side_mark (told (nonzero m.after.x1) (nonzero m.after.x2))
-          → Scanning zs index₀ mark₀ v₀ from (set index at m.index) (set mark at a) m.after (at + 1)
-      scan-next m a e d c =
+      coded : (m : SpellMonth) (k : Option With) → m ≡ without_chance r → k ≡ m.decision → r.decision ≡ k
+      coded m k e f = sym (f ∙ ap (λ (m : SpellMonth). m.decision) e)
+
+      -- a month that decides nothing is passed
+      pub scan-next : (m : SpellMonth) (k : Option With) (a : ℕ) → m ≡ without_chance r → k ≡ m.decision → is_some k ≡ false → a ≡ side_mark (told (nonzero m.after.x1) (nonzero m.after.x2))
+          → Scanning zs index₀ mark₀ v₀ from (set index at m.index) (set mark at a) m.after k (at + 1)
+      scan-next m (Some w) a e f o c = cc
+      scan-next m None a e f o c =
           rw (c, e)
           (record {
             high = omega arith;
+            none = refl;
             state = rw (part-more zs from at g.index_is.low (pos 0) l, state-append next_values v₀ (part from at zs) (z ∷ []), ← g.state) refl;
-            wait = rw rows_more (wait-more t (row_of_z v z) g.wait (sym (ap (λ (m : SpellMonth). m.decision) e) ∙ d));
+            wait = rw rows_more (wait-more t (row_of_z v z) g.wait (coded m None e f));
             fits = step_fits;
             index_is = rw (rows_more, map-append shown_of t (row_of_z v z ∷ [])) (column-more index-set);
             mark_is = rw (rows_more, map-append x_of t (row_of_z v z ∷ []), map-append code (map x_of t) ((row_of_z v z).x ∷ [])) (column-more (mark_set _));
@@ -184,10 +192,11 @@ module _ {zs index₀ : List ℤ} {mark₀ : List ℕ} {v₀ : Running} {from : 
           })
 
       -- a month that decides ends the group
-      pub left-decides : (m : SpellMonth) (w : With) → m ≡ without_chance r → m.decision ≡ Some w
-          → Left zs (set index at m.index) (set mark at 2) v₀.x1 v₀.x2 m.after from (Some w) at
-      left-decides m w e f =
-          let d : r.decision ≡ Some w = sym (ap (λ (m : SpellMonth). m.decision) e) ∙ f in
+      pub left-decides : (m : SpellMonth) (k : Option With) → m ≡ without_chance r → k ≡ m.decision → is_some k ≡ true
+          → Left zs (set index at m.index) (set mark at 2) v₀.x1 v₀.x2 m.after from k at
+      left-decides m None e f o = cc
+      left-decides m (Some w) e f o =
+          let d : r.decision ≡ Some w = coded m (Some w) e f in
           rw e
           (left index-set (mark_set 2) (simp length-set g.index_long) (simp length-set g.mark_long) step_fits
           (rw (rows-rest, indexes-settle t (row_of_z v z) w (rows r.after (drop (at + 1) zs)) g.wait d, group-indexes v₀ (part from at zs) g.wait z w (rw (← g.state) d)) refl)
@@ -208,23 +217,3 @@ months-next {zs} {index} {index'} {mark} {mark'} {a} {b} {v} {from} {by} {at} g 
       mark_long = lm ∙ g.mark_long;
       fits = g.fits;
     }
-
--- ---- the loop, at the month `at`: the group that is open begins at `from` with the values v₀, and since it began only its part of the columns
--- has been written
-
-pub record Going (zs index : List ℤ) (mark : List ℕ) (v₀ v : Running) (from at : ℕ) : Type 0 where
-  pub index₀ : List ℤ
-  pub mark₀ : List ℕ
-  pub months : Months zs index₀ mark₀ v₀ from
-  pub group : Scanning zs index₀ mark₀ v₀ from index mark v at
-
-pub going-from : {zs index : List ℤ} {mark : List ℕ} {v : Running} {from : ℕ} → Months zs index mark v from → from ≤ length zs → Going zs index mark v v from from
-going-from {zs} {index} {mark} m l = record { index₀ = index; mark₀ = mark; months = m; group = scan-first m l }
-
--- at the end the open months are marked
-pub going-out : {zs index : List ℤ} {mark mark' : List ℕ} {v₀ v : Running} {from at : ℕ} → Going zs index mark v₀ v from at → at ≡ length zs
-    → length mark' ≡ length mark → mark' ≡ take from mark ++ (replicate (length zs - from) 1 ++ drop (length zs) mark)
-    → (index ≡ forward_indexes (rows_of_z zs)) × (mark' ≡ forward_marks (rows_of_z zs))
-going-out {zs} {index} {mark} {mark'} {v₀} {v} {from} {at} g e l m =
-    let o = left_out g.months g.group (omega arith) in
-    months-out (months-next o refl l (part-kept index from at o.low) (rw (← e) at m)) (omega arith)

@@ -1,64 +1,52 @@
--- `forward::look_forward` meets its contract. The loop's invariant is `Going`. Assumes nothing.
-use mathlib.Core.Path.{◌≡◌}
-use native.Mathlib.Omega.{arith}
+-- `forward::look_forward` meets its contract. Invariants: `Months` of the loop over the groups, `Scanning` of the scan. Assumes nothing.
+use mathlib.Core.Path.{refl, sym, ◌∙◌}
 use borrow.Author.Rules.{rules}
 use lib.IntN.{pos}
 use lib.ListN.{get_or}
 use mir.Syntax.{w32}
 use mir.Val.{SFits}
 use mir.Facts.{to_z-of_z}
-use Rattle.spells.specs.Chance.{without_chance}
-use Rattle.spells.specs.Spells.{step_of}
-use Rattle.forward.proofs.Scans.{left-decides, scan-next, months-next, going-from, going-out}
+use Rattle.forward.proofs.Scans.{scan-next, Left, left_out, left-decides, months-next}
 use Rattle.forward.proofs.look_forward.Goals as goal
-use Rattle.forward.proofs.look_forward.Goals.{After-step-month, in-None, in-Some}
+use Rattle.forward.proofs.look_forward.Goals.{Left-deciding, else-deciding-test, then-deciding-test+then-is_some}
 
--- what the step gives
-given : (c : After-step-month) → c.step-month.result ≡ without_chance (step_of c.loop-at.values (get_or c.args.z.now c.loop-at.at (pos 0)))
-given c =
-    let f : SFits w32 (get_or c.args.z.now c.loop-at.at (pos 0)) = search rules in
-    rw (to_z-of_z f) at c.step-month.ensures
-
-pub settle-requires-clause-mark_value : goal.settle-requires-clause-mark_value
-settle-requires-clause-mark_value c =
-    let t = (goal.at.settle-requires-clause-mark_value c).After-step-month in
-    let g = c.loop-at.invariant in
-    let fa : SFits w32 c.loop-at.before.x1 = search rules in
-    let fb : SFits w32 c.loop-at.before.x2 = search rules in
-    rw (to_z-of_z fa, to_z-of_z fb)
-    (left-decides g.months g.group c.requires.each_fits (omega arith) c.step-month.result c.in-Some.with (given t) c.in-Some.is).codes_are
-
-pub loop-at-preserved : goal.loop-at-preserved
-loop-at-preserved c =
-    let t = (goal.at.loop-at-preserved c).After-step-month in
-    let g = c.loop-at.invariant in
+pub deciding-preserved : goal.deciding-preserved
+deciding-preserved c =
     let m = c.step-month.result in
-    let fi : SFits w32 m.index = search rules in
-    let f1 : SFits w32 m.after.x1 = search rules in
-    let f2 : SFits w32 m.after.x2 = search rules in
-    elim c.match-month.branch [
-      | in-None w ↦ (
-          rw (w.index-is, w.mark-is, w.before-is, w.from-is, to_z-of_z fi)
-          (record {
-            index₀ = g.index₀;
-            mark₀ = g.mark₀;
-            months = g.months;
-            group = scan-next g.months g.group c.requires.each_fits (omega arith) m _ (given t) w.in-None.is (rw (w.told.ensures, to_z-of_z f1, to_z-of_z f2) at w.side_mark.ensures);
-          })
-          )
-      | in-Some w ↦ (
-          let l = left-decides g.months g.group c.requires.each_fits (omega arith) m w.in-Some.with (given t) w.in-Some.is in
-          let fa : SFits w32 c.loop-at.before.x1 = search rules in
-          let fb : SFits w32 c.loop-at.before.x2 = search rules in
-          rw (w.index-is, w.mark-is, w.before-is, w.from-is)
-          (going-from
-          (months-next l (rw (to_z-of_z fi) at w.settle.auto.index) w.settle.auto.mark (rw (to_z-of_z fi, to_z-of_z fa, to_z-of_z fb) at w.settle.ensures.indexes) w.settle.ensures.marks)
-          (omega arith))
+    let zt : SFits w32 (get_or c.args.z.now c.deciding.at (pos 0)) = search rules in
+    let za : SFits w32 m.after.x1 = search rules in
+    let zb : SFits w32 m.after.x2 = search rules in
+    let ze : SFits w32 m.index = search rules in
+    rw (to_z-of_z ze)
+    (scan-next c.months.invariant c.deciding.invariant c.requires.each_fits c.deciding-test.true m m.decision c.side_mark.result
+    (rw (to_z-of_z zt) at c.step-month.ensures) refl (sym c.is_some.ensures ∙ c.if-is_some.false) (rw (c.told.ensures, to_z-of_z za, to_z-of_z zb) at c.side_mark.ensures))
+
+-- where the two ways out of the scan meet
+leaves : (c : Left-deciding)
+    → Left c.args.z.now c.deciding-test.index c.deciding-test.mark
+    c.months.values.x1 c.months.values.x2
+    c.deciding-test.values c.months.from c.deciding-test.by c.deciding.at
+leaves c =
+    let z = c.args.z.now in
+    elim c.deciding-test.branch [
+      | else-deciding-test w ↦ rw (w.index-is, w.mark-is, w.values-is, w.by-is) (left_out c.months.invariant c.deciding.invariant w.deciding-test.false)
+      | then-deciding-test+then-is_some w ↦ (
+          let m = w.step-month.result in
+          let zt : SFits w32 (get_or z c.deciding.at (pos 0)) = search rules in
+          let ze : SFits w32 m.index = search rules in
+          rw (w.index-is, w.mark-is, w.values-is, w.by-is, to_z-of_z ze)
+          (left-decides c.months.invariant c.deciding.invariant c.requires.each_fits w.deciding-test.true m m.decision (rw (to_z-of_z zt) at w.step-month.ensures) refl (sym w.is_some.ensures ∙ w.if-is_some.true))
           )
     ]
 
-pub returns-clause-indexes : goal.returns-clause-indexes
-returns-clause-indexes c = (going-out c.loop-at.invariant (omega arith) c.mark_all.auto.mark c.mark_all.ensures).0
+pub settle-requires-clause-mark_value : goal.settle-requires-clause-mark_value
+settle-requires-clause-mark_value c =
+    let za : SFits w32 c.months.values.x1 = search rules in
+    let zb : SFits w32 c.months.values.x2 = search rules in
+    rw (to_z-of_z za, to_z-of_z zb) (leaves (goal.at.settle-requires-clause-mark_value c).Left-deciding).codes_are
 
-pub returns-clause-marks : goal.returns-clause-marks
-returns-clause-marks c = (going-out c.loop-at.invariant (omega arith) c.mark_all.auto.mark c.mark_all.ensures).1
+pub months-preserved : goal.months-preserved
+months-preserved c =
+    let za : SFits w32 c.months.values.x1 = search rules in
+    let zb : SFits w32 c.months.values.x2 = search rules in
+    months-next (leaves (goal.at.months-preserved c).Left-deciding) c.settle.auto.index c.settle.auto.mark (rw (to_z-of_z za, to_z-of_z zb) at c.settle.ensures.indexes) c.settle.ensures.marks
