@@ -16,10 +16,10 @@ use Rattle.records.specs.declared.Record.{Record}
 use Rattle.records.proofs.Fitting.{amounts-is}
 use Rattle.refusals.specs.Book.{Book, long, columns_fit}
 use Rattle.refusals.specs.Good.{Good}
-use Rattle.refusals.specs.Lent.{lent_long}
+use Rattle.refusals.specs.Lent.{lent_long, reading_refusal}
 use Rattle.refusals.specs.Refusals.{is_run_of, run_refusal}
 use Rattle.refusals.proofs.Refused.{good-passes}
-use Rattle.refusals.proofs.Lent.{lent-long, or-joined, or_nothing}
+use Rattle.refusals.proofs.Lent.{lent-long, or_nothing}
 use Rattle.kept_rows.specs.KeptRows.{rows_fit}
 use Rattle.records.specs.Water.{had_water}
 use Rattle.reworking.specs.Workable.{Workable}
@@ -37,17 +37,10 @@ module _ (m n : Record) (e : m ≡ n) (f : SFits w32 m.water) where
   without-water h = sym test-is ∙ ne_eqb (of_z w32 m.water) 1 h
 
 module _ (r : Run) (i : ℕ) (cs : Book) (n : ℕ) where
-  -- the readings come last
-  pub readings-last : (p pe : ℕ) → or_else (repair_refusal r i 0 0 cs n) (or_else p pe) ≡ repair_refusal r i p pe cs n
+  -- the two readings' numbers may be joined to one, and PE's then be 0
+  pub joined : (p pe : ℕ) → repair_refusal r i (reading_refusal p pe) 0 cs n ≡ repair_refusal r i p pe cs n
   unfolding repair_refusal
-  readings-last p pe =
-      let lists = cond (columns_fit cs && eqb n (long cs)) 0 bad_lists in
-      let run = cond (is_run_of cs r && rows_fit r.soil.capacity cs r.months) 0 not_a_run in
-      let row = cond (ltb i r.months) 0 no_such_row in
-      let water = cond (had_water (record_at cs.records i)) 0 waterless in
-      let q = or_else p pe in
-      or-joined lists (or_else run (or_else row (or_else water 0))) q
-      ∙ ap (or_else lists) (or-joined run (or_else row (or_else water 0)) q ∙ ap (or_else run) (or-joined row (or_else water 0) q ∙ ap (or_else row) (or-joined water 0 q)))
+  joined p pe = rw (or_nothing (or_else p pe))
 
   module _ (p : ℕ) where
     abbrev asked : ℕ

@@ -6,11 +6,12 @@
 // nothing can be, so it never stops half way.
 #![tactic(auto)]
 
-ghost use Rattle.std.specs.Prelude.{◌≡◌};
-ghost use Rattle.outline.specs.Refused.{answer_number};
+ghost use Rattle.std.specs.Prelude.{◌≡◌, ◌≤◌};
+ghost use Rattle.door.specs.Outcome.{measured};
+ghost use Rattle.door.specs.Readings.{most_reading};
 ghost use Rattle.runs.specs.Progress.{run_of};
 ghost use Rattle.refusals.specs.Book.{book};
-ghost use Rattle.repair.specs.Repair.{repair_result, repair_refusal, repair};
+ghost use Rattle.repair.specs.Repair.{repair_result, repair_refusal, repair_outcomes, repair};
 ghost use Rattle.repair.specs.Tried.{repaired_of};
 
 use door::Reading;
@@ -28,9 +29,11 @@ pub struct Repaired {
     pub run: Run,
 }
 
-// A repair that is done: what it answers, without the run's constants.
+// What a repair answers, without the run's constants, done or refused. In a `Result` the progress would be copied where it is taken
+// apart, and the run with its constants put together twice.
 #[derive(Drop)]
 struct Tried {
+    number: u8,
     changed: u32,
     progress: Progress,
 }
@@ -52,43 +55,44 @@ pub fn repair(
 ) -> Repaired
     ensures { repair_result result (book x1.new x2.new x3.new index.new mark.new records.new v.new) report.new ≡ repair run i p pe (book x1.old x2.old x3.old index.old mark.old records.old v.old) report.old }
 {
+    let a = door::tell(door::read(p));
+    let b = door::tell(door::read(pe));
     let at = runs::progress_of(run);
     let constants = run.constants;
     let t = try_repair(
-        at, &constants, i, p, pe, x1, x2, x3, index, mark, records, v, report,
+        at,
+        &constants,
+        i,
+        refusals::reading_refusal(a.number, b.number),
+        a.water,
+        b.water,
+        a.kind,
+        x1,
+        x2,
+        x3,
+        index,
+        mark,
+        records,
+        v,
+        report,
     );
-    repaired_of(t, at, constants)
-}
-
-// The answer to a run that stood so, with these constants.
-fn repaired_of(
-    t: Result<Tried, Refusal>,
-    at: Progress,
-    constants: [i32; MANY_CONSTANTS],
-) -> Repaired
-    ensures { result ≡ repaired_of t at constants }
-{
-    match t {
-        Ok(done) => Repaired {
-            number: 0,
-            changed: done.changed,
-            run: runs::run_of(done.progress, constants),
-        },
-        Err(refusal) => Repaired {
-            number: refusal.number(),
-            changed: 0,
-            run: runs::run_of(at, constants),
-        },
+    let next = runs::run_of(t.progress, constants);
+    Repaired {
+        number: t.number,
+        changed: t.changed,
+        run: next,
     }
 }
 
-// A repair, done or refused.
+// A repair by the number, the thousandths and the kind that its two readings come to, done or refused.
 fn try_repair(
     at: Progress,
     constants: &[i32; MANY_CONSTANTS],
     i: usize,
-    p: Reading,
-    pe: Reading,
+    reading: u8,
+    p: u32,
+    pe: u32,
+    kind: u8,
     x1: &mut [i32],
     x2: &mut [i32],
     x3: &mut [i32],
@@ -97,21 +101,15 @@ fn try_repair(
     records: &mut [RecordNumbers],
     v: &mut [i64],
     report: &mut [ChangeNumbers],
-) -> Result<Tried, Refusal>
-    ensures { repair_result (repaired_of result at constants.now) (book x1.new x2.new x3.new index.new mark.new records.new v.new) report.new ≡ repair (run_of at constants.now) i p pe (book x1.old x2.old x3.old index.old mark.old records.old v.old) report.old }
+) -> Tried
+    requires { (p ≤ most_reading) × (pe ≤ most_reading) × (kind ≤ measured) }
+    ensures { repair_result (repaired_of result constants.now) (book x1.new x2.new x3.new index.new mark.new records.new v.new) report.new ≡ repair_outcomes (run_of at constants.now) i (record { number = reading; water = p; kind = kind }) (record { number = 0; water = pe; kind = 0 }) (book x1.old x2.old x3.old index.old mark.old records.old v.old) report.old }
 {
-    let long = report.len();
-    repair_refusal(at, constants, i, x1, x2, x3, index, mark, records, v, long)?;
-    let first = door::read(p)?;
-    let second = door::read(pe)?;
-    report::hold(index, mark, report);
-    let s = reworking::rework(
+    let number = repair_refusal(
         at,
         constants,
-        i as u32,
-        first.water(),
-        second.water(),
-        first.kind().number(),
+        i,
+        reading,
         x1,
         x2,
         x3,
@@ -119,19 +117,40 @@ fn try_repair(
         mark,
         records,
         v,
+        report.len(),
+    );
+    if number != 0 {
+        return not_repaired(number, at);
+    }
+    report::hold(index, mark, report);
+    let s = reworking::rework(
+        at, constants, i as u32, p, pe, kind, x1, x2, x3, index, mark, records, v,
     );
     let k = report::tell(index, mark, at.months as usize, report);
-    Ok(Tried {
+    Tried {
+        number: 0,
         changed: k as u32,
         progress: s,
-    })
+    }
 }
 
-// 1, 7, 11, 17, which are asked before the readings; of a report of n places.
+// A repair that is refused: its number, and the run given.
+fn not_repaired(number: u8, at: Progress) -> Tried
+    ensures { result ≡ record { number = number; changed = 0; progress = at } }
+{
+    Tried {
+        number,
+        changed: 0,
+        progress: at,
+    }
+}
+
+// 1, 7, 11, 17, and the number of the two readings; of a report of n places.
 fn repair_refusal(
     at: Progress,
     constants: &[i32; MANY_CONSTANTS],
     i: usize,
+    reading: u8,
     x1: &[i32],
     x2: &[i32],
     x3: &[i32],
@@ -140,8 +159,8 @@ fn repair_refusal(
     records: &[RecordNumbers],
     v: &[i64],
     n: usize,
-) -> Result<(), Refusal>
-    ensures { answer_number result ≡ repair_refusal (run_of at constants.now) i 0 0 (book x1.now x2.now x3.now index.now mark.now records.now v.now) n }
+) -> u8
+    ensures { result ≡ repair_refusal (run_of at constants.now) i reading 0 (book x1.now x2.now x3.now index.now mark.now records.now v.now) n }
 {
     let long = refusals::lent_length(
         x1.len(),
@@ -153,9 +172,12 @@ fn repair_refusal(
         v.len(),
     );
     if n != long {
-        return Err(Refusal::BadLists);
+        return Refusal::BadLists.number();
     }
-    refusals::run_refusal(long, at, constants, records)?;
+    let number = outline::number(refusals::run_refusal(long, at, constants, records));
+    if number != 0 {
+        return number;
+    }
     let soil = at.soil;
     if !kept_rows::rows_fit(
         soil.capacity,
@@ -168,14 +190,14 @@ fn repair_refusal(
         records,
         v,
     ) {
-        return Err(Refusal::NotARun);
+        return Refusal::NotARun.number();
     }
     if i >= at.months as usize {
-        return Err(Refusal::NoSuchRow);
+        return Refusal::NoSuchRow.number();
     }
     let m = records::record_at(records, i);
     if m.water != WATER {
-        return Err(Refusal::Waterless);
+        return Refusal::Waterless.number();
     }
-    Ok(())
+    reading
 }

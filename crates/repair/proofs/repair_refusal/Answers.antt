@@ -3,9 +3,7 @@ use mathlib.Core.Path.{◌≡◌, sym, ◌∙◌}
 use native.Mathlib.Omega.{arith}
 use mir.Syntax.{w32}
 use mir.Val.{SFits}
-use Rattle.std.proofs.lemmas.Result.{err_from_is_err_and}
 use Rattle.outline.proofs.Tests.{fails, passes}
-use Rattle.outline.proofs.Refused.{number-ne-zero}
 use Rattle.runs.specs.Progress.{run_of}
 use Rattle.runs.specs.RunFits.{RunFits}
 use Rattle.records.specs.Record.{record_at}
@@ -24,22 +22,21 @@ returns-then-n-long c =
     let r = run_of a.at a.constants.now in
     let cs = book a.x1.now a.x2.now a.x3.now a.index.now a.mark.now a.records.now a.v.now in
     let l = c.lent_length-long.ensures in
-    lists-refuse r a.i cs a.n 0 (λ e. c.if-n-long.true (e ∙ sym l))
+    c.number.ensures ∙ lists-refuse r a.i cs a.n a.reading (λ e. c.if-n-long.true (e ∙ sym l))
 
 pub run_refusal-requires : goal.run_refusal-requires
 run_refusal-requires c =
     let a = c.args in
     rw c.lent_length-long.ensures (lent-records (book a.x1.now a.x2.now a.x3.now a.index.now a.mark.now a.records.now a.v.now))
 
-pub returns-in_err-run_refusal : goal.returns-in_err-run_refusal
-returns-in_err-run_refusal c =
+pub returns-then-number-ne0 : goal.returns-then-number-ne0
+returns-then-number-ne0 c =
     let a = c.args in
     let r = run_of a.at a.constants.now in
     let cs = book a.x1.now a.x2.now a.x3.now a.index.now a.mark.now a.records.now a.v.now in
     let long_is : a.n ≡ lent_long cs = omega (arith, c.if-n-long.false, c.lent_length-long.ensures) in
-    let p = err_from_is_err_and c.from_residual.result c.from_residual.ensures.1 in
-    let number_is = (rw c.lent_length-long.ensures at c.in_err-run_refusal.ensures) ∙ run_lent cs r in
-    rw (p.1, p.2) (number_is ∙ run-refuses r a.i cs a.n 0 long_is (λ z. number-ne-zero _ (number_is ∙ z)))
+    let number_is : c.number-number.result ≡ run_refusal r cs = c.number-number.ensures ∙ (rw c.lent_length-long.ensures at c.run_refusal.ensures) ∙ run_lent cs r in
+    number_is ∙ run-refuses r a.i cs a.n a.reading long_is (λ z. c.if-number-ne0.true (number_is ∙ z))
 
 -- a run that is theirs
 pub rows_fit-requires : goal.rows_fit-requires
@@ -47,8 +44,8 @@ rows_fit-requires c =
     let a = c.args in
     let r = run_of a.at a.constants.now in
     let cs = book a.x1.now a.x2.now a.x3.now a.index.now a.mark.now a.records.now a.v.now in
-    let number_is : 0 ≡ run_refusal r cs = (rw c.lent_length-long.ensures at c.in_ok-run_refusal.ensures) ∙ run_lent cs r in
-    let good = run-passes r cs (sym number_is) in
+    let number_is : c.number-number.result ≡ run_refusal r cs = c.number-number.ensures ∙ (rw c.lent_length-long.ensures at c.run_refusal.ensures) ∙ run_lent cs r in
+    let good = run-passes r cs (sym number_is ∙ c.if-number-ne0.false) in
     let l = columns_are cs good.fit in
     let f : RunFits (long cs) r = run_is r cs good in
     record {
@@ -62,9 +59,9 @@ returns-then-not-rows_fit c =
     let r = run_of a.at a.constants.now in
     let cs = book a.x1.now a.x2.now a.x3.now a.index.now a.mark.now a.records.now a.v.now in
     let long_is : a.n ≡ lent_long cs = omega (arith, c.if-n-long.false, c.lent_length-long.ensures) in
-    let number_is : 0 ≡ run_refusal r cs = (rw c.lent_length-long.ensures at c.in_ok-run_refusal.ensures) ∙ run_lent cs r in
-    let good = run-passes r cs (sym number_is) in
-    rows-refuse r a.i cs a.n 0 long_is good (fails c.rows_fit.ensures c.if-not-rows_fit.true-raw)
+    let number_is : c.number-number.result ≡ run_refusal r cs = c.number-number.ensures ∙ (rw c.lent_length-long.ensures at c.run_refusal.ensures) ∙ run_lent cs r in
+    let good = run-passes r cs (sym number_is ∙ c.if-number-ne0.false) in
+    c.number-then-not-rows_fit.ensures ∙ rows-refuse r a.i cs a.n a.reading long_is good (fails c.rows_fit.ensures c.if-not-rows_fit.true-raw)
 
 -- rows in range
 pub returns-then-i-at : goal.returns-then-i-at
@@ -73,18 +70,18 @@ returns-then-i-at c =
     let r = run_of a.at a.constants.now in
     let cs = book a.x1.now a.x2.now a.x3.now a.index.now a.mark.now a.records.now a.v.now in
     let long_is : a.n ≡ lent_long cs = omega (arith, c.if-n-long.false, c.lent_length-long.ensures) in
-    let number_is : 0 ≡ run_refusal r cs = (rw c.lent_length-long.ensures at c.in_ok-run_refusal.ensures) ∙ run_lent cs r in
-    let good = run-passes r cs (sym number_is) in
+    let number_is : c.number-number.result ≡ run_refusal r cs = c.number-number.ensures ∙ (rw c.lent_length-long.ensures at c.run_refusal.ensures) ∙ run_lent cs r in
+    let good = run-passes r cs (sym number_is ∙ c.if-number-ne0.false) in
     let rows = passes c.rows_fit.ensures c.if-not-rows_fit.false-raw in
-    row-refuses r a.i cs a.n 0 long_is good rows c.if-i-at.true
+    c.number-then-i-at.ensures ∙ row-refuses r a.i cs a.n a.reading long_is good rows c.if-i-at.true
 
 pub record_at-m-requires : goal.record_at-m-requires
 record_at-m-requires c =
     let a = c.args in
     let r = run_of a.at a.constants.now in
     let cs = book a.x1.now a.x2.now a.x3.now a.index.now a.mark.now a.records.now a.v.now in
-    let number_is : 0 ≡ run_refusal r cs = (rw c.lent_length-long.ensures at c.in_ok-run_refusal.ensures) ∙ run_lent cs r in
-    let good = run-passes r cs (sym number_is) in
+    let number_is : c.number-number.result ≡ run_refusal r cs = c.number-number.ensures ∙ (rw c.lent_length-long.ensures at c.run_refusal.ensures) ∙ run_lent cs r in
+    let good = run-passes r cs (sym number_is ∙ c.if-number-ne0.false) in
     omega (arith, c.if-i-at.false, (run_is r cs good).months, (columns_are cs good.fit).records_is)
 
 -- by the mark of its water: the month without water and with it
@@ -94,11 +91,12 @@ returns-then-m-ne-WATER c =
     let r = run_of a.at a.constants.now in
     let cs = book a.x1.now a.x2.now a.x3.now a.index.now a.mark.now a.records.now a.v.now in
     let long_is : a.n ≡ lent_long cs = omega (arith, c.if-n-long.false, c.lent_length-long.ensures) in
-    let number_is : 0 ≡ run_refusal r cs = (rw c.lent_length-long.ensures at c.in_ok-run_refusal.ensures) ∙ run_lent cs r in
-    let good = run-passes r cs (sym number_is) in
+    let number_is : c.number-number.result ≡ run_refusal r cs = c.number-number.ensures ∙ (rw c.lent_length-long.ensures at c.run_refusal.ensures) ∙ run_lent cs r in
+    let good = run-passes r cs (sym number_is ∙ c.if-number-ne0.false) in
     let rows = passes c.rows_fit.ensures c.if-not-rows_fit.false-raw in
     let f : SFits w32 c.record_at-m.result.water = record { sfits = c.struct_told-1.given.1.1.1.1.1.1.1.1.1.1.1.0.1 } in
-    water-refuses r a.i cs a.n 0 long_is good rows c.if-i-at.false
+    c.number-then-m-ne-WATER.ensures
+    ∙ water-refuses r a.i cs a.n a.reading long_is good rows c.if-i-at.false
     (without-water c.record_at-m.result (record_at cs.records a.i) c.record_at-m.ensures f c.if-m-ne-WATER.true)
 
 pub returns : goal.returns
@@ -107,9 +105,9 @@ returns c =
     let r = run_of a.at a.constants.now in
     let cs = book a.x1.now a.x2.now a.x3.now a.index.now a.mark.now a.records.now a.v.now in
     let long_is : a.n ≡ lent_long cs = omega (arith, c.if-n-long.false, c.lent_length-long.ensures) in
-    let number_is : 0 ≡ run_refusal r cs = (rw c.lent_length-long.ensures at c.in_ok-run_refusal.ensures) ∙ run_lent cs r in
-    let good = run-passes r cs (sym number_is) in
+    let number_is : c.number-number.result ≡ run_refusal r cs = c.number-number.ensures ∙ (rw c.lent_length-long.ensures at c.run_refusal.ensures) ∙ run_lent cs r in
+    let good = run-passes r cs (sym number_is ∙ c.if-number-ne0.false) in
     let rows = passes c.rows_fit.ensures c.if-not-rows_fit.false-raw in
     let f : SFits w32 c.record_at-m.result.water = record { sfits = c.struct_told-1.given.1.1.1.1.1.1.1.1.1.1.1.0.1 } in
-    readings-refuse r a.i cs a.n 0 long_is good rows c.if-i-at.false
+    readings-refuse r a.i cs a.n a.reading long_is good rows c.if-i-at.false
     (with-water c.record_at-m.result (record_at cs.records a.i) c.record_at-m.ensures f c.if-m-ne-WATER.false)
