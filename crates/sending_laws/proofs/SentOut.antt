@@ -6,6 +6,10 @@ use Prim.Native.Nat.{ℕ, zero, suc, ◌+◌, ◌<◌}
 use native.Mathlib.Omega.{arith}
 use lib.IntN.{ℤ}
 use lib.ListN.{length, get_or}
+use Rattle.std.specs.Prelude.{Result, Ok, Err}
+use Rattle.outline.specs.Refused.{answer_number}
+use Rattle.outline.specs.declared.Refusal.{Refusal}
+use Rattle.outline.proofs.Refused.{number-ne-zero, one-refusal}
 use Rattle.fields.specs.Written.{value_text}
 use Rattle.fields.proofs.Inverse.{read_written}
 use Rattle.fields.proofs.Back.{written_read, read_fits}
@@ -14,8 +18,8 @@ use Rattle.figures.specs.declared.Figure.{Figure}
 use Rattle.figures.specs.declared.Figure.TheVariants.{Value, Missing}
 use Rattle.figures.proofs.Inverse.{figure-back}
 use Rattle.layout_figures.specs.Line.{figures_said}
-use Rattle.sending.specs.Sending.{heading_fits, all_fit}
-use Rattle.sending_laws.specs.SentOut.{sent, ReadBack, Inverse, Marked, SendingOut}
+use Rattle.sending.specs.Sending.{heading_fits, all_fit, Written, written}
+use Rattle.sending_laws.specs.SentOut.{Asked, outcome, sent, ReadBack, Inverse, Marked, SendingOut}
 use Rattle.sending_laws.proofs.ReadBack.{line-back}
 use Rattle.sending_laws.proofs.Outcome.{number_is, each_number, unfit-said, all-passed, sent-all, first-of-line, each-place}
 use Rattle.sending_laws.proofs.Months.{nothing-unsettled, every-month}
@@ -55,6 +59,16 @@ never-marked =
       refused = λ q m h g l e f. unfit-said q g (rw (not-all (sent q) m h l e f) (and-false (heading_fits q.state q.division (q.year + q.which))));
     }
 
+-- ---- one outcome: an answer is told by its number
+same-answer : (r s : Result (Unit {0}) Refusal) → answer_number r ≡ answer_number s → r ≡ s
+same-answer (Ok a) (Ok b) h = refl
+same-answer (Ok a) (Err f) h = absurd (number-ne-zero f (sym h))
+same-answer (Err e) (Ok b) h = absurd (number-ne-zero e h)
+same-answer (Err e) (Err f) h = ap Err (one-refusal e f h)
+
+one-answered : (q : Asked) (r s : Result (Unit {0}) Refusal) (l m : List ℕ) → written (answer_number r) l ≡ outcome q → written (answer_number s) m ≡ outcome q → (r ≡ s) × (l ≡ m)
+one-answered q r s l m p t = let e = p ∙ sym t in (same-answer r s (ap (λ (w : Written). w.number) e), ap (λ (w : Written). w.line) e)
+
 pub sending-out : SendingOut
 sending-out =
     record {
@@ -66,5 +80,10 @@ sending-out =
       settled = nothing-unsettled;
       rows = every-month;
       reading = each-reading;
-      one_outcome = record { written_one = λ q a b p r. p ∙ sym r; read_one = λ line e s d y a b p r. p ∙ sym r };
+      one_outcome =
+          record {
+            written_one = λ q a b p r. p ∙ sym r;
+            answered_one = one-answered;
+            read_one = λ line e s d y a b p r. p ∙ sym r;
+          };
     }

@@ -5,9 +5,11 @@
 -- after 1 and 7, 24 such a value, or a state, division or year that doesn't fit its digits, 25 output list too short for the line, in that order, with nothing
 -- written." The definitions of the calls are `write_line` of the crate `sending` and `figures_said` of `layout_figures`. `sending-out` of proofs/SentOut.antt proves
 -- it. Assumes nothing.
-use Rattle.std.specs.Prelude.{◌≡◌, Bool, true, false, not, ◌&&◌, List, [], ◌++◌, ℕ, ◌+◌, ◌-◌, ◌*◌, ◌/◌, ◌%◌, ◌≤◌, ◌<◌, ℤ, pos, eqb, leb, length, take, drop, get_or}
+use Rattle.std.specs.Prelude.{◌≡◌, Bool, true, false, not, ◌&&◌, List, [], ◌++◌, ℕ, ◌+◌, ◌-◌, ◌*◌, ◌/◌, ◌%◌, ◌≤◌, ◌<◌, ℤ, pos, eqb, leb, length, take, drop, get_or, Result}
 use Rattle.outline.specs.Numbers.{last_month}
 use Rattle.outline.specs.Refusals.{bad_lists, not_a_run}
+use Rattle.outline.specs.Refused.{answer_number}
+use Rattle.outline.specs.declared.Refusal.{Refusal}
 use Rattle.text.specs.Bytes.{all_spaces}
 use Rattle.fields.specs.Columns.{width, last_column, months_of_year}
 use Rattle.fields.specs.Field.{units, numbered, field_of}
@@ -29,7 +31,7 @@ use Rattle.layout.specs.Fault.{fault_of}
 use Rattle.layout_figures.specs.Line.{is_named, told, figures_said}
 use Rattle.layout_figures.specs.declared.Figures.{Figures}
 use Rattle.sent_months.specs.Sent.{row_sent, month_sent}
-use Rattle.sending.specs.Sending.{year_of, heading_fits, all_fit, Written, write_line}
+use Rattle.sending.specs.Sending.{year_of, heading_fits, all_fit, Written, written, write_line}
 
 -- a run's year, as it is asked for
 pub record Asked : Type 0 where
@@ -126,6 +128,8 @@ pub record ReadExactly (line : List ℕ) (e : Element) (s d y : ℕ) : Type 0 wh
 -- ---- any two outcomes that the promises allow are the same
 pub record OneOutcome : Type 0 where
   pub written_one : (q : Asked) (a b : Written) → a ≡ outcome q → b ≡ outcome q → a ≡ b
+  -- what `sending::write_line` answers, and the line that it leaves
+  pub answered_one : (q : Asked) (r s : Result (Unit {0}) Refusal) (l m : List ℕ) → written (answer_number r) l ≡ outcome q → written (answer_number s) m ≡ outcome q → (r ≡ s) × (l ≡ m)
   pub read_one : (line : List ℕ) (e : Element) (s d y : ℕ) (a b : Figures) → a ≡ figures_said line e s d y → b ≡ figures_said line e s d y → a ≡ b
 
 pub record SendingOut : Type 0 where
