@@ -1,21 +1,39 @@
--- What the code's branches have to show: `converted` where its range test passes and where it fails, and `whole`.
+-- What the code's branches have to show: a trace and what is none, `converted` where its range test passes and where it fails, and `whole`.
 -- Assumes nothing.
-use mathlib.Core.Path.{◌≡◌, refl, sym, ap, ◌∙◌, subst}
-use mathlib.Core.Bool.{Bool, true, false, cond, true≢false, false≢true}
+use mathlib.Core.Path.{◌≡◌, refl, sym, ap, ap₂, ◌∙◌, subst}
+use mathlib.Core.Bool.{Bool, true, false, cond, ◌&&◌, true≢false, false≢true}
 use Prim.Native.Nat.{ℕ, zero-le, ◌*◌, ◌^◌, ◌<◌, ◌≤◌}
 use native.Mathlib.Nat.{lt_of_le_of_lt}
 use lib.IntN.{ℤ, pos, negsuc, nat_abs}
 use lib.Signed.{le_z, non_neg}
-use lib.Dec.{T, lit<}
+use lib.Dec.{T, eqb, lit<}
 use lib.Ieee.{Float, binary32, le, of_bits}
 use mir.Syntax.{w32}
 use mir.Val.{Fits}
-use borrow.Author.Tests.{leb-true, le-leb}
+use borrow.Author.Tests.{leb-true, le-leb, eq-eqb, ne_eqb}
 use Rattle.door.specs.Exact.{within, above_zero, nearest_to}
-use Rattle.door.specs.Outcome.{Outcome, accepted, refused}
+use Rattle.door.specs.Outcome.{Outcome, accepted, traced, refused}
 use Rattle.outline.specs.Refusals.{not_acceptable}
 use Rattle.door.proofs.Range.{at, inside, over, under, widened}
 use Rattle.door.specs.Readings.{fallen, converted, whole, most_reading}
+
+-- the two tests `n != 0` and `above_zero(x)`: the first passes, only the second, or neither
+module _ (x : Float) (n : ℕ) where
+  abbrev told : Bool → Bool → Outcome
+  told above dry = cond (above && dry) traced (accepted n)
+
+  pub is-trace : n ≡ 0 → above_zero x ≡ true → traced ≡ fallen (above_zero x) n
+  is-trace e p = sym (ap₂ told p (eq-eqb n 0 e))
+
+  pub not-above : above_zero x ≡ false → accepted n ≡ fallen (above_zero x) n
+  not-above p = sym (ap (λ (b : Bool). told b (eqb n 0)) p)
+
+  pub not-dry : (n ≡ 0 → ⊥) → accepted n ≡ fallen (above_zero x) n
+  not-dry h = sym (ap (told (above_zero x)) (ne_eqb n 0 h) ∙ neither (above_zero x))
+    where
+      neither : (b : Bool) → told b false ≡ accepted n
+      neither true = refl
+      neither false = refl
 
 -- the two tests `x >= 0.0` and `x <= MOST`, of which MOST is n * 2 ^ d and has the pattern b
 module _ (n d b : ℕ) (N : 0 < n * 2 ^ d) (is : of_bits binary32 b ≡ at n d) (per of : ℕ) (x : Float) where

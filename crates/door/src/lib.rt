@@ -6,7 +6,7 @@
 
 ghost use Rattle.std.specs.Prelude.{◌≡◌, ◌<◌, ◌≤◌, T};
 ghost use Rattle.door.specs.Exact.{within, above_zero, nearest_to};
-ghost use Rattle.door.specs.Readings.{fallen, whole, inches, millimetres, reading, month};
+ghost use Rattle.door.specs.Readings.{whole, inches, millimetres, reading, month};
 ghost use Rattle.door.specs.Outcome.{accepted_as, outcome, told_as, told_month};
 ghost use Rattle.door.specs.Kinds.{kind_number};
 
@@ -137,24 +137,21 @@ fn above_zero(x: f32) -> bool
     x > 0.0
 }
 
-// A number in range that comes to n thousandths. What is above zero and comes to none is a trace.
-fn amount_of(x: f32, n: u32) -> Amount
-    ensures { accepted_as result ≡ fallen (above_zero x) n }
-{
-    if n == 0 && above_zero(x) {
-        return Amount::Trace;
-    }
-    Amount::Water(n)
-}
-
-// A number of inches. A NaN passes no comparison, so both tests must pass. One function for inches and millimetres would take the
-// end of the range twice, as a float for the test and as a whole number for the promise.
+// A number of inches. A NaN passes no comparison, so both tests must pass. What is above zero and comes to no thousandth is a
+// trace. One function for inches and millimetres would take the end of the range twice, as a float for the test and as a whole
+// number for the promise; one for the three ways out costs a reading some instructions.
 fn read_inches(x: f32) -> Result<Amount, Refusal>
     ensures { outcome result ≡ inches x }
 {
     if x >= 0.0 && x <= MOST_INCHES {
         let n = nearest_to(x, 1000, 1);
-        return Ok(amount_of(x, n));
+        if n != 0 {
+            return Ok(Amount::Water(n));
+        }
+        if above_zero(x) {
+            return Ok(Amount::Trace);
+        }
+        return Ok(Amount::Water(0));
     }
     Err(Refusal::BadReading)
 }
@@ -165,7 +162,13 @@ fn read_millimetres(x: f32) -> Result<Amount, Refusal>
 {
     if x >= 0.0 && x <= MOST_MILLIMETRES {
         let n = nearest_to(x, 5000, 127);
-        return Ok(amount_of(x, n));
+        if n != 0 {
+            return Ok(Amount::Water(n));
+        }
+        if above_zero(x) {
+            return Ok(Amount::Trace);
+        }
+        return Ok(Amount::Water(0));
     }
     Err(Refusal::BadReading)
 }

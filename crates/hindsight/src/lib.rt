@@ -7,6 +7,7 @@ ghost use Rattle.std.specs.Prelude.{◌≡◌, ◌++◌, ◌-◌, ◌≤◌, len
 ghost use Rattle.hindsight.specs.Rule.{nonzero};
 ghost use Rattle.hindsight.specs.Adding.{settled_all};
 ghost use Rattle.hindsight.specs.Columns.{x_at, xs_from};
+ghost use Rattle.std.specs.Option.{unwrap_or};
 ghost use Rattle.hindsight.specs.Coded.{told, side_by, value_by};
 
 use spells::With;
@@ -26,6 +27,18 @@ pub fn told(x1: i32, x2: i32) -> Option<Side>
         if x2 == 0 { None } else { Some(Side::Second) }
     } else {
         if x2 == 0 { Some(Side::First) } else { None }
+    }
+}
+
+// The side that a month gives alone, and else the one that is held. Told by itself and not by `told`, whose option would be put
+// together and taken apart for each month.
+fn side_from(x1: i32, x2: i32, held: Side) -> Side
+    ensures { result ≡ unwrap_or (told (nonzero x1) (nonzero x2)) held }
+{
+    if x1 == 0 {
+        if x2 == 0 { held } else { Side::Second }
+    } else {
+        if x2 == 0 { Side::First } else { held }
     }
 }
 
@@ -71,7 +84,7 @@ pub fn settle(
 {
     let mut side = side_by(by);
     for i in (from..at).rev() {
-        side = told(x1[i], x2[i]).unwrap_or(side);
+        side = side_from(x1[i], x2[i], side);
         index[i] = value(x1[i], x2[i], x3[i], by, side);
         mark[i] = 2;
     }
