@@ -72,7 +72,7 @@ pub fn look_forward(z: &[i32], index: &mut [i32], mark: &mut [u8])
                 mark[at] = 2;
                 break 'deciding;
             }
-            mark[at] = sides::side_mark(hindsight::told(values.x1, values.x2));
+            mark[at] = sides::told_mark(values.x1, values.x2);
             at += 1;
         }
         settle(z, index, mark, from, at, by, before.x1, before.x2);

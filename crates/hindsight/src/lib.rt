@@ -19,20 +19,9 @@ pub enum Side {
     Second,
 }
 
-// The side that a month gives alone: that of the one of its X1 and X2 that is not 0, if exactly one is.
-pub fn told(x1: i32, x2: i32) -> Option<Side>
-    ensures { result ≡ told (nonzero x1) (nonzero x2) }
-{
-    if x1 == 0 {
-        if x2 == 0 { None } else { Some(Side::Second) }
-    } else {
-        if x2 == 0 { Some(Side::First) } else { None }
-    }
-}
-
-// The side that a month gives alone, and else the one that is held. Told by itself and not by `told`, whose option would be put
-// together and taken apart for each month.
-fn side_from(x1: i32, x2: i32, held: Side) -> Side
+// The side that a month gives alone: that of the one of its X1 and X2 that is not 0, if exactly one is, and else the one that is
+// held. An option of a side would be put together and taken apart for each month.
+pub fn told(x1: i32, x2: i32, held: Side) -> Side
     ensures { result ≡ unwrap_or (told (nonzero x1) (nonzero x2)) held }
 {
     if x1 == 0 {
@@ -84,7 +73,7 @@ pub fn settle(
 {
     let mut side = side_by(by);
     for i in (from..at).rev() {
-        side = side_from(x1[i], x2[i], side);
+        side = told(x1[i], x2[i], side);
         index[i] = value(x1[i], x2[i], x3[i], by, side);
         mark[i] = 2;
     }

@@ -7,18 +7,20 @@
 ghost use Rattle.std.specs.Prelude.{◌≡◌, ◌++◌, ◌-◌, ◌≤◌, nat_abs, length, take, drop, replicate};
 ghost use Rattle.outline.specs.Numbers.{most_x};
 ghost use Rattle.hindsight.specs.Adding.{settled_all};
+ghost use Rattle.hindsight.specs.Coded.{told};
+ghost use Rattle.hindsight.specs.Rule.{nonzero};
 ghost use Rattle.sides.specs.Sides.{EachFits, sides_of, codes, side_mark, marked_side, with_side};
 
 use hindsight::Side;
 
-// A side as `mark` holds it: 1 for X1's, 2 for X2's, and 0 for none.
-pub fn side_mark(side: Option<Side>) -> u8
-    ensures { result ≡ side_mark side }
+// The side that a month gives alone, as `mark` holds it: 1 for X1's, 2 for X2's, and 0 for none.
+pub fn told_mark(x1: i32, x2: i32) -> u8
+    ensures { result ≡ side_mark (told (nonzero x1) (nonzero x2)) }
 {
-    match side {
-        None => 0,
-        Some(Side::First) => 1,
-        Some(Side::Second) => 2,
+    if x1 == 0 {
+        if x2 == 0 { 0 } else { 2 }
+    } else {
+        if x2 == 0 { 1 } else { 0 }
     }
 }
 

@@ -18,8 +18,8 @@ deciding-preserved c =
     let zb : SFits w32 m.after.x2 = search rules in
     let ze : SFits w32 m.index = search rules in
     rw (to_z-of_z ze)
-    (scan-next c.months.invariant c.deciding.invariant c.requires.each_fits c.deciding-test.true m m.decision c.side_mark.result
-    (rw (to_z-of_z zt) at c.step-month.ensures) refl (sym c.is_some.ensures ∙ c.if-is_some.false) (rw (c.told.ensures, to_z-of_z za, to_z-of_z zb) at c.side_mark.ensures))
+    (scan-next c.months.invariant c.deciding.invariant c.requires.each_fits c.deciding-test.true m m.decision c.told_mark.result
+    (rw (to_z-of_z zt) at c.step-month.ensures) refl (sym c.is_some.ensures ∙ c.if-is_some.false) (rw (to_z-of_z za, to_z-of_z zb) at c.told_mark.ensures))
 
 -- where the two ways out of the scan meet
 leaves : (c : Left-deciding)

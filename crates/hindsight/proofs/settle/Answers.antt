@@ -22,11 +22,11 @@ loop-i-preserved c =
     let fa : SFits w32 (get_or a.x1.now i (pos 0)) = search rules in
     let fb : SFits w32 (get_or a.x2.now i (pos 0)) = search rules in
     let fc : SFits w32 (get_or a.x3.now i (pos 0)) = search rules in
-    let side : c.side_from-side.result ≡ unwrap_or (told (nonzero (get_or a.x1.now i (pos 0))) (nonzero (get_or a.x2.now i (pos 0)))) c.loop-i.side =
-    rw (to_z-of_z fa, to_z-of_z fb) at c.side_from-side.ensures in
-    let value : c.value.result ≡ value_by a.by c.side_from-side.result (x_at a.x1.now a.x2.now a.x3.now i) =
+    let side : c.told-side.result ≡ unwrap_or (told (nonzero (get_or a.x1.now i (pos 0))) (nonzero (get_or a.x2.now i (pos 0)))) c.loop-i.side =
+    rw (to_z-of_z fa, to_z-of_z fb) at c.told-side.ensures in
+    let value : c.value.result ≡ value_by a.by c.told-side.result (x_at a.x1.now a.x2.now a.x3.now i) =
     rw (to_z-of_z fa, to_z-of_z fb, to_z-of_z fc) at c.value.ensures in
     rw (to_z-of_z (record { sfits = c.value.type_inv }))
     (turn (x_at a.x1.now a.x2.now a.x3.now) a.by a.at i c.loop-i.i (omega arith)
-    a.from a.index.now a.mark.now c.loop-i.index c.loop-i.mark c.loop-i.side c.side_from-side.result c.value.result
+    a.from a.index.now a.mark.now c.loop-i.index c.loop-i.mark c.loop-i.side c.told-side.result c.value.result
     (omega arith) (omega arith) (omega arith) c.loop-i.invariant side value)
