@@ -123,17 +123,17 @@ fn run_with(stdin: &mut impl Read, stdout: &impl Print, stderr: &impl Print, mut
     requires { Held (seen reading.session) reading.session.kept.line reading.out.now }
 {
     if stdio::read_all(stdin, &mut reading).is_err() {
-        stdio::say_unread(stderr, "division");
+        stdio::say_unread(stderr, b"division");
         return;
     }
     let Reading { mut session, out } = reading;
     division_input::finish(&mut session, out);
     if let Some(refusal) = session.refused {
-        stdio::print_refusal(stdout, stderr, "division", session.lines, refusal);
+        stdio::print_refusal(stdout, stderr, b"division", session.lines, refusal.number());
         let _ = explain(stderr, &session, refusal);
         return;
     }
-    stdio::write_out(stdout, stderr, "division", &out[..session.end]);
+    stdio::write_out(stdout, stderr, b"division", &out[..session.end]);
 }
 
 // Whether the program was started with an argument of this number.

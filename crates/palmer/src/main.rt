@@ -41,14 +41,14 @@ impl Reads for Reading {
 // Writes what comes of the input: the rows, or which line was refused, and then also why.
 fn print(stdout: &impl Print, stderr: &impl Print, reading: &Reading) {
     let mut out = rows::make_room::<ROOM>();
-    let end = palmer_output::put_output(&reading.heard, &mut out);
-    stdio::write_out(stdout, stderr, "palmer", &out[..end]);
+    let end = palmer_output::put_heard(&reading.heard, &mut out);
+    stdio::write_out(stdout, stderr, b"palmer", &out[..end]);
     let session = reading.heard.session;
     if let Some(refusal) = session.refused {
         words::explain(
             stderr,
             palmer_output::line_after(session.run.months),
-            refusal,
+            refusal.number(),
             &reading.start,
         );
     }
@@ -72,7 +72,7 @@ fn main(rt: HostRuntime) {
     };
     let stderr = rt.stderr();
     if stdio::read_all(&mut rt.stdin(), &mut reading).is_err() {
-        stdio::say_unread(&stderr, "palmer");
+        stdio::say_unread(&stderr, b"palmer");
         return;
     }
     reading.heard.end();

@@ -19,13 +19,14 @@ use Rattle.lines.specs.Line.{Judged}
 use Rattle.lines.specs.Reading.{finished}
 use Rattle.lines.specs.declared.Line.{Line}
 use Rattle.runs.specs.declared.Run.{Run}
-use Rattle.refusals.specs.Book.{Book, long, columns_fit}
+use Rattle.refusals.specs.Book.{Book, book, long, columns_fit}
 use Rattle.refusals.specs.Refusals.{is_run_of, run_refusal, room_refusal, z_refusal}
 use Rattle.drought.specs.Calls.{add_z}
 use Rattle.adding.specs.Taken.{Result, result_of, answered, taken, taken_z}
 use Rattle.adding.specs.declared.Added.{Added}
-use Rattle.palmer_input.specs.ByLines.{number_of, of_added, State, stands, percent_kept, after_line, after_add, with_z, heard_as}
+use Rattle.palmer_input.specs.ByLines.{number_of, of_added, State, stands, state, percent_kept, after_line, after_add, with_z, heard_as}
 use Rattle.palmer_input.specs.Input.{line_closed, with_byte, byte_fed, is_blank, input_ended}
+use Rattle.palmer_input.specs.declared.Session.{Session}
 
 -- ---- a refusal has a number, and none has 0
 pub none-refused : (r : Option Refusal) → is_some r ≡ false → number_of r ≡ 0
@@ -106,3 +107,7 @@ module _ (t : State) where
   pub end_refused : (t.session.refused ≡ 0 → ⊥) → input_ended t ≡ t
   unfolding input_ended
   end_refused k = is-refused _ _ t k
+
+-- ---- what is held, part by part
+pub state-same : {s r : Session} {a1 b1 a2 b2 a3 b3 ai bi av bv : List ℤ} {am bm ps qs : List ℕ} {ar br : List (List ℤ)} → s ≡ r → a1 ≡ b1 → a2 ≡ b2 → a3 ≡ b3 → ai ≡ bi → am ≡ bm → ar ≡ br → av ≡ bv → ps ≡ qs → state s (book a1 a2 a3 ai am ar av) ps ≡ state r (book b1 b2 b3 bi bm br bv) qs
+state-same e1 e2 e3 e4 e5 e6 e7 e8 e9 = rw (e1, e2, e3, e4, e5, e6, e7, e8, e9)

@@ -11,7 +11,7 @@ ghost use Rattle.starts.specs.Start.{run_for_z};
 ghost use Rattle.refusals.specs.Book.{book};
 ghost use Rattle.adding.specs.Taken.{result_of};
 ghost use Rattle.drought.specs.Calls.{add_z};
-ghost use Rattle.palmer_input.specs.ByLines.{state_of, columns_of, fresh, number_of, of_added, percent_kept, with_z};
+ghost use Rattle.palmer_input.specs.ByLines.{state, state_of, fresh, number_of, of_added, percent_kept, with_z};
 ghost use Rattle.palmer_input.specs.Input.{is_blank, line_closed, byte_fed, input_ended};
 
 use adding::Added;
@@ -109,8 +109,7 @@ fn is_blank(line: Line) -> bool
     !(line.minus || line.digits || line.spoiled)
 }
 
-// Adds a Z to the run that these lists hold. The lists are lent one by one, since the proof of a call with borrows of a value's own
-// arrays in one struct doesn't close.
+// Adds a Z to the run that these lists hold. The struct of their borrows ends here: an answer names each list as it came back.
 fn add_z(
     run: Run,
     z: i32,
@@ -136,50 +135,104 @@ fn add_z(
     drought::add_z(run, z, &mut lists)
 }
 
+// A line's Z added. The lists go one by one, here and below, since a caller may lend seven of any lengths.
+fn add_line(
+    run: Run,
+    z: i32,
+    x1: &mut [i32],
+    x2: &mut [i32],
+    x3: &mut [i32],
+    index: &mut [i32],
+    mark: &mut [u8],
+    records: &mut [RecordNumbers],
+    v: &mut [i64],
+    percent: &mut [u32],
+) -> Session
+    ensures { state result (book x1.new x2.new x3.new index.new mark.new records.new v.new) percent.new ≡ with_z run z (book x1.old x2.old x3.old index.old mark.old records.old v.old) percent.old }
+{
+    let at = run.months as usize;
+    let a = add_z(run, z, x1, x2, x3, index, mark, records, v);
+    let refused = refusal_of(a.number);
+    put_percent(refused, at, a.figures.percent, percent);
+    after_line(refused, a.run)
+}
+
+// A line closed: its Z added, or its refusal.
+fn close_line(
+    s: Session,
+    x1: &mut [i32],
+    x2: &mut [i32],
+    x3: &mut [i32],
+    index: &mut [i32],
+    mark: &mut [u8],
+    records: &mut [RecordNumbers],
+    v: &mut [i64],
+    percent: &mut [u32],
+) -> Session
+    ensures { state result (book x1.new x2.new x3.new index.new mark.new records.new v.new) percent.new ≡ line_closed s.line s.run (book x1.old x2.old x3.old index.old mark.old records.old v.old) percent.old }
+{
+    match lines::finish(s.line) {
+        Ok(z) => add_line(s.run, z, x1, x2, x3, index, mark, records, v, percent),
+        Err(refusal) => after_line(Some(refusal), s.run),
+    }
+}
+
+// Some bytes more. After a refusal nothing more is looked at.
+pub fn take(
+    mut s: Session,
+    bytes: &[u8],
+    x1: &mut [i32],
+    x2: &mut [i32],
+    x3: &mut [i32],
+    index: &mut [i32],
+    mark: &mut [u8],
+    records: &mut [RecordNumbers],
+    v: &mut [i64],
+    percent: &mut [u32],
+) -> Session
+    ensures { state result (book x1.new x2.new x3.new index.new mark.new records.new v.new) percent.new ≡ foldl byte_fed (state s (book x1.old x2.old x3.old index.old mark.old records.old v.old) percent.old) bytes.now }
+{
+    for b in bytes {
+        if s.refused.is_some() {
+            return s;
+        }
+        if *b == b'\n' {
+            s = close_line(s, x1, x2, x3, index, mark, records, v, percent);
+        } else {
+            s.line = lines::feed(s.line, *b);
+        }
+    }
+    s
+}
+
+// The end of the input: a line that has begun is closed by it.
+pub fn end(
+    s: Session,
+    x1: &mut [i32],
+    x2: &mut [i32],
+    x3: &mut [i32],
+    index: &mut [i32],
+    mark: &mut [u8],
+    records: &mut [RecordNumbers],
+    v: &mut [i64],
+    percent: &mut [u32],
+) -> Session
+    ensures { state result (book x1.new x2.new x3.new index.new mark.new records.new v.new) percent.new ≡ input_ended (state s (book x1.old x2.old x3.old index.old mark.old records.old v.old) percent.old) }
+{
+    if s.refused.is_some() || is_blank(s.line) {
+        return s;
+    }
+    close_line(s, x1, x2, x3, index, mark, records, v, percent)
+}
+
 impl<const N: usize> Heard<N> {
-    // Some bytes more. After a refusal nothing more is looked at.
+    // Some bytes more.
     pub fn take(&mut self, bytes: &[u8])
         ensures { state_of self.new ≡ foldl byte_fed (state_of self.old) bytes.now }
     {
-        for b in bytes {
-            if self.session.refused.is_some() {
-                return;
-            }
-            if *b == b'\n' {
-                self.close_line();
-            } else {
-                self.session.line = lines::feed(self.session.line, *b);
-            }
-        }
-    }
-
-    // The end of the input: a line that has begun is closed by it.
-    pub fn end(&mut self)
-        ensures { state_of self.new ≡ input_ended (state_of self.old) }
-    {
-        if self.session.refused.is_none() && !is_blank(self.session.line) {
-            self.close_line();
-        }
-    }
-
-    // A line closed: its Z added, or its refusal.
-    fn close_line(&mut self)
-        ensures { state_of self.new ≡ line_closed self.old.session.line self.old.session.run (columns_of self.old) self.old.percent }
-    {
-        match lines::finish(self.session.line) {
-            Ok(z) => self.add_line(z),
-            Err(refusal) => self.session = after_line(Some(refusal), self.session.run),
-        }
-    }
-
-    // A line's Z added.
-    fn add_line(&mut self, z: i32)
-        ensures { state_of self.new ≡ with_z self.old.session.run z (columns_of self.old) self.old.percent }
-    {
-        let at = self.session.run.months as usize;
-        let a = add_z(
-            self.session.run,
-            z,
+        self.session = take(
+            self.session,
+            bytes,
             &mut self.x1,
             &mut self.x2,
             &mut self.x3,
@@ -187,9 +240,24 @@ impl<const N: usize> Heard<N> {
             &mut self.mark,
             &mut self.records,
             &mut self.v,
+            &mut self.percent,
         );
-        let refused = refusal_of(a.number);
-        put_percent(refused, at, a.figures.percent, &mut self.percent);
-        self.session = after_line(refused, a.run);
+    }
+
+    // The end of the input.
+    pub fn end(&mut self)
+        ensures { state_of self.new ≡ input_ended (state_of self.old) }
+    {
+        self.session = end(
+            self.session,
+            &mut self.x1,
+            &mut self.x2,
+            &mut self.x3,
+            &mut self.index,
+            &mut self.mark,
+            &mut self.records,
+            &mut self.v,
+            &mut self.percent,
+        );
     }
 }

@@ -7,12 +7,9 @@
 
 ghost use Rattle.std.specs.Prelude.{◌≡◌, ℕ, ◌+◌, ◌*◌, ◌≤◌, List, [], ◌∷◌, length};
 ghost use Rattle.outline.specs.Numbers.{last_month};
-ghost use Rattle.outline.specs.Refused.{refusal_number};
 ghost use Rattle.text.specs.Bytes.{space, line_feed};
 ghost use Rattle.rows.specs.Text.{numeral, integer, letter, row_text, refused_text, month_text, months_text, year_text};
 ghost use Rattle.rows.specs.Room.{laid, most_row, most_year};
-
-use outline::Refusal;
 
 // A month's row.
 #[derive(Clone, Copy, Debug)]
@@ -157,16 +154,17 @@ pub fn lay_out(row: Row, at: usize, out: &mut [u8]) -> usize
     put_text(&[b' ', letter_of(row.mark), b'\n'], index_end, out)
 }
 
-// Puts "refused", the line's number and the refusal's. For the printing program, which lends the room.
-pub fn lay_refusal(line: u32, refusal: Refusal, at: usize, out: &mut [u8]) -> usize
+// Puts "refused", the line's number and the refusal's. For the printing program, which lends the room. The number may be any, one
+// of no refusal too.
+pub fn lay_refusal(line: u32, number: u8, at: usize, out: &mut [u8]) -> usize
     requires { at + most_row ≤ length out.old }
-    ensures value { result ≡ at + length (refused_text line (refusal_number refusal)) }
+    ensures value { result ≡ at + length (refused_text line number) }
     ensures upper_bound { result ≤ at + most_row }
-    ensures out_after { out.new ≡ laid (refused_text line (refusal_number refusal)) at out.old }
+    ensures out_after { out.new ≡ laid (refused_text line number) at out.old }
 {
     let word_end = put_text(b"refused", at, out);
     let line_end = put_spaced(line, word_end, out);
-    let number_end = put_spaced(u32::from(refusal.number()), line_end, out);
+    let number_end = put_spaced(u32::from(number), line_end, out);
     put_byte(b'\n', number_end, out)
 }
 

@@ -3,7 +3,6 @@
 // tables.
 #![tactic(auto)]
 
-use outline::Refusal;
 use rows::MOST_ROW;
 use std::io;
 use std::io::Read;
@@ -43,15 +42,18 @@ pub fn say(stderr: &impl Print, text: &[u8]) {
     let _ = stderr.write_all(text);
 }
 
-// Says that the program of this name cannot read its input.
-pub fn say_unread(stderr: &impl Print, program: &str) {
-    let _ = println!(stderr; "{program}: the input cannot be read");
+// Says that the program of this name cannot read its input. The name is any bytes, and each text is tried by itself: `println!` takes text,
+// and says no more where a part cannot be written.
+pub fn say_unread(stderr: &impl Print, program: &[u8]) {
+    say(stderr, program);
+    say(stderr, b": the input cannot be read\n");
 }
 
 // Writes a text to standard output, or says that the program of this name cannot.
-pub fn write_out(stdout: &impl Print, stderr: &impl Print, program: &str, text: &[u8]) {
+pub fn write_out(stdout: &impl Print, stderr: &impl Print, program: &[u8], text: &[u8]) {
     if stdout.write_all(text).is_err() {
-        let _ = println!(stderr; "{program}: the output cannot be written");
+        say(stderr, program);
+        say(stderr, b": the output cannot be written\n");
     }
 }
 
@@ -59,11 +61,11 @@ pub fn write_out(stdout: &impl Print, stderr: &impl Print, program: &str, text: 
 pub fn print_refusal(
     stdout: &impl Print,
     stderr: &impl Print,
-    program: &str,
+    program: &[u8],
     line: u32,
-    refusal: Refusal,
+    number: u8,
 ) {
     let mut out = [0u8; MOST_ROW];
-    let end = rows::lay_refusal(line, refusal, 0, &mut out);
+    let end = rows::lay_refusal(line, number, 0, &mut out);
     write_out(stdout, stderr, program, &out[..end]);
 }

@@ -104,15 +104,20 @@ fn explain_line(stderr: &impl Print, line: u32, text: &[u8], more: bool) {
     };
 }
 
-// Says in words why a line was refused.
-pub fn explain(stderr: &impl Print, line: u32, refusal: Refusal, start: &Start) {
+// The numbers of the two refusals that are told of a whole line.
+const FULL: u8 = Refusal::Full as u8;
+
+const BAD_Z: u8 = Refusal::BadZ as u8;
+
+// Says in words why a line was refused, by the refusal's number; any other number is told as 13.
+pub fn explain(stderr: &impl Print, line: u32, number: u8, start: &Start) {
     let _ = print!(stderr; "palmer: line {line}");
-    let expected = match refusal {
-        Refusal::Full => {
+    let expected = match number {
+        FULL => {
             let _ = print!(stderr; ": a month too many");
             "at most 2400 lines; 10 means: months already equal the column length"
         }
-        Refusal::BadZ => {
+        BAD_Z => {
             let _ = print!(stderr; ": outside the range of Z");
             "-4000000 to 4000000; 12 means: Z outside its range"
         }

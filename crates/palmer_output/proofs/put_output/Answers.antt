@@ -1,24 +1,42 @@
--- `palmer_output::put_output`: the rows where nothing was refused, and otherwise the line that was. Assumes nothing.
+-- `palmer_output::put_output`: the rows where the number is 0, and otherwise the line that was refused. Assumes nothing.
+use mathlib.Core.Path.{◌≡◌, refl}
+use mathlib.Core.List.{List}
+use Prim.Native.Nat.{ℕ, zero, suc}
 use native.Mathlib.Omega.{arith}
-use Rattle.outline.proofs.Refused.{unless-refusal}
-use Rattle.palmer_output.specs.Output.{output_of}
+use lib.ListN.{length}
+use Rattle.rows.specs.Text.{refused_text}
+use Rattle.rows.specs.Room.{laid}
+use Rattle.rows.proofs.Laid.{Put}
+use Rattle.refusals.specs.Book.{Book, book}
+use Rattle.runs.specs.declared.Run.{Run}
+use Rattle.palmer_output.specs.Output.{all_rows, line_after, output_of}
 use Rattle.palmer_output.proofs.put_output.Goals as goal
 
-pub returns-in-None-clause-value : goal.returns-in-None-clause-value
-unfolding output_of
-returns-in-None-clause-value g c = rw c.in-None.is c.put_rows.ensures.value
+-- a text is put where the list begins
+abbrev Whole : List ℕ → List ℕ → ℕ → List ℕ → Type 0
+Whole text o r q = (r ≡ length text) × (q ≡ laid text 0 o)
 
-pub returns-in-None-clause-out_after : goal.returns-in-None-clause-out_after
-unfolding output_of
-returns-in-None-clause-out_after g c = rw c.in-None.is c.put_rows.ensures.out_after
+-- what is put is the output, where the number is 0 and where it is not
+module _ (run : Run) (cs : Book) (ps o : List ℕ) (r : ℕ) (q : List ℕ) where
+  rows-put : (k : ℕ) → k ≡ 0 → Whole (all_rows run cs ps) o r q → Whole (output_of k run cs ps) o r q
+  unfolding output_of
+  rows-put k e p = rw e p
 
-pub returns-in-Some-clause-value : goal.returns-in-Some-clause-value
-unfolding output_of
-returns-in-Some-clause-value g c =
-    let e = rw c.line_after.ensures at c.lay_refusal.ensures.value in
-    rw (c.in-Some.is, unless-refusal c.in-Some.refusal _ _) (omega (arith, e))
+  refusal-put : (k line : ℕ) → (k ≡ 0 → ⊥) → line ≡ line_after run.months → Put (refused_text line k) 0 o r q → Whole (output_of k run cs ps) o r q
+  unfolding output_of
+  refusal-put zero line h e p = absurd (h refl)
+  refusal-put (suc k) line h e p = rw (← e) (omega (arith, p.0), p.1)
 
-pub returns-in-Some-clause-out_after : goal.returns-in-Some-clause-out_after
-unfolding output_of
-returns-in-Some-clause-out_after g c =
-    rw (c.in-Some.is, unless-refusal c.in-Some.refusal _ _) (rw c.line_after.ensures at c.lay_refusal.ensures.out_after)
+pub returns-then-number-eq0 : goal.returns-then-number-eq0
+returns-then-number-eq0 c =
+    let a = c.args in
+    let e = c.put_rows.ensures in
+    let p = rows-put a.run (book a.x1.now a.x2.now a.x3.now a.index.now a.mark.now a.records.now a.v.now) a.percent.now a.out.now _ _ a.number (omega arith) (e.value, e.out_after) in
+    record { upper_bound = e.upper_bound; value = p.0; out_after = p.1 }
+
+pub returns : goal.returns
+returns c =
+    let a = c.args in
+    let e = c.lay_refusal.ensures in
+    let p = refusal-put a.run (book a.x1.now a.x2.now a.x3.now a.index.now a.mark.now a.records.now a.v.now) a.percent.now a.out.now _ _ a.number _ c.if-number-eq0.false c.line_after.ensures (e.value, e.out_after) in
+    record { upper_bound = omega (arith, e.upper_bound); value = p.0; out_after = p.1 }

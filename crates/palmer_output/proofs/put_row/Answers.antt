@@ -13,7 +13,7 @@ use Rattle.palmer_output.proofs.put_row.Goals as goal
 
 pub returns : goal.returns
 unfolding row_at
-returns g c =
+returns c =
     let s = c.row-shown.result in
     let f1 : SFits w32 s.x1 = search rules in
     let f2 : SFits w32 s.x2 = search rules in

@@ -7,8 +7,8 @@ use native.Mathlib.Omega.{arith}
 use Rattle.rows.specs.Text.{row_text}
 use Rattle.rows.proofs.Laid.{Put, put_then, put-none}
 use Rattle.refusals.specs.Book.{Book}
+use Rattle.refusals.specs.Lists.{read}
 use Rattle.runs.specs.declared.Run.{Run}
-use Rattle.palmer_input.specs.ByLines.{columns_of}
 use Rattle.palmer_output.specs.Printed.{row_at, rows_text}
 use Rattle.palmer_output.proofs.put_rows.Goals as goal
 
@@ -19,11 +19,11 @@ one_more run i cs ps o e r p q f g = rw (add-one i) (put_then (rows_text run i c
 
 pub loop-i-init : goal.loop-i-init
 unfolding rows_text
-loop-i-init g c = (omega arith, put-none _ _)
+loop-i-init c = (omega arith, put-none _ _)
 
 pub loop-i-preserved : goal.loop-i-preserved
-loop-i-preserved g c =
+loop-i-preserved c =
     let v = c.loop-i.invariant in
-    let h = c.args.heard.now in
+    let a = c.args in
     let e = c.put_row-at.ensures in
-    (omega (arith, e.upper_bound, v.0), one_more h.session.run c.loop-i.i (columns_of h) h.percent c.args.out.now c.loop-i.at c.put_row-at.result c.loop-i.out c.put_row-at.new.out v.1 (e.value, e.out_after))
+    (omega (arith, e.upper_bound, v.0), one_more a.run.now c.loop-i.i (read a.rows.now) a.percent.now a.out.now c.loop-i.at c.put_row-at.result c.loop-i.out c.put_row-at.new.out v.1 (e.value, e.out_after))
