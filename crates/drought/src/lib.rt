@@ -116,8 +116,7 @@ fn try_water(
     ensures outcome { result_of (numbered result.number result.month constants.now) (held lists.new) ≡ add_outcomes (run_of at constants.now) (record { number = reading; water = p; kind = kinds.p }) (record { number = 0; water = pe; kind = kinds.pe }) (held lists.old) }
 {
     let rows = lists.rows();
-    let number =
-        refusals::water_refusal(rows.lent_length(), at, constants, reading, rows.records);
+    let number = refusals::water_refusal(rows.lent_length(), at, constants, reading, rows.records);
     if number != 0 {
         return Tried {
             number,

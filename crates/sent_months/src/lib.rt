@@ -63,7 +63,11 @@ pub fn write_sent(field: &mut [u8], sent: Option<Number>)
     requires { length field.old ≡ width }
     ensures { field.new ≡ sent_text sent }
 {
-    sent.unwrap_or(MARK).write(field);
+    // Each by itself: of `unwrap_or` the mark's digits would be reckoned for each month that is missing.
+    match sent {
+        Some(number) => number.write(field),
+        None => MARK.write(field),
+    }
 }
 
 // ---- a month
