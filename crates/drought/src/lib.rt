@@ -13,11 +13,10 @@ ghost use Rattle.door.specs.Readings.{reading, most_reading};
 ghost use Rattle.starts.specs.Start.{start_of};
 ghost use Rattle.series.specs.Series.{filled, whole_series};
 ghost use Rattle.refusals.specs.Lists.{held, read, SameLists};
-ghost use Rattle.refusals.specs.Good.{Good};
 ghost use Rattle.refusals.specs.Lent.{row_number_for};
 ghost use Rattle.runs.specs.Progress.{run_of};
 ghost use Rattle.adding.specs.Taken.{result_of};
-ghost use Rattle.adding.specs.Progress.{answer_of, numbered};
+ghost use Rattle.adding.specs.Progress.{numbered};
 ghost use Rattle.drought.specs.Calls.{add_outcomes, add_water, add_inches, add_z, not_shown, row_of_run};
 
 use adding::{Added, MonthAdded};
@@ -127,30 +126,6 @@ fn try_water(
         number,
         month: taking::add_measured(at, constants, p, pe, kinds, lists),
     }
-}
-
-// A month of water, added or refused, to a run and lists that have been asked for 1 and 7.
-#[inline(always)]
-pub fn add_readings(
-    at: Progress,
-    constants: &[i32; MANY_CONSTANTS],
-    p: Reading,
-    pe: Reading,
-    lists: &mut Lists,
-) -> Result<MonthAdded, Refusal>
-    requires { Good (run_of at constants.now) (held lists.old) }
-    ensures same { SameLists lists.old lists.new }
-    ensures outcome { result_of (answer_of result at constants.now) (held lists.new) ≡ add_water (run_of at constants.now) p pe (held lists.old) }
-{
-    let first = door::read(p)?;
-    let second = door::read(pe)?;
-    refusals::room_refusal(lists.x1.len(), at.months)?;
-    let kinds = MonthKinds {
-        p: first.kind().number(),
-        pe: second.kind().number(),
-    };
-    let month = taking::add_measured(at, constants, first.water(), second.water(), kinds, lists);
-    Ok(month)
 }
 
 // Adds a Z: the storages stay, the calendar moves on. 1, 7, 12, 10.

@@ -13,7 +13,7 @@ ghost use Rattle.drought.specs.Calls.{add_water};
 ghost use Rattle.season_month.specs.Listed.{listed};
 
 use adding::MonthAdded;
-use door::Reading;
+use door::{MonthKinds, Reading};
 use outline::{MANY_CONSTANTS, Refusal};
 use refusals::Lists;
 use runs::Progress;
@@ -33,9 +33,15 @@ pub fn add_listed(
     ensures same { SameLists lists.old lists.new }
     ensures outcome { result_of (answer_of result at constants.now) (held lists.new) ≡ add_water (run_of at constants.now) (listed p) (listed pe) (held lists.old) }
 {
-    let first = reading_of(p);
-    let second = reading_of(pe);
-    drought::add_readings(at, constants, first, second, lists)
+    let first = door::read(reading_of(p))?;
+    let second = door::read(reading_of(pe))?;
+    refusals::room_refusal(lists.x1.len(), at.months)?;
+    let kinds = MonthKinds {
+        p: first.kind().number(),
+        pe: second.kind().number(),
+    };
+    let month = taking::add_measured(at, constants, first.water(), second.water(), kinds, lists);
+    Ok(month)
 }
 
 // A month of a list as a reading.
