@@ -24,7 +24,7 @@ pub fn line_end(piece: &[u8], from: usize) -> usize
 }
 
 // The bytes that a line is told by.
-const KEPT: usize = LAST_COLUMN + 1;
+pub const KEPT: usize = LAST_COLUMN + 1;
 
 // What is kept of a line: how many bytes, and the bytes, which stand first. That they are no more than there is room for
 // is no ghost field, which the records of specs/Kept.antt would have to hold.
