@@ -42,6 +42,11 @@ pub fn say(stderr: &impl Print, text: &[u8]) {
     let _ = stderr.write_all(text);
 }
 
+// Says a number there.
+pub fn say_number(stderr: &impl Print, n: u32) {
+    let _ = stderr.print(n);
+}
+
 // Says that the program of this name cannot read its input. The name is any bytes, and each text is tried by itself: `println!` takes text,
 // and says no more where a part cannot be written.
 pub fn say_unread(stderr: &impl Print, program: &[u8]) {

@@ -7,7 +7,7 @@ ghost use Rattle.std.specs.Prelude.{◌<◌, length};
 
 use outline::Refusal;
 use quoted::{ROOM, Start};
-use stdio::say;
+use stdio::{say, say_number};
 
 // A byte as it is quoted: a question mark stands for one that cannot be shown.
 fn shown(b: u8) -> u8 {
@@ -111,7 +111,8 @@ const BAD_Z: u8 = Refusal::BadZ as u8;
 
 // Says in words why a line was refused, by the refusal's number; any other number is told as 13.
 pub fn explain(stderr: &impl Print, line: u32, number: u8, start: &Start) {
-    let _ = print!(stderr; "palmer: line {line}");
+    say(stderr, b"palmer: line ");
+    say_number(stderr, line);
     let expected = match number {
         FULL => {
             let _ = print!(stderr; ": a month too many");
