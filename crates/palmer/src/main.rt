@@ -55,19 +55,18 @@ fn print(stdout: &impl Print, stderr: &impl Print, reading: &Reading) {
 }
 
 fn main(rt: HostRuntime) {
-    let heard = Heard {
-        session: palmer_input::begin(),
-        x1: [0; MOST_LINES],
-        x2: [0; MOST_LINES],
-        x3: [0; MOST_LINES],
-        index: [0; MOST_LINES],
-        mark: [0; MOST_LINES],
-        records: [[0; NUMBERS]; MOST_LINES],
-        v: [0; MOST_LINES],
-        percent: [0; MOST_LINES],
-    };
     let mut reading = Reading {
-        heard,
+        heard: Heard {
+            session: palmer_input::begin(),
+            x1: [0; MOST_LINES],
+            x2: [0; MOST_LINES],
+            x3: [0; MOST_LINES],
+            index: [0; MOST_LINES],
+            mark: [0; MOST_LINES],
+            records: [[0; NUMBERS]; MOST_LINES],
+            v: [0; MOST_LINES],
+            percent: [0; MOST_LINES],
+        },
         start: quoted::begin(),
     };
     let stderr = rt.stderr();

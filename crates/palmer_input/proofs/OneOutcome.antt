@@ -1,6 +1,6 @@
--- Any two outcomes that the promise of `Heard::take` or of `Heard::end` allows are the same: where the reading stands with the run in it, the
--- lent lists and the percents. Each promise is an equation of all of these with a definition of the input, and where the reading stands tells
--- the session (`from`). Assumes nothing.
+-- Any two outcomes that the promise of `take` or of `end` allows are the same, the function's or that of `Heard`: where the reading stands with
+-- the run in it, the lent lists and the percents. Each promise is an equation of all of these with a definition of the input, and where the
+-- reading stands tells the session (`from`). Assumes nothing.
 use mathlib.Core.Path.{◌≡◌, refl, sym, ap, ◌∙◌}
 use mathlib.Core.Bool.{cond}
 use mathlib.Core.List.{List, foldl}

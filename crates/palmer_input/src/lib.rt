@@ -137,7 +137,7 @@ fn add_z(
 
 // A line's Z added. The lists go one by one, here and below, since a caller may lend seven of any lengths.
 fn add_line(
-    run: Run,
+    s: &mut Session,
     z: i32,
     x1: &mut [i32],
     x2: &mut [i32],
@@ -147,19 +147,19 @@ fn add_line(
     records: &mut [RecordNumbers],
     v: &mut [i64],
     percent: &mut [u32],
-) -> Session
-    ensures { state result (book x1.new x2.new x3.new index.new mark.new records.new v.new) percent.new ≡ with_z run z (book x1.old x2.old x3.old index.old mark.old records.old v.old) percent.old }
+)
+    ensures { state s.new (book x1.new x2.new x3.new index.new mark.new records.new v.new) percent.new ≡ with_z s.old.run z (book x1.old x2.old x3.old index.old mark.old records.old v.old) percent.old }
 {
-    let at = run.months as usize;
-    let a = add_z(run, z, x1, x2, x3, index, mark, records, v);
+    let at = s.run.months as usize;
+    let a = add_z(s.run, z, x1, x2, x3, index, mark, records, v);
     let refused = refusal_of(a.number);
     put_percent(refused, at, a.figures.percent, percent);
-    after_line(refused, a.run)
+    *s = after_line(refused, a.run);
 }
 
 // A line closed: its Z added, or its refusal.
 fn close_line(
-    s: Session,
+    s: &mut Session,
     x1: &mut [i32],
     x2: &mut [i32],
     x3: &mut [i32],
@@ -168,12 +168,12 @@ fn close_line(
     records: &mut [RecordNumbers],
     v: &mut [i64],
     percent: &mut [u32],
-) -> Session
-    ensures { state result (book x1.new x2.new x3.new index.new mark.new records.new v.new) percent.new ≡ line_closed s.line s.run (book x1.old x2.old x3.old index.old mark.old records.old v.old) percent.old }
+)
+    ensures { state s.new (book x1.new x2.new x3.new index.new mark.new records.new v.new) percent.new ≡ line_closed s.old.line s.old.run (book x1.old x2.old x3.old index.old mark.old records.old v.old) percent.old }
 {
     match lines::finish(s.line) {
-        Ok(z) => add_line(s.run, z, x1, x2, x3, index, mark, records, v, percent),
-        Err(refusal) => after_line(Some(refusal), s.run),
+        Ok(z) => add_line(s, z, x1, x2, x3, index, mark, records, v, percent),
+        Err(refusal) => *s = after_line(Some(refusal), s.run),
     }
 }
 
@@ -197,7 +197,7 @@ pub fn take(
             return s;
         }
         if *b == b'\n' {
-            s = close_line(s, x1, x2, x3, index, mark, records, v, percent);
+            close_line(&mut s, x1, x2, x3, index, mark, records, v, percent);
         } else {
             s.line = lines::feed(s.line, *b);
         }
@@ -207,7 +207,7 @@ pub fn take(
 
 // The end of the input: a line that has begun is closed by it.
 pub fn end(
-    s: Session,
+    mut s: Session,
     x1: &mut [i32],
     x2: &mut [i32],
     x3: &mut [i32],
@@ -219,10 +219,10 @@ pub fn end(
 ) -> Session
     ensures { state result (book x1.new x2.new x3.new index.new mark.new records.new v.new) percent.new ≡ input_ended (state s (book x1.old x2.old x3.old index.old mark.old records.old v.old) percent.old) }
 {
-    if s.refused.is_some() || is_blank(s.line) {
-        return s;
+    if s.refused.is_none() && !is_blank(s.line) {
+        close_line(&mut s, x1, x2, x3, index, mark, records, v, percent);
     }
-    close_line(s, x1, x2, x3, index, mark, records, v, percent)
+    s
 }
 
 impl<const N: usize> Heard<N> {

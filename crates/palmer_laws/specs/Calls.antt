@@ -27,7 +27,7 @@ pub record Prints (pieces : List (List ℕ)) (rest printed : List ℕ) : Type 0 
   -- `Heard::end`
   pub ended : State
   pub ends : ended ≡ input_ended read
-  -- `palmer_output::put_output`, on any list
+  -- `palmer_output::put_heard`, on any list
   pub before : List ℕ
   pub after : List ℕ
   pub end : ℕ

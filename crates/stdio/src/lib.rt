@@ -47,8 +47,8 @@ pub fn say_number(stderr: &impl Print, n: u32) {
     let _ = stderr.print(n);
 }
 
-// Says that the program of this name cannot read its input. The name is any bytes, and each text is tried by itself: `println!` takes text,
-// and says no more where a part cannot be written.
+// Says that the program of this name cannot read its input. The name is any bytes, which `println!` cannot take, and each text is
+// tried though the one before it failed.
 pub fn say_unread(stderr: &impl Print, program: &[u8]) {
     say(stderr, program);
     say(stderr, b": the input cannot be read\n");

@@ -8,10 +8,10 @@ pub refusal_of-refused-requires : goal.refusal_of-refused-requires
 refusal_of-refused-requires c =
     let a = c.args in
     let n = c.add_z-a.new in
-    added-number a.run a.z (book a.x1.now a.x2.now a.x3.now a.index.now a.mark.now a.records.now a.v.now) c.add_z-a.result (book n.x1 n.x2 n.x3 n.index n.mark n.records n.v) (rw (to_z-of_z c.ranges.z) at c.add_z-a.ensures)
+    added-number a.s.now.run a.z (book a.x1.now a.x2.now a.x3.now a.index.now a.mark.now a.records.now a.v.now) c.add_z-a.result (book n.x1 n.x2 n.x3 n.index n.mark n.records n.v) (rw (to_z-of_z c.ranges.z) at c.add_z-a.ensures)
 
 pub returns : goal.returns
 returns c =
     let a = c.args in
     let n = c.add_z-a.new in
-    rw c.after_line.ensures (with-z a.run a.z (book a.x1.now a.x2.now a.x3.now a.index.now a.mark.now a.records.now a.v.now) a.percent.now c.add_z-a.result (book n.x1 n.x2 n.x3 n.index n.mark n.records n.v) c.put_percent.new.percent _ (rw (to_z-of_z c.ranges.z) at c.add_z-a.ensures) c.refusal_of-refused.ensures c.put_percent.ensures)
+    rw c.after_line.ensures (with-z a.s.now.run a.z (book a.x1.now a.x2.now a.x3.now a.index.now a.mark.now a.records.now a.v.now) a.percent.now c.add_z-a.result (book n.x1 n.x2 n.x3 n.index n.mark n.records n.v) c.put_percent.new.percent _ (rw (to_z-of_z c.ranges.z) at c.add_z-a.ensures) c.refusal_of-refused.ensures c.put_percent.ensures)

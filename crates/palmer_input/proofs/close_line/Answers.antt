@@ -16,10 +16,10 @@ returns-in-Ok c =
     let a = c.args in
     let z = c.in-Ok.z in
     let f : SFits w32 z = search rules in
-    (rw (to_z-of_z f) at c.add_line.ensures) ∙ closed a.s.line (accepted z) a.s.run (book a.x1.now a.x2.now a.x3.now a.index.now a.mark.now a.records.now a.v.now) a.percent.now c.in-Ok.ensures
+    (rw (to_z-of_z f) at c.add_line.ensures) ∙ closed a.s.now.line (accepted z) a.s.now.run (book a.x1.now a.x2.now a.x3.now a.index.now a.mark.now a.records.now a.v.now) a.percent.now c.in-Ok.ensures
 
 pub returns-in-Err : goal.returns-in-Err
 returns-in-Err c =
     let a = c.args in
     let e = c.in-Err.refusal in
-    rw c.after_line.ensures (sym (unless-refusal e _ _) ∙ closed a.s.line (refused (refusal_number e)) a.s.run (book a.x1.now a.x2.now a.x3.now a.index.now a.mark.now a.records.now a.v.now) a.percent.now c.in-Err.ensures)
+    rw c.after_line.ensures (sym (unless-refusal e _ _) ∙ closed a.s.now.line (refused (refusal_number e)) a.s.now.run (book a.x1.now a.x2.now a.x3.now a.index.now a.mark.now a.records.now a.v.now) a.percent.now c.in-Err.ensures)

@@ -27,7 +27,7 @@ loop-b-preserved c =
     let b = get_or c.args.bytes.now l.b-index 0 in
     let k = none-refused l.s.refused (sym c.is_some.ensures ∙ c.if-is_some.false) in
     let went : u ≡ byte_fed t b = elim n.branch [
-      | then-b-eq10 w ↦ state-same w.s-is w.x1-is w.x2-is w.x3-is w.index-is w.mark-is w.records-is w.v-is w.percent-is ∙ w.close_line-s.ensures ∙ sym (byte-closes t b k w.if-b-eq10.true)
+      | then-b-eq10 w ↦ state-same w.s-is w.x1-is w.x2-is w.x3-is w.index-is w.mark-is w.records-is w.v-is w.percent-is ∙ w.close_line.ensures ∙ sym (byte-closes t b k w.if-b-eq10.true)
       | else-b-eq10 w ↦ state-same w.s-is w.x1-is w.x2-is w.x3-is w.index-is w.mark-is w.records-is w.v-is w.percent-is ∙ (rw w.feed-s.ensures refl) ∙ sym (byte-within t b k w.if-b-eq10.false)
     ] in
     rw went (fold_more byte_fed c.args.bytes.now t _ l.b-index c.loop-b-test.true l.invariant)
