@@ -35,12 +35,15 @@ fn marked_side(mark: u8) -> Option<Side>
     }
 }
 
-// One mark at all the places from .. to.
+// One mark at all the places from .. to. Not by `fill`: the compiler then walks the scan of `forward::look_forward` by the distance from
+// its beginning, and each group of a series costs ten instructions more.
 pub fn mark_all(mark: &mut [u8], from: usize, to: usize, m: u8)
     requires { (from ≤ to) × (to ≤ length mark.old) }
     ensures { mark.new ≡ take from mark.old ++ (replicate (to - from) m ++ drop to mark.old) }
 {
-    mark[from..to].fill(m);
+    for i in from..to {
+        mark[i] = m;
+    }
 }
 
 // Settles the open months from .. at, which stand before a month that decides with X1 or X2, on whose side `by` is, and
