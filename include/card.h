@@ -90,18 +90,18 @@
  *
  *     card_read                    8
  *     card_start                 360
- *     card_add_water            1368
- *     card_add_inches           1256
- *     card_add_z                 936
- *     card_add_season           1544
- *     card_repair               1672
+ *     card_add_water             856
+ *     card_add_inches            808
+ *     card_add_z                 600
+ *     card_add_season           1064
+ *     card_repair                760
  *     card_row                   392
- *     card_sum_month             488
- *     card_work_out             2344
+ *     card_sum_month             360
+ *     card_work_out             2456
  *     card_whole_series          104
- *     card_write_index_line      712
- *     card_write_z_line          712
- *     card_write_modified_line   712
+ *     card_write_index_line      568
+ *     card_write_z_line          568
+ *     card_write_modified_line   568
  *     card_read_index_line       472
  *     card_read_z_line           472
  *     card_read_modified_line    472
