@@ -11,6 +11,7 @@ ghost use Rattle.ranges.specs.Ranges.{calendar_fits};
 ghost use Rattle.runs.specs.Progress.{run_of};
 ghost use Rattle.refusals.specs.Book.{book};
 ghost use Rattle.refusals.specs.Lists.{read};
+ghost use Rattle.refusals.specs.Lent.{run_refusal_for};
 ghost use Rattle.outline.specs.Refused.{refusal_number, answer_number};
 ghost use Rattle.starts.specs.Start.{month_fits};
 ghost use Rattle.years.specs.Years.{first_of, years_of};
@@ -185,6 +186,20 @@ fn refusal(
     years_refusal(whole.first, whole.years, rows.records)
 }
 
+// 1 and 7. A call of its own: compiled in place it costs each month of the rows, which are asked after it, five instructions.
+#[inline(never)]
+fn first_refusal(
+    n: usize,
+    at: Progress,
+    constants: &[i32; MANY_CONSTANTS],
+    records: &[RecordNumbers],
+) -> Result<(), Refusal>
+    requires { n ≤ length records.now }
+    ensures { answer_number result ≡ run_refusal_for n (run_of at constants.now) records.now }
+{
+    refusals::run_refusal(n, at, constants, records)
+}
+
 // 1 and 7, the rows asked too.
 fn record_refusal(
     at: Progress,
@@ -194,7 +209,7 @@ fn record_refusal(
     ensures { answer_number result ≡ record_refusal (run_of at constants.now) (read rows.now) }
 {
     let long = rows.lent_length();
-    refusals::run_refusal(long, at, constants, rows.records)?;
+    first_refusal(long, at, constants, rows.records)?;
     if !given_rows::rows_given(at.soil.capacity, at.months, rows.records) {
         return Err(Refusal::NotARun);
     }

@@ -23,16 +23,16 @@ lent s = read s.args.rows.now
 abbrev given : Start → Run
 given s = run_of s.args.at s.args.constants.now
 
-pub run_refusal-requires : goal.run_refusal-requires
-run_refusal-requires c = rw c.lent_length-long.ensures (lent-records (lent (goal.at.run_refusal-requires c).Start))
+pub first_refusal-requires : goal.first_refusal-requires
+first_refusal-requires c = rw c.lent_length-long.ensures (lent-records (lent (goal.at.first_refusal-requires c).Start))
 
 number_is : (s : Start) (long n : ℕ) → long ≡ lent_long (lent s) → n ≡ run_refusal_for long (given s) s.args.rows.now.records.now → n ≡ run_refusal (given s) (lent s)
 number_is s long n l e = (rw l at e) ∙ run_lent (lent s) (given s)
 
-pub returns-in_err-run_refusal : goal.returns-in_err-run_refusal
-returns-in_err-run_refusal c =
-    let s = (goal.at.returns-in_err-run_refusal c).Start in
-    let e = number_is s c.lent_length-long.result _ c.lent_length-long.ensures c.in_err-run_refusal.ensures in
+pub returns-in_err-first_refusal : goal.returns-in_err-first_refusal
+returns-in_err-first_refusal c =
+    let s = (goal.at.returns-in_err-first_refusal c).Start in
+    let e = number_is s c.lent_length-long.result _ c.lent_length-long.ensures c.in_err-first_refusal.ensures in
     let p = err_from_is_err_and c.from_residual.result c.from_residual.ensures.1 in
     rw (p.1, p.2) (e ∙ run-refuses (given s) (lent s) (λ z. number-ne-zero _ (e ∙ z)))
 
@@ -43,16 +43,16 @@ good s long l e = run-passes (given s) (lent s) (sym (number_is s long 0 l e))
 pub rows_given-requires : goal.rows_given-requires
 rows_given-requires c =
     let s = (goal.at.rows_given-requires c).Start in
-    let g = good s c.lent_length-long.result c.lent_length-long.ensures c.in_ok-run_refusal.ensures in
+    let g = good s c.lent_length-long.result c.lent_length-long.ensures c.in_ok-first_refusal.ensures in
     let f = run_is (given s) (lent s) g in
     (f.soil.least, f.soil.most, omega (arith, f.months, (columns_are (lent s) g.fit).records_is))
 
 pub returns-then-not-rows_given : goal.returns-then-not-rows_given
 returns-then-not-rows_given c =
     let s = (goal.at.returns-then-not-rows_given c).Start in
-    rows-refuse (given s) (lent s) (good s c.lent_length-long.result c.lent_length-long.ensures c.in_ok-run_refusal.ensures) (sym c.rows_given.ensures ∙ c.if-not-rows_given.true)
+    rows-refuse (given s) (lent s) (good s c.lent_length-long.result c.lent_length-long.ensures c.in_ok-first_refusal.ensures) (sym c.rows_given.ensures ∙ c.if-not-rows_given.true)
 
 pub returns : goal.returns
 returns c =
     let s = (goal.at.returns c).Start in
-    rows_pass (given s) (lent s) (good s c.lent_length-long.result c.lent_length-long.ensures c.in_ok-run_refusal.ensures) (sym c.rows_given.ensures ∙ c.if-not-rows_given.false)
+    rows_pass (given s) (lent s) (good s c.lent_length-long.result c.lent_length-long.ensures c.in_ok-first_refusal.ensures) (sym c.rows_given.ensures ∙ c.if-not-rows_given.false)
