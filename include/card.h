@@ -96,8 +96,8 @@
  *     card_add_season           1064
  *     card_repair                760
  *     card_row                   392
- *     card_sum_month             360
- *     card_work_out             2456
+ *     card_sum_month             488
+ *     card_work_out             2344
  *     card_whole_series          104
  *     card_write_index_line      568
  *     card_write_z_line          568
