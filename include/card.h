@@ -90,11 +90,11 @@
  *
  *     card_read                    8
  *     card_start                 360
- *     card_add_water             856
- *     card_add_inches            808
- *     card_add_z                 600
- *     card_add_season           1064
- *     card_repair                760
+ *     card_add_water             864
+ *     card_add_inches            816
+ *     card_add_z                 608
+ *     card_add_season           1072
+ *     card_repair                768
  *     card_row                   392
  *     card_sum_month             488
  *     card_work_out             2344

@@ -1,19 +1,16 @@
 -- A call that accepts a month: nothing was refused, and it did what `taken` says, with the storages, the water, the Z and the record that the
 -- station's rules give. So the run and the columns that it leaves are good again, and hold the months before with one row more. Assumes nothing.
-use mathlib.Core.Path.{◌≡◌, refl, sym, ap, ◌∙◌, subst}
-use mathlib.Core.List.{◌++◌}
+use mathlib.Core.Path.{◌≡◌, refl, sym, ap, ◌∙◌}
 use Prim.Native.Nat.{suc, ◌≤◌, ◌<◌}
 use native.Mathlib.Omega.{arith}
 use lib.IntN.{pos, nat_abs}
-use lib.ListN.{drop, set}
+use lib.ListN.{set}
 use Rattle.outline.specs.Numbers.{most_z}
 use Rattle.door.specs.Outcome.{Outcome, kinds_of}
 use Rattle.door.specs.Readings.{most_reading, reading, month}
 use Rattle.door.proofs.Bounds.{reading-most, inches-most}
 use Rattle.water.specs.Layers.{SoilFits}
 use Rattle.spells.specs.Spells.{step_of}
-use Rattle.hindsight.specs.Rule.{Row}
-use Rattle.hindsight.specs.Columns.{history_in}
 use Rattle.hindsight.specs.Months.{row_for}
 use Rattle.hindsight.specs.Adding.{add_month, settled_count}
 use Rattle.hindsight_laws.proofs.Adds.{adds_run}

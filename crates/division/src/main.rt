@@ -4,7 +4,7 @@
 // moved, and a refusal is put in words.
 #![tactic(auto)]
 
-ghost use Rattle.std.specs.Prelude.{◌≤◌, length};
+ghost use Rattle.std.specs.Prelude.{◌≤◌};
 ghost use Rattle.kept_line.specs.Kept.{most_kept};
 ghost use Rattle.division_session.specs.Session.{seen, Held};
 

@@ -5,7 +5,7 @@
 // at fault is told by `layout::fault`, whatever its element.
 #![tactic(auto)]
 
-ghost use Rattle.std.specs.Prelude.{◌≡◌, true, false, ◌≤◌, length};
+ghost use Rattle.std.specs.Prelude.{◌≡◌, ◌≤◌, length};
 ghost use Rattle.outline.specs.Refused.{answer_number, refusal_number};
 ghost use Rattle.fields.specs.Columns.{last_column};
 ghost use Rattle.layout_figures.specs.Line.{refusal, figures_said};

@@ -10,7 +10,6 @@ use native.Mathlib.Omega.{arith}
 use lib.ListN.{length, drop, get_or}
 use lib.Dec.{eqb}
 use lib.Seq.{drop-cons}
-use borrow.Author.Tests.{eq-eqb, ne_eqb}
 use Rattle.text.specs.Bytes.{minus_sign, is_digit, all_digits, negative, body}
 use Rattle.lines.specs.Line.{one_or_more, well_formed}
 use Rattle.lines.specs.Fault.{sign_length, digits_in, spoiled_at}

@@ -7,7 +7,7 @@
 
 ghost use Rattle.std.specs.Prelude.{◌≡◌, ℕ, ◌+◌, ◌*◌, ◌≤◌, List, [], ◌∷◌, length};
 ghost use Rattle.outline.specs.Numbers.{last_month};
-ghost use Rattle.text.specs.Bytes.{space, line_feed};
+ghost use Rattle.text.specs.Bytes.{space};
 ghost use Rattle.rows.specs.Text.{numeral, integer, letter, row_text, refused_text, month_text, months_text, year_text};
 ghost use Rattle.rows.specs.Room.{laid, most_row, most_year};
 

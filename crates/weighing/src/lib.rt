@@ -3,14 +3,14 @@
 // For the crate `constants`, which holds the rows, the lists and the weights in range: what has a `requires` is for it alone.
 #![tactic(auto)]
 
-ghost use Rattle.std.specs.Prelude.{◌≡◌, true, cond, not, ◌&&◌, ◌+◌, ◌*◌, ◌≤◌, pos, length, OnOk};
+ghost use Rattle.std.specs.Prelude.{◌≡◌, cond, not, ◌&&◌, ◌+◌, ◌*◌, ◌≤◌, pos, length, OnOk};
 ghost use Rattle.std.specs.Int.Signed.{le_z};
 ghost use Rattle.outline.specs.Refusals.{bad_gamma, bad_k};
 ghost use Rattle.outline.specs.Refused.{answer_number};
 ghost use Rattle.outline.specs.Numbers.{most_months, many_constants, many_of_a_month, last_month};
 ghost use Rattle.water.specs.Constants.{most_k};
 ghost use Rattle.water.specs.Bounds.{ConstantsFit};
-ghost use Rattle.weighing.specs.Weighing.{span, shares_in, departure_in, gammas_fit, weight_at, weights_fit, products, ks_fit};
+ghost use Rattle.weighing.specs.Weighing.{span, shares_in, departure_in, gammas_fit, weights_fit, products, ks_fit};
 ghost use Rattle.weighing.specs.Stores.{with_four, fours_to, means_to, ks_to, most_product, Years};
 
 mod weights;

@@ -4,12 +4,7 @@ use native.Mathlib.Omega.{arith}
 use mir.Syntax.{w32}
 use mir.Val.{SFits}
 use mir.Facts.{to_z-of_z}
-use Rattle.outline.specs.Numbers.{most_x}
-use Rattle.exact.proofs.Z.{fits-within}
 use Rattle.exact.proofs.Held.{held}
-use Rattle.ending.specs.Bounds.{most_v}
-use Rattle.spells.specs.Spells.{step_of}
-use Rattle.spell_laws.proofs.Theorems.{index-within}
 use Rattle.spells.specs.declared.SpellMonth.{SpellMonth}
 use Rattle.refusals.specs.Columns.{columns}
 use Rattle.adding.proofs.Taken.{spelled_is, opens-most, settled-most}

@@ -1,7 +1,7 @@
 -- `exact::nearest_signed` meets its contract: n moved away from zero by half of d, and divided toward zero.
 -- Assumes nothing.
 use borrow.Author.Rules.{rules}
-use mathlib.Core.Path.{◌≡◌, sym, subst}
+use mathlib.Core.Path.{◌≡◌, sym, ◌∙◌, subst}
 use mathlib.Core.Bool.{true, false}
 use Prim.Native.Nat.{ℕ, ◌≤◌, ◌<◌}
 use native.Mathlib.Omega.{arith}
@@ -17,6 +17,7 @@ use Rattle.exact.proofs.Nearest.{nearest-none}
 use Rattle.exact.proofs.Held.{quot_fits, held}
 use Rattle.exact.proofs.Moved.{Moved, moved_up, moved_down}
 use Rattle.exact.proofs.nearest_signed.Goals as goal
+use Rattle.exact.proofs.nearest_signed.Goals.{then-n-lt0, else-n-lt0}
 
 -- d is not above 0
 none : (n d : ℤ) → le_z d (pos 0) ≡ true → pos 0 ≡ nearest n (clip d)
@@ -58,46 +59,38 @@ up c h =
     above c (λ d. SFits w64 d → Moved c.args.n d (c.args.n +ℤ quot_z d (pos 2)))
     (λ b p f. moved_up c.args.n b p f c.requires (simp to_z-of_z at h)) c.ranges.d
 
-pub overflow_sub-result : goal.overflow_sub-result
-overflow_sub-result c = let h = half c.before in let m = (down c.before c.if-n-lt0.true).0 in search rules
+pub overflow_sub-m : goal.overflow_sub-m
+overflow_sub-m c = let h = half c.before in let m = (down c.before c.if-n-lt0.true).0 in search rules
 
-pub overflow_add-result : goal.overflow_add-result
-overflow_add-result c = let h = half c.before in let m = (up c.before c.if-n-lt0.false).0 in search rules
+pub overflow_add-m : goal.overflow_add-m
+overflow_add-m c = let h = half c.before in let m = (up c.before c.if-n-lt0.false).0 in search rules
 
--- the quotient fits, since what is divided does
-fit : (c : goal.Else-d-le0) (m : ℤ) → SFits w64 m → (0 < of_z w64 c.args.d) × SFits w64 (quot_z m c.args.d)
-fit c m f = above c (λ d. (0 < of_z w64 d) × SFits w64 (quot_z m d)) (λ b p. (p, quot_fits w64 m b f))
+moved : (c : goal.Joined-n-lt0) → Moved c.args.n c.args.d (to_z w64 c.if-n-lt0.m-bits)
+moved c =
+    let h = half c.before in
+    elim c.if-n-lt0.branch [
+      | then-n-lt0 w ↦ (
+          let m = down c.before w.if-n-lt0.true in
+          let f = m.0 in
+          let e : to_z w64 c.if-n-lt0.m-bits ≡ c.args.n -ℤ quot_z c.args.d (pos 2) = w.m-is ∙ (search rules) in
+          rw e m
+          )
+      | else-n-lt0 w ↦ (
+          let m = up c.before w.if-n-lt0.false in
+          let f = m.0 in
+          let e : to_z w64 c.if-n-lt0.m-bits ≡ c.args.n +ℤ quot_z c.args.d (pos 2) = w.m-is ∙ (search rules) in
+          rw e m
+          )
+    ]
+
+-- the quotient fits, since m does
+fit : (c : goal.Joined-n-lt0) → (0 < of_z w64 c.args.d) × SFits w64 (quot_z (to_z w64 c.if-n-lt0.m-bits) c.args.d)
+fit c =
+    let m = to_z w64 c.if-n-lt0.m-bits in
+    above c.before (λ d. (0 < of_z w64 d) × SFits w64 (quot_z m d)) (λ b p. (p, quot_fits w64 m b (moved c).0))
 
 pub nonzero_div-result : goal.nonzero_div-result
-nonzero_div-result c =
-    let h = half c.before in
-    let m = (down c.before c.if-n-lt0.true).0 in
-    let f = fit c.before _ m in
-    search rules
+nonzero_div-result c = let f = fit c in search rules
 
-pub nonzero_div-result-else-n-lt0 : goal.nonzero_div-result-else-n-lt0
-nonzero_div-result-else-n-lt0 c =
-    let h = half c.before in
-    let m = (up c.before c.if-n-lt0.false).0 in
-    let f = fit c.before _ m in
-    search rules
-
-pub returns-then-n-lt0 : goal.returns-then-n-lt0
-returns-then-n-lt0 c =
-    let h = half c.before in
-    let m = down c.before c.if-n-lt0.true in
-    let fm = m.0 in
-    let f = (fit c.before _ m.0).1 in
-    let fd = c.ranges.d in
-    let fn = c.ranges.n in
-    simp to_z-of_z m.1
-
-pub returns-else-n-lt0 : goal.returns-else-n-lt0
-returns-else-n-lt0 c =
-    let h = half c.before in
-    let m = up c.before c.if-n-lt0.false in
-    let fm = m.0 in
-    let f = (fit c.before _ m.0).1 in
-    let fd = c.ranges.d in
-    let fn = c.ranges.n in
-    simp to_z-of_z m.1
+pub returns : goal.returns
+returns c = let f = (fit c).1 in let fd = c.ranges.d in simp to_z-of_z (moved c).1

@@ -28,15 +28,15 @@ fit-sum x z hx hz = fits-within w64 (sum x z) most_rounded (room x z hx hz) (ome
 
 ruleset fits = (fit-x, fit-z, room, fit-sum, held)
 
-pub nearest_signed-requires : goal.nearest_signed-requires
-nearest_signed-requires c = search fits
+pub nearest_of_next-requires : goal.nearest_of_next-requires
+nearest_of_next-requires c = search fits
 
 -- what the call gives: the machine's sum is the sum
-given : (c : goal.After-nearest_signed) → c.nearest_signed.result ≡ next_of c.args.x c.args.z
+given : (c : goal.After-nearest_of_next) → c.nearest_of_next.result ≡ next_of c.args.x c.args.z
 unfolding next_of
-given c = c.nearest_signed.ensures ∙ (search fits)
+given c = c.nearest_of_next.ensures ∙ (search fits)
 
-within : (c : goal.After-nearest_signed) → nat_abs c.nearest_signed.result ≤ most_x
+within : (c : goal.After-nearest_of_next) → nat_abs c.nearest_of_next.result ≤ most_x
 within c = rw (given c) (next-within c.args.x c.args.z c.requires.x_bound c.requires.z_bound)
 
 pub overflow_cast-result : goal.overflow_cast-result

@@ -7,7 +7,7 @@ use Rattle.outline.proofs.Every.{all_none, all_more, all-spoilt}
 use Rattle.records.specs.Record.{record_at}
 use Rattle.given_rows.specs.GivenRows.{row_given}
 use Rattle.given_rows.proofs.rows_given.Goals as goal
-use Rattle.given_rows.proofs.rows_given.Goals.{Start, After-row_given, At-loop-row}
+use Rattle.given_rows.proofs.rows_given.Goals.{Start, After-row_given}
 
 abbrev test : Start → ℕ → Bool
 test s = let a = s.args in λ i. row_given a.capacity (record_at a.records.now i)

@@ -14,7 +14,7 @@ use Rattle.adding.proofs.Readiness.{ready, placed, watered}
 use Rattle.season_month.specs.Listed.{listed}
 use Rattle.drought.proofs.Readings.{first-refused, second-refused, room-refused, waters, accepted}
 use Rattle.season_month.proofs.add_listed.Goals as goal
-use Rattle.season_month.proofs.add_listed.Goals.{Start, In_ok-first, In_ok-second, In_ok-room_refusal}
+use Rattle.season_month.proofs.add_listed.Goals.{Start}
 
 abbrev lent : Start → Book
 lent c = let a = c.args in held a.lists.now

@@ -1,5 +1,5 @@
 use mathlib.Core.List.{◌++◌}
-use Prim.Native.Nat.{◌-◌, ◌≤◌}
+use Prim.Native.Nat.{◌-◌}
 use lib.ListN.{take, drop, replicate}
 use Rattle.sides.proofs.Rewriting.{Rewriting}
 use Rattle.sides.proofs.mark_all.Given as goal
