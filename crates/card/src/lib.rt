@@ -1,8 +1,9 @@
 // The card's library: every call of `drought`, of `season`, of `repair` and of `constants`, and a line of a division file written by
 // `sending` and read by `layout_figures`, for C to link. include/card.h is its manual.
 //
-// A reading comes in as a struct, and its answer goes out as one (the crate `kinds`). All else is handed on as it came, and
-// so is each promise.
+// A reading comes in as a struct, and its answer goes out as one (the crate `kinds`). A run's lists come one by one and go on
+// in one value; a refusal goes out as its number, and as 0 a year or a fault that there is none of. All else is handed on as it
+// came, and each promise is the call's, of the same definition.
 #![tactic(auto)]
 
 ghost use Rattle.std.specs.Prelude.{◌≡◌};

@@ -1,8 +1,8 @@
 // Rows of water as an add gives them: what 7 asks of the records from which constants are worked out, and such a row without its
 // signs.
 //
-// For the crates `sums`, `departures` and `constants`, which have asked for 1 and for the rest of 7: what has a `requires` is for
-// them alone.
+// For the crates `sums`, `departures`, `weighing` and `constants`, which have asked for 1 and for the rest of 7: what has a
+// `requires` is for them alone.
 #![tactic(auto)]
 
 ghost use Rattle.std.specs.Prelude.{◌≡◌, true, ◌+◌, ◌≤◌, ◌<◌, length};

@@ -2,7 +2,7 @@
 //
 // Of a line the bytes of the layout's columns are kept, and after them the first that is no space: that is enough to
 // tell what the whole line says, so a line of any length is read within fixed memory. What is kept is specs/Kept.antt.
-// Everything here is for the crate `division_input`.
+// Everything here is for the crates `division_session`, which holds what is kept, and `division_input`.
 #![tactic(auto)]
 
 ghost use Rattle.std.specs.Prelude.{◌≡◌, ◌+◌, ◌≤◌, length, take, drop, replicate};

@@ -1,8 +1,8 @@
 // A line of a division file in the nClimDiv layout, read as a year of index, Z or modified index.
 //
 // Document 02, E14: "Extend E1's reader to these elements: reading back what was written gives the hundredths and the
-// missing months." What a line says is specs/Line.antt. E1's reader, `layout::read`, stays as it is, and where a line is
-// at fault is told by `layout::fault`, whatever its element.
+// missing months." What a line says is specs/Line.antt. E14 left E1's reader, `layout::read`, as it was, and where a
+// line is at fault is told by `layout::fault`, whatever its element.
 #![tactic(auto)]
 
 ghost use Rattle.std.specs.Prelude.{◌≡◌, ◌≤◌, length};

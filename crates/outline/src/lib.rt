@@ -1,5 +1,6 @@
 // The outline's numbers, each once: what may be handed in, what the rules are made with, and the refusals.
-// specs/Numbers.antt and specs/Refusals.antt have the same numbers, each under the outline's own sentence.
+// specs/Numbers.antt and specs/Refusals.antt have the same numbers, each under the outline's own sentence; 14 to 16, 24 and 25,
+// which are of a line of a division file, stand so in the crate `fields`. specs/Refused.antt gives each refusal its number.
 #![tactic(auto)]
 
 ghost use Rattle.std.specs.Prelude.{◌≡◌};
